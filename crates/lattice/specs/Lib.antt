@@ -1,0 +1,5 @@
+pub mod Sums
+pub mod Cells
+pub mod Pattern
+pub mod Listing
+pub mod Shots

@@ -1,0 +1,88 @@
+-- The eight cells about a lattice point and what they weigh: document 01, 'Corner points'.
+-- A Bool says below (false) or above (true) the point; a pattern takes one for each axis.
+use mathlib.Core.Bool.{Bool, true, false, not, _||_}
+use mathlib.Core.List.{List, [], _∷_}
+use Prim.Native.Nat.{ℕ, zero, suc, _+_, _*_, _/_, _%_, _^_}
+use lib.Dec.{eqb}
+use lib.IntN.{ℤ, pos, negsuc, _+ℤ_, _-ℤ_, _*ℤ_}
+use Rattle.lattice.specs.Cells.{Cells, below, up, bit, OfTwo, OfFour, square, edge}
+
+abbrev pub Pattern : Type 0
+Pattern = Bool → Bool → Bool → Bool
+
+-- the pattern of the point (x, y, z)
+abbrev pub around : Cells → ℕ → ℕ → ℕ → Pattern
+around s x y z a b c = below s (up a x) (up b y) (up c z)
+
+-- the pattern as a byte: bit 4a + 2b + c is set if the cell there is covered
+abbrev pub place : Bool → Bool → Bool → ℕ
+place a b c = 4 * bit a + 2 * bit b + bit c
+
+unfoldable pub byte : Pattern → ℕ
+byte p = each λ a. each λ b. each λ c. 2 ^ place a b c * bit (p a b c)
+  where
+    each : (Bool → ℕ) → ℕ
+    each f = f false + f true
+
+unfoldable pub ofByte : ℕ → Pattern
+ofByte n a b c = eqb (n / 2 ^ place a b c % 2) 1
+
+-- + below and - above the point
+abbrev pub sign : Bool → ℤ
+sign false = pos 1
+sign true = negsuc 0
+
+abbrev pub both : (Bool → ℤ) → ℤ
+both f = f false +ℤ f true
+
+-- over covered cells, the product of three signs
+unfoldable pub w : Pattern → ℤ
+w p = both λ a. both λ b. both λ c. sign a *ℤ sign b *ℤ sign c *ℤ pos (bit (p a b c))
+
+-- over the four unit squares at the point in the plane across an axis, their count times the product of their signs on the other two
+unfoldable pub ax : Pattern → ℤ
+ax p = both λ b. both λ c. sign b *ℤ sign c *ℤ pos (square (λ a. p a b c))
+
+unfoldable pub ay : Pattern → ℤ
+ay p = both λ a. both λ c. sign a *ℤ sign c *ℤ pos (square (λ b. p a b c))
+
+unfoldable pub az : Pattern → ℤ
+az p = both λ a. both λ b. sign a *ℤ sign b *ℤ pos (square (λ c. p a b c))
+
+-- the count of the unit edge below the point on an axis, minus that of the one above
+unfoldable pub ex : Pattern → ℤ
+ex p = pos (edge (λ b c. p false b c)) -ℤ pos (edge (λ b c. p true b c))
+
+unfoldable pub ey : Pattern → ℤ
+ey p = pos (edge (λ a c. p a false c)) -ℤ pos (edge (λ a c. p a true c))
+
+unfoldable pub ez : Pattern → ℤ
+ez p = pos (edge (λ a b. p a b false)) -ℤ pos (edge (λ a b. p a b true))
+
+abbrev pub weights : Pattern → List ℤ
+weights p = w p ∷ ax p ∷ ay p ∷ az p ∷ ex p ∷ ey p ∷ ez p ∷ []
+
+-- a corner point: some weight is not zero
+abbrev pub isZero : ℤ → Bool
+isZero (pos n) = eqb n 0
+isZero (negsuc n) = false
+
+unfoldable pub someNonzero : List ℤ → Bool
+someNonzero [] = false
+someNonzero (k ∷ ks) = not (isZero k) || someNonzero ks
+
+unfoldable pub corner : Pattern → Bool
+corner p = someNonzero (weights p)
+
+-- what a point of pattern p adds to the three corner sums
+abbrev pub Term : Type 0
+Term = ℕ → ℕ → ℕ → Pattern → ℤ
+
+abbrev pub volumeTerm : Term
+volumeTerm x y z p = pos (x * y * z) *ℤ w p
+
+abbrev pub areaTerm : Term
+areaTerm x y z p = pos (y * z) *ℤ ax p +ℤ pos (x * z) *ℤ ay p +ℤ pos (x * y) *ℤ az p
+
+abbrev pub edgeTerm : Term
+edgeTerm x y z p = pos x *ℤ ex p +ℤ pos y *ℤ ey p +ℤ pos z *ℤ ez p
