@@ -1,0 +1,5 @@
+pub mod Integers
+pub mod SumLaws
+pub mod ByParts
+pub mod Inside
+pub mod PointSums
