@@ -3,3 +3,6 @@ pub mod SumLaws
 pub mod ByParts
 pub mod Inside
 pub mod PointSums
+pub mod Cases
+pub mod PatternLaws
+pub mod ShotLaws
