@@ -9,3 +9,5 @@ pub mod ShotLaws
 pub mod ListingLaws
 pub mod Order
 pub mod SameSolid
+pub mod Agreement
+pub mod KnownTotals
