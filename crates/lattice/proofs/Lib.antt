@@ -13,4 +13,5 @@ pub mod Agreement
 pub mod KnownTotals
 pub mod TableLaws
 pub mod EdgeLaws
-pub mod SumsLaws
+pub mod CornerSumLaws
+pub mod Bounds
