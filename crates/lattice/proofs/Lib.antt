@@ -10,7 +10,6 @@ pub mod ListingLaws
 pub mod Order
 pub mod SameSolid
 pub mod Agreement
-pub mod KnownTotals
 pub mod TableLaws
 pub mod EdgeLaws
 pub mod CornerSumLaws
