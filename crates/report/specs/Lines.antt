@@ -1,0 +1,43 @@
+-- What the quoting program prints: document 01, the end of 'Jobs with known totals'. Text is a list of ASCII codes.
+use mathlib.Core.Bool.{Bool, true, false, cond}
+use mathlib.Core.List.{List, [], _∷_, _++_}
+use Prim.Native.Nat.{ℕ, zero, suc, _+_, _/_, _%_}
+use lib.Dec.{ltb}
+use Rattle.lattice.specs.declared.sums.Totals.{Totals}
+
+-- a number in decimal, with at most n digits
+unfoldable pub digits : ℕ → ℕ → List ℕ
+digits zero a = []
+digits (suc n) a = cond (ltb a 10) [] (digits n (a / 10)) ++ ((48 + a % 10) ∷ [])
+
+-- a 64-bit number has at most twenty
+abbrev pub decimal : ℕ → List ℕ
+decimal a = digits 20 a
+
+-- a name, a space, a decimal value, and the end of the line
+abbrev pub line : List ℕ → ℕ → List ℕ
+line name a = name ++ (32 ∷ (decimal a ++ (10 ∷ [])))
+
+-- "volume", "area", "edge", "corners", "refused"
+abbrev pub volumeWord : List ℕ
+volumeWord = 118 ∷ 111 ∷ 108 ∷ 117 ∷ 109 ∷ 101 ∷ []
+
+abbrev pub areaWord : List ℕ
+areaWord = 97 ∷ 114 ∷ 101 ∷ 97 ∷ []
+
+abbrev pub edgeWord : List ℕ
+edgeWord = 101 ∷ 100 ∷ 103 ∷ 101 ∷ []
+
+abbrev pub cornersWord : List ℕ
+cornersWord = 99 ∷ 111 ∷ 114 ∷ 110 ∷ 101 ∷ 114 ∷ 115 ∷ []
+
+abbrev pub refusedWord : List ℕ
+refusedWord = 114 ∷ 101 ∷ 102 ∷ 117 ∷ 115 ∷ 101 ∷ 100 ∷ []
+
+-- one name and decimal value a line
+unfoldable pub quoteLines : Totals → List ℕ
+quoteLines t = line volumeWord (t .volume) ++ (line areaWord (t .area) ++ (line edgeWord (t .edge) ++ line cornersWord (t .corners)))
+
+-- `refused`, the number and the detail, split by spaces, on one line
+unfoldable pub refusalLine : ℕ → ℕ → List ℕ
+refusalLine number detail = refusedWord ++ (32 ∷ (decimal number ++ (32 ∷ (decimal detail ++ (10 ∷ [])))))
