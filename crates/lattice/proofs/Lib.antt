@@ -6,3 +6,8 @@ pub mod PointSums
 pub mod Cases
 pub mod PatternLaws
 pub mod ShotLaws
+pub mod ListingLaws
+pub mod Order
+pub mod SameSolid
+pub mod Agreement
+pub mod KnownTotals

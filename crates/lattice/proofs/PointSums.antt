@@ -34,7 +34,7 @@ points-three n f g h p q r =
     ∙ ap₂ _+ℤ_ (points-add n f g ∙ ap₂ _+ℤ_ p q) r
 
 -- the product of signs takes differences, below less above
-abbrev signed : (Bool → ℤ) → ℤ
+abbrev pub signed : (Bool → ℤ) → ℤ
 signed f = f false -ℤ f true
 
 both-ext : {f g : Bool → ℤ} → ((a : Bool) → f a ≡ g a) → both f ≡ both g
@@ -54,7 +54,7 @@ signs-two g =
     ∙ ap (λ v. sign a *ℤ v) (signs-one (g a)))
     ∙ signs-one (λ a. signed (g a))
 
-signs-three : (g : Bool → Bool → Bool → ℤ)
+pub signs-three : (g : Bool → Bool → Bool → ℤ)
     → (both λ a. both λ b. both λ c. sign a *ℤ sign b *ℤ sign c *ℤ g a b c) ≡ (signed λ a. signed λ b. signed λ c. g a b c)
 signs-three g =
     both-ext (λ a.

@@ -3,3 +3,4 @@ pub mod Cells
 pub mod Pattern
 pub mod Listing
 pub mod Shots
+pub mod KnownJobs
