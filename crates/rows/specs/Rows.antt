@@ -3,18 +3,10 @@
 use mathlib.Core.Path.{_≡_}
 use mathlib.Core.Bool.{Bool, _&&_, _||_}
 use mathlib.Core.List.{List}
-use Prim.Native.Nat.{ℕ, _+_, _*_, _<_, _≤_}
-use lib.Dec.{leb, ltb, eqb}
+use Prim.Native.Nat.{ℕ, _+_}
+use lib.Dec.{leb, ltb}
 use lib.ListN.{length, getD}
 use Rattle.lattice.specs.Shots.{Shot, any}
-
--- the list holds shot i, and the shot stays in a field of side n, at most 1,024
-pub record InList (n e : ℕ) (c : List ℕ) (i : ℕ) : Type 0 where
-  pub there : 3 * i + 2 < length c
-  pub x-in : getD c (3 * i) 0 + e ≤ n
-  pub y-in : getD c (3 * i + 1) 0 + e ≤ n
-  pub z-in : getD c (3 * i + 2) 0 + e ≤ n
-  pub field : n ≤ 1024
 
 -- the end at place z lies past the cell j
 abbrev pub past : ℕ → List ℕ → ℕ → Bool

@@ -5,7 +5,8 @@ ghost use mathlib.Core.Path.{_≡_};
 ghost use Prim.Native.Nat.{_+_, _<_, _≤_};
 ghost use lib.ListN.{length};
 ghost use Rattle.job.specs.Job.{shotAt};
-ghost use Rattle.rows.specs.Rows.{Either, Raised, RaisedBy, InList};
+ghost use Rattle.rows.specs.Runs.{InList};
+ghost use Rattle.rows.specs.Rows.{Either, Raised, RaisedBy};
 
 fn wide(x: u16) -> usize
     ensures { λ r. ⌜ r ≡ x ⌝ }
