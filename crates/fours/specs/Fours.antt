@@ -1,5 +1,6 @@
 -- The byte of the four cells at each place of a line, read from two rows of ends.
 use mathlib.Core.Path.{_≡_}
+use mathlib.Core.Logic.{_≢_}
 use mathlib.Core.Bool.{Bool, true}
 use mathlib.Core.List.{List}
 use Prim.Native.Nat.{ℕ, _+_, _*_, _<_, _≤_}
@@ -28,3 +29,10 @@ pub record Still (z end : ℕ) (l : List ℕ) : Type 0 where
 
 pub record StillIf (b : Bool) (z end : ℕ) (l : List ℕ) : Type 0 where
   pub yes : b ≡ true → Still z end l
+
+-- r is the first place from z to hi that differs from the next one, or hi + 1
+pub record FirstChange (z hi r : ℕ) (l : List ℕ) : Type 0 where
+  pub from : z ≤ r
+  pub to : r ≤ hi + 1
+  pub still : Still z r l
+  pub turns : r ≤ hi → getD l r 0 ≢ getD l (r + 1) 0

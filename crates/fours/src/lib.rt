@@ -7,7 +7,7 @@ ghost use lib.Dec.{ltb};
 ghost use lib.ListN.{length};
 ghost use mathlib.Core.Bool.{true, false};
 ghost use Rattle.lattice.specs.Cells.{bit};
-ghost use Rattle.fours.specs.Fours.{Filled, Bounded, Still, StillIf, lowOf, fourOf};
+ghost use Rattle.fours.specs.Fours.{Filled, Bounded, Still, StillIf, FirstChange, lowOf, fourOf};
 
 fn one(b: bool) -> u8
     ensures { λ r. ⌜ (r ≡ bit b) × (r ≤ 1) ⌝ }
@@ -93,7 +93,7 @@ fn skip(four: &[u8], z: usize, hi: usize) -> usize
 // The first place from z to hi where the cells change to the next place; hi + 1 where there is none.
 pub fn next_change(four: &[u8], z: usize, hi: usize) -> usize
     requires { ⌜ (z ≤ hi + 1) × (hi ≤ 1024) × (length (now four) ≡ 1026) ⌝ }
-    ensures { λ r. ⌜ (z ≤ r) × (r ≤ hi + 1) × Still z r (now (four .entry)) ⌝ }
+    ensures { λ r. ⌜ FirstChange z hi r (now (four .entry)) ⌝ }
 {
     let mut k = skip(four, z, hi);
     while k <= hi {

@@ -38,7 +38,7 @@ shared-slice-read-if1-2 c = search needs
 
 -- src/lib.rt:101:13
 returns : tie.Need-returns Inv-loop μ-loop
-returns c = c .before .before .before .before .loop .inv
+returns c = record { from = c .before .before .before .before .loop .inv .0; to = c .before .before .before .before .loop .inv .1; still = c .before .before .before .before .loop .inv .2; turns = λ h. c .if1 .taken }
 
 -- src/lib.rt:103:9
 add-k : tie.Need-add-k Inv-loop μ-loop
@@ -54,7 +54,7 @@ loop-again c = (omega arith, omega arith, still-more _ _ _ (c .before .before .b
 
 -- src/lib.rt:94:1
 returns-2 : tie.Need-returns-2 Inv-loop μ-loop
-returns-2 c = c .before .loop .inv
+returns-2 c = record { from = c .before .loop .inv .0; to = c .before .loop .inv .1; still = c .before .loop .inv .2; turns = λ h. absurd (omega arith) }
 
 pub next-change-spec : {M : Type 1} → statement M
 next-change-spec =
