@@ -11,3 +11,6 @@ pub mod Order
 pub mod SameSolid
 pub mod Agreement
 pub mod KnownTotals
+pub mod TableLaws
+pub mod EdgeLaws
+pub mod SumsLaws

@@ -4,3 +4,5 @@ pub mod Pattern
 pub mod Listing
 pub mod Shots
 pub mod KnownJobs
+pub mod UnitEdges
+pub mod CornerSums
