@@ -58,7 +58,7 @@ module _ (x y z lo hi : ℕ) (out : (z < lo) ⊎ (hi < z)) (b c : Bool) where
       go true h = ap (λ k. k && true) (holds-still e (t .x) x (λ k. no-face (h tt) (inl k)) (λ k. no-face (h tt) (inr k)))
       go false h = and-false (holds e (t .x) (suc x)) ∙ sym (and-false (holds e (t .x) x))
 
-  pub still-all : (ts : List Shot) → FramedAt x y lo hi ts → any (covered (suc x)) ts ≡ any (covered x) ts
+  still-all : (ts : List Shot) → FramedAt x y lo hi ts → any (covered (suc x)) ts ≡ any (covered x) ts
   unfolding any
   still-all [] f = refl
   still-all (t ∷ ts) f = ap₂ _||_ (still-shot t (f .0)) (still-all ts (f .1))

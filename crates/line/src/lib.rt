@@ -58,7 +58,7 @@ fn widen(w: Window, c: &[u16], e: usize, y: usize, i: usize) -> Window
 }
 
 // The window of the shots of a run that touch y.
-fn window(c: &[u16], e: usize, y: usize, run: &[u16]) -> Window
+fn window_of(c: &[u16], e: usize, y: usize, run: &[u16]) -> Window
     requires { ⌜ InRun 1024 e (now c) (now run) ⌝ }
     ensures { λ r. ⌜ Framed y (r .lo) (r .hi) (shotsIn e (now (c .entry)) (now (run .entry))) × (r .hi ≤ 1024) ⌝ }
 {
@@ -102,7 +102,7 @@ pub fn line(c: &[u16], e: usize, x: u16, y: u16, run: &[u16], faces: &[u16], hea
 {
     let i = x as usize;
     let j = y as usize;
-    let w = window(c, e, j, faces);
+    let w = window_of(c, e, j, faces);
     let lo = w.lo;
     let hi = w.hi;
     if hi < lo {

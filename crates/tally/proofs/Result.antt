@@ -14,13 +14,13 @@ use Rattle.lattice.proofs.SumsLaws.{sums-more}
 use Rattle.tally.specs.Found.{stored, Found, state, meet, found}
 
 -- ---- the sums
-found-more : (as vs : List Corner) (b : List ℕ) → found (state (sumsOf as) b) vs .sums ≡ sumsOf (as ++ vs)
+found-more : (ms vs : List Corner) (b : List ℕ) → found (state (sumsOf ms) b) vs .sums ≡ sumsOf (ms ++ vs)
 unfolding found meet
-found-more as [] b = ap sumsOf (sym (append-nil as))
-found-more as (v ∷ vs) b =
-    let b' : List ℕ = stored b (sumsOf as .corners) (recordOf v) in
-    ap (λ (t : CornerSums). found (state t b') vs .sums) (sums-more as v)
-    ∙ found-more (as ++ (v ∷ [])) vs b' ∙ ap sumsOf (append-assoc as (v ∷ []) vs)
+found-more ms [] b = ap sumsOf (sym (append-nil ms))
+found-more ms (v ∷ vs) b =
+    let b' : List ℕ = stored b (sumsOf ms .corners) (recordOf v) in
+    ap (λ (t : CornerSums). found (state t b') vs .sums) (sums-more ms v)
+    ∙ found-more (ms ++ (v ∷ [])) vs b' ∙ ap sumsOf (append-assoc ms (v ∷ []) vs)
 
 pub found-sums : (vs : List Corner) (b : List ℕ) → found (state (sumsOf []) b) vs .sums ≡ sumsOf vs
 found-sums vs b = found-more [] vs b
