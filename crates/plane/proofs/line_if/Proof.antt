@@ -1,3 +1,4 @@
+use Rattle.plane.proofs.Laws.{line-skip}
 use borrow.Author.Needs.{needs}
 use Rattle.plane.proofs.line_if.Statement.{statement}
 use Rattle.plane.proofs.line_if.Tie as tie
@@ -7,7 +8,7 @@ use Rattle.line.proofs.line.Reads as line-reads
 
 -- src/lib.rt:48:9
 returns : tie.Need-returns
-returns c = search needs
+returns c = line-skip _ _ _ _ _ (c .before .before .before .before .before .before .before .before .before .pre .0) (c .before .before .before .before .before .before .before .before .before .pre .1 .none (c .if1 .taken)) _
 
 -- src/lib.rt:50:5
 line-requires : tie.Need-line-requires

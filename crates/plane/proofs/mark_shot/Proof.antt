@@ -36,7 +36,7 @@ same-length c = search needs
 
 -- src/lib.rt:23:1
 returns : tie.Need-returns
-returns c = search needs
+returns c = rw (c .before .before .before .wide .ensures) at (c .before .before .mark .ensures)
 
 pub mark-shot-spec : {M : Type 1} → statement M
 mark-shot-spec =
