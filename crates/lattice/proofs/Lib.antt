@@ -10,7 +10,7 @@ pub mod ListingLaws
 pub mod Order
 pub mod SameSolid
 pub mod Agreement
-pub mod KnownTotals
 pub mod TableLaws
 pub mod EdgeLaws
-pub mod SumsLaws
+pub mod CornerSumLaws
+pub mod Bounds

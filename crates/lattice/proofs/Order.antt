@@ -88,7 +88,7 @@ module _ (s : Cells) where
       (λ z. all-here (λ v. ((v .x ≡ x) × (v .y ≡ y)) × (v .z ≡ z)) x y z (λ e. ((refl, refl), refl))) (λ z. rising-here x y z)))
 
   -- ---- what is listed
-  corners-are : (n : ℕ) → All (IsCorner n s) (corners n s)
+  pub corners-are : (n : ℕ) → All (IsCorner n s) (corners n s)
   unfolding corners
   corners-are n =
       all-join (IsCorner n s) (suc n) (λ x. join (suc n) λ y. join (suc n) (here s x y)) (λ x lx.

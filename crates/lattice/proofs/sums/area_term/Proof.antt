@@ -7,7 +7,7 @@ use mir.Syntax.{w8}
 use mir.Val.{toZ, ofZ}
 use Rattle.lattice.specs.Pattern.{ofByte, ax, ay, az, areaTerm}
 use Rattle.lattice.proofs.PatternLaws.{ax-small, ay-small, az-small}
-use Rattle.lattice.proofs.SumsLaws.{told8, told64, two-small, area-term-small}
+use Rattle.lattice.proofs.CornerSumLaws.{told8, told64, two-small, area-term-small}
 use borrow.Author.Needs.{needs}
 use Rattle.lattice.proofs.sums.area_term.Statement.{statement}
 use Rattle.lattice.proofs.sums.area_term.Tie as tie

@@ -7,7 +7,7 @@ use mir.Syntax.{w8}
 use mir.Val.{toZ, ofZ}
 use Rattle.lattice.specs.Pattern.{ofByte, ex, ey, ez, edgeTerm}
 use Rattle.lattice.proofs.PatternLaws.{ex-small, ey-small, ez-small}
-use Rattle.lattice.proofs.SumsLaws.{told8, told64, edge-term-small}
+use Rattle.lattice.proofs.CornerSumLaws.{told8, told64, edge-term-small}
 use borrow.Author.Needs.{needs}
 use Rattle.lattice.proofs.sums.edge_term.Statement.{statement}
 use Rattle.lattice.proofs.sums.edge_term.Tie as tie

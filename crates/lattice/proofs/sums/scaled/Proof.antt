@@ -1,6 +1,6 @@
 -- The product fits, since both numbers are small.
 use mir.Facts.{toZ-ofZ}
-use Rattle.lattice.proofs.SumsLaws.{n-is, v-fits, product-fits}
+use Rattle.lattice.proofs.CornerSumLaws.{n-is, v-fits, product-fits}
 use borrow.Author.Needs.{needs}
 use Rattle.lattice.proofs.sums.scaled.Statement.{statement}
 use Rattle.lattice.proofs.sums.scaled.Tie as tie

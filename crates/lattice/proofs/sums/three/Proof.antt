@@ -4,7 +4,7 @@ use Prim.Native.Nat.{_*_, _≤_}
 use native.Mathlib.Omega.{arith}
 use lib.IntN.{pos, natAbs, _+ℤ_, _*ℤ_}
 use mir.Facts.{toZ-ofZ}
-use Rattle.lattice.proofs.SumsLaws.{told64, scaled-small, sum-of-two, sum-of-three}
+use Rattle.lattice.proofs.CornerSumLaws.{told64, scaled-small, sum-of-two, sum-of-three}
 use Rattle.lattice.proofs.sums.three.Statement.{statement}
 use Rattle.lattice.proofs.sums.three.Tie as tie
 

@@ -7,7 +7,7 @@ use mir.Syntax.{w8}
 use mir.Val.{toZ, ofZ}
 use Rattle.lattice.specs.Pattern.{ofByte, w, volumeTerm}
 use Rattle.lattice.proofs.PatternLaws.{w-small}
-use Rattle.lattice.proofs.SumsLaws.{told8, told64, two-small, three-small, volume-term-small}
+use Rattle.lattice.proofs.CornerSumLaws.{told8, told64, two-small, three-small, volume-term-small}
 use borrow.Author.Needs.{needs}
 use Rattle.lattice.proofs.sums.volume_term.Statement.{statement}
 use Rattle.lattice.proofs.sums.volume_term.Tie as tie

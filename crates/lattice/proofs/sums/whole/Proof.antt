@@ -2,7 +2,7 @@
 use mathlib.Core.Path.{subst, sym, _∙_}
 use lib.IntN.{ℤ, pos, natAbs}
 use mir.Facts.{toZ-ofZ}
-use Rattle.lattice.proofs.SumsLaws.{whole-asked}
+use Rattle.lattice.proofs.CornerSumLaws.{whole-asked}
 use borrow.Author.Needs.{needs}
 use Rattle.lattice.proofs.sums.whole.Statement.{statement}
 use Rattle.lattice.proofs.sums.whole.Tie as tie

@@ -1,6 +1,6 @@
 -- Each sum has room for one more term of at most 2³².
 use Rattle.lattice.specs.CornerSums.{added}
-use Rattle.lattice.proofs.SumsLaws.{sum-asked, sum-told, volume-bound, area-bound, edge-bound}
+use Rattle.lattice.proofs.CornerSumLaws.{sum-asked, sum-told, volume-bound, area-bound, edge-bound}
 use Prim.Native.Nat.{_+_}
 use borrow.Author.Needs.{needs}
 use Rattle.lattice.proofs.sums.CornerSums.add.Statement.{statement}

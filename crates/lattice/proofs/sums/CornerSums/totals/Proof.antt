@@ -1,7 +1,7 @@
 -- Each sum is its magnitude.
 use mathlib.Core.Path.{refl}
 use borrow.Author.Needs.{needs}
-use Rattle.lattice.proofs.SumsLaws.{whole-told}
+use Rattle.lattice.proofs.CornerSumLaws.{whole-told}
 use Rattle.lattice.proofs.sums.CornerSums.totals.Statement.{statement}
 use Rattle.lattice.proofs.sums.CornerSums.totals.Tie as tie
 

@@ -4,13 +4,13 @@ use mathlib.Core.Bool.{Bool, true, false, _&&_}
 use mathlib.Core.List.{List, [], _∷_}
 use Prim.Native.Nat.{ℕ}
 use lib.Dec.{T, eqb, eqb→eq}
 use Rattle.lattice.specs.Sums.{total}
 use Rattle.lattice.specs.Cells.{Cells, volume, area, areaBy, edgeLength, lengthBy}
 use Rattle.lattice.specs.Pattern.{corner, someNonzero, w, ax, ay, az, ex, ey, ez}
 use Rattle.lattice.specs.Listing.{cornerCount}
 use Rattle.lattice.specs.Shots.{cells, any}
-use Rattle.lattice.specs.KnownJobs.{KnownJob, knownJobs}
+use Rattle.known_jobs.specs.KnownJobs.{KnownJob, knownJobs}
 use Rattle.lattice.proofs.Cases.{and-left, and-right}
 
 -- a job has the totals of the table
 pub record Known (j : KnownJob) : Type 0 where
