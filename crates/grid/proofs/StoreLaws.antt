@@ -1,0 +1,137 @@
+-- Lent slices: a list written at a place, one list after another, and the index put in cell by cell.
+use mathlib.Core.Path.{_≡_, refl, sym, ap, _∙_}
+use mathlib.Core.Bool.{Bool, true, false, cond}
+use mathlib.Core.List.{List, [], _∷_, _++_, append-assoc, append-nil}
+use Prim.Native.Nat.{ℕ, zero, suc, _+_, _-_, _≤_, _<_}
+use native.Mathlib.Nat.{add-zero}
+use native.Mathlib.Numerals.{add-one}
+use native.Mathlib.Omega.{arith}
+use lib.ListN.{length, take, drop, set, getD, length-append, length-drop, length-set, take-append-drop}
+use lib.Seq.{length-take-le, take-at, drop-at, drop-append-add, drop-drop, drop-cons, set-at, set-split, set-append-left, append-snoc, take-set-le, drop-set-lt}
+use Rattle.grid.specs.Numbers.{joined, keep, Wrote}
+use Rattle.grid.specs.Grid.{starts}
+use Rattle.grid.specs.Filling.{placeOf, Filled, Ready, Grew}
+use Rattle.grid.proofs.NumberLaws.{joined-next, joined-length-next, joined-length-up, singles-length, keep-next}
+
+-- ---- a list written at a place
+
+pub wrote-none : (w : List ℕ) (at : ℕ) → at ≤ length w → Wrote w w at at []
+wrote-none w at h = record { next = sym (add-zero at); room = h; is = sym (take-append-drop at w) }
+
+-- one number
+pub wrote-one : (w : List ℕ) (at a : ℕ) → at < length w → Wrote w (set w at a) at (at + 1) (a ∷ [])
+wrote-one w at a h = record { next = refl; room = omega arith; is = rw (add-one at) (set-split w at a h) }
+
+module _ {w w' : List ℕ} {at r : ℕ} {xs : List ℕ} (a : Wrote w w' at r xs) where
+  front : length (take at w ++ xs) ≡ r
+  front = omega (arith, length-append (take at w) xs, length-take-le at w (omega (arith, a .next, a .room)), a .next)
+
+  pub wrote-length : length w' ≡ length w
+  wrote-length = omega (arith, ap length (a .is), length-append (take at w) (xs ++ drop r w), length-append xs (drop r w), length-drop r w, length-take-le at w (omega (arith, a .next, a .room)), a .next, a .room)
+
+  front-is : w' ≡ (take at w ++ xs) ++ drop r w
+  front-is = a .is ∙ sym (append-assoc (take at w) xs (drop r w))
+
+  -- one list right after the other
+  pub wrote-then : {w'' : List ℕ} {r' : ℕ} {ys : List ℕ} → Wrote w' w'' r r' ys → Wrote w w'' at r' (xs ++ ys)
+  wrote-then {w''} {r'} {ys} b =
+      let t : take r w' ≡ take at w ++ xs = rw front-is (take-at (take at w ++ xs) (drop r w) r front) in
+      let u : drop r' w' ≡ drop r' w = rw (b .next, front-is) (ap (λ (k : ℕ). drop (k + length ys) ((take at w ++ xs) ++ drop r w)) (sym front) ∙ (drop-append-add (take at w ++ xs) (drop r w) (length ys) ∙ drop-drop (length ys) r w)) in
+      let f : w'' ≡ (take at w ++ xs) ++ (ys ++ drop r' w) = rw (b .is, t, u) in
+      record
+        { next = omega (arith, a .next, b .next, length-append xs ys)
+        ; room = omega (arith, b .room, wrote-length)
+        ; is = f ∙ simp append-assoc
+        }
+
+-- a list written right behind d
+pub wrote-behind : {w w' : List ℕ} {at r : ℕ} {xs : List ℕ} (d t : List ℕ) → length d ≡ at → w ≡ d ++ t → Wrote w w' at r xs → w' ≡ d ++ (xs ++ drop (length xs) t)
+wrote-behind {w} {w'} {at} {r} {xs} d t l e a =
+    let k : r ≡ length d + length xs = omega (arith, a .next) in
+    let f : take at w ≡ d = rw e (take-at d t at l) in
+    let g : drop r w ≡ drop (length xs) t = rw (k, e) (drop-append-add d t (length xs)) in
+    rw (a .is, f, g)
+
+-- ---- the index, cell by cell
+
+pub starts-length : (run : ℕ → List ℕ) (n : ℕ) → length (starts run n) ≡ n
+unfolding starts
+starts-length run n = singles-length (λ cell. length (joined cell run)) n
+
+pub starts-next : (run : ℕ → List ℕ) (n : ℕ) → starts run (n + 1) ≡ starts run n ++ length (joined n run) ∷ []
+unfolding starts
+starts-next run n = joined-next (λ cell. length (joined cell run) ∷ []) n
+
+module _ (run : ℕ → List ℕ) (N : ℕ) where
+  pub filled-none : (w : List ℕ) → N + 1 ≤ length w → Filled run N 0 w w
+  unfolding starts joined
+  filled-none w h =
+      record
+        { waiting = take (N + 1) w
+        ; left = omega (arith, length-take-le (N + 1) w h)
+        ; is = rw (add-zero (N + 1)) (sym (take-append-drop (N + 1) w))
+        }
+
+  module _ (c : ℕ) (w₀ : List ℕ) where
+    -- a starting place goes in front of those that are yet to come
+    start-in : (w y : List ℕ) (t : List ℕ) → c + length y ≡ N + 1 → c ≤ N → w ≡ (starts run c ++ y) ++ t → set w c (length (joined c run)) ≡ (starts run (c + 1) ++ drop 1 y) ++ t
+    start-in w [] t l h e = absurd (omega arith)
+    start-in w (y ∷ ys) t l h e =
+        rw (e, set-append-left (starts run c ++ y ∷ ys) t c (length (joined c run)) (omega (arith, starts-length run c, length-append (starts run c) (y ∷ ys))), set-at (starts run c) y ys (length (joined c run)) c (starts-length run c), starts-next run c, append-snoc (starts run c) (length (joined c run)) ys)
+
+    module _ {w w' : List ℕ} {r : ℕ} (h : c < N) (a : Wrote (set w c (length (joined c run))) w' (placeOf run N c) r (run c)) where
+      -- a run and its starting place
+      cell-in : Filled run N c w₀ w → Filled run N (c + 1) w₀ w'
+      cell-in f =
+          let place : N + 1 + length (joined c run ++ run c) ≡ placeOf run N c + length (run c) = omega (arith, length-append (joined c run) (run c)) in
+          record
+            { waiting = drop 1 (f .waiting)
+            ; left = omega (arith, length-drop 1 (f .waiting), f .left)
+            ; is = wrote-behind d (drop (placeOf run N c) w₀) long e a ∙ rw (joined-next run c, drop-drop (length (run c)) (placeOf run N c) w₀, place) (simp append-assoc)
+            }
+        where
+          d : List ℕ
+          d = (starts run (c + 1) ++ drop 1 (f .waiting)) ++ joined c run
+
+          long : length d ≡ placeOf run N c
+          long =
+              omega (arith, length-append (starts run (c + 1) ++ drop 1 (f .waiting)) (joined c run), length-append (starts run (c + 1)) (drop 1 (f .waiting)), starts-length run (c + 1), length-drop 1 (f .waiting), f .left)
+
+          e : set w c (length (joined c run)) ≡ d ++ drop (placeOf run N c) w₀
+          e =
+              start-in w (f .waiting) (joined c run ++ drop (placeOf run N c) w₀) (f .left) (omega arith) (f .is)
+              ∙ sym (append-assoc (starts run (c + 1) ++ drop 1 (f .waiting)) (joined c run) (drop (placeOf run N c) w₀))
+
+  pub grew-none : (c at : ℕ) (w : List ℕ) → Ready run N c at w → Grew run N c c w w at
+  grew-none c at w h = record { next = h .next; same-length = refl; fills = λ w₀ f. f }
+
+  pub grew-cell : (c at : ℕ) {w w' : List ℕ} {r : ℕ} → c < N → Ready run N c at w → Wrote (set w c (at - (N + 1))) w' at r (run c) → Grew run N c (c + 1) w w' r
+  grew-cell c at {w} {w'} {r} h p a =
+      let e : at - (N + 1) ≡ length (joined c run) = omega (arith, p .next) in
+      record
+        { next = omega (arith, a .next, p .next, joined-length-next run c)
+        ; same-length = wrote-length a ∙ length-set w c (at - (N + 1))
+        ; fills = λ w₀ f. cell-in c w₀ h (rw (e, p .next) at a) f
+        }
+
+  pub grew-then : {c c' c'' : ℕ} {w w' w'' : List ℕ} {r r' : ℕ} → Grew run N c c' w w' r → Grew run N c' c'' w' w'' r' → Grew run N c c'' w w'' r'
+  grew-then a b =
+      record { next = b .next; same-length = b .same-length ∙ a .same-length; fills = λ w₀ f. b .fills w₀ (a .fills w₀ f) }
+
+  pub ready-after : {c c' at : ℕ} {w w' : List ℕ} {r : ℕ} → Ready run N c at w → Grew run N c c' w w' r → Ready run N c' r w'
+  ready-after p a = record { next = a .next; room = omega (arith, a .same-length, p .room) }
+
+  -- there is room for the run of each cell
+  pub ready-room : (c : ℕ) {at : ℕ} {w : List ℕ} → c < N → Ready run N c at w → at + length (run c) ≤ length w
+  ready-room c h p = omega (arith, p .next, p .room, joined-length-next run c, joined-length-up run (c + 1) N (omega arith))
+
+  -- the last starting place makes the index whole
+  pub index-whole : (w₀ w : List ℕ) → Filled run N N w₀ w → set w N (length (joined N run)) ≡ (starts run (N + 1) ++ joined N run) ++ drop (placeOf run N N) w₀
+  index-whole w₀ w f =
+      start-in N w₀ w (f .waiting) (joined N run ++ drop (placeOf run N N) w₀) (f .left) (omega arith) (f .is)
+      ∙ rw (nothing (f .waiting) (f .left), append-nil (starts run (N + 1))) (sym (append-assoc (starts run (N + 1)) (joined N run) (drop (placeOf run N N) w₀)))
+    where
+      nothing : (y : List ℕ) → N + length y ≡ N + 1 → drop 1 y ≡ []
+      nothing [] e = refl
+      nothing (a ∷ []) e = refl
+      nothing (a ∷ b ∷ l) e = absurd (omega arith)
