@@ -1,2 +1,3 @@
 pub mod NumberLaws
 pub mod StoreLaws
+pub mod TouchLaws

@@ -7,7 +7,7 @@ use native.Mathlib.Nat.{add-zero, add-suc, add-assoc, le-refl, le-trans, mul-zer
 use native.Mathlib.Numerals.{add-one}
 use native.Mathlib.Omega.{arith}
 use lib.Dec.{eqb, ltb}
-use lib.ListN.{length, getD, take, drop, set, length-append, length-set, List·getD-append}
+use lib.ListN.{length, getD, take, drop, set, length-append, length-set, take-append-drop, List·getD-append}
 use lib.Seq.{take-suc, getD-at, getD-set-same, getD-set-other}
 use borrow.Author.Tests.{ltb-true, ltb-false, eqb-true, eqb-false, lt-ltb, le-ltb, eq-eqb}
 use Rattle.grid.specs.Numbers.{upTo, keep, joined, has, marked}
@@ -44,6 +44,10 @@ module _ (f : ℕ → Bool) where
       one : (b : Bool) → length (keep f l) ≤ length l → length (cond b (a ∷ keep f l) (keep f l)) ≤ suc (length l)
       one true h = omega arith
       one false h = omega arith
+
+  pub keep-front : (l : List ℕ) (j : ℕ) → length (keep f (take j l)) ≤ length (keep f l)
+  keep-front l j =
+      omega (arith, ap (λ (m : List ℕ). length (keep f m)) (take-append-drop j l), ap length (keep-append (take j l) (drop j l)), length-append (keep f (take j l)) (keep f (drop j l)))
 
   -- keeping twice
   pub keep-keep : (g : ℕ → Bool) (l : List ℕ) → keep g (keep f l) ≡ keep (λ a. f a && g a) l

@@ -7,11 +7,12 @@ use native.Mathlib.Nat.{add-zero}
 use native.Mathlib.Numerals.{add-one}
 use native.Mathlib.Omega.{arith}
 use lib.ListN.{length, take, drop, set, getD, length-append, length-drop, length-set, take-append-drop}
-use lib.Seq.{length-take-le, take-at, drop-at, drop-append-add, drop-drop, drop-cons, set-at, set-split, set-append-left, append-snoc, take-set-le, drop-set-lt}
+use lib.Seq.{length-take-le, take-at, drop-at, drop-append-add, drop-drop, drop-cons, set-at, set-split, set-append-left, append-snoc, take-length}
+use Rattle.lattice.specs.Cells.{bit}
 use Rattle.grid.specs.Numbers.{joined, keep, Wrote}
 use Rattle.grid.specs.Grid.{starts}
 use Rattle.grid.specs.Filling.{placeOf, Filled, Ready, Grew}
-use Rattle.grid.proofs.NumberLaws.{joined-next, joined-length-next, joined-length-up, singles-length, keep-next}
+use Rattle.grid.proofs.NumberLaws.{joined-next, joined-length-next, joined-length-up, singles-length, keep-next, keep-front}
 
 -- ---- a list written at a place
 
@@ -51,6 +52,39 @@ wrote-behind {w} {w'} {at} {r} {xs} d t l e a =
     let f : take at w ≡ d = rw e (take-at d t at l) in
     let g : drop r w ≡ drop (length xs) t = rw (k, e) (drop-append-add d t (length xs)) in
     rw (a .is, f, g)
+
+-- a number that is wanted or not
+module _ (b : Bool) where
+  pub put-room : {at n : ℕ} → b ≡ true → at + bit b ≤ n → at < n
+  put-room e h = omega (arith, ap bit e)
+
+  pub put-yes : (w : List ℕ) (at a : ℕ) → b ≡ true → at + bit b ≤ length w → Wrote w (set w at a) at (at + 1) (cond b (a ∷ []) [])
+  put-yes w at a e h = rw e (wrote-one w at a (put-room e h))
+
+  pub put-no : (w : List ℕ) (at a : ℕ) → b ≡ false → at + bit b ≤ length w → Wrote w w at at (cond b (a ∷ []) [])
+  put-no w at a e h = rw e (wrote-none w at (omega arith))
+
+-- ---- the numbers of a list that pass a test, written one by one
+
+module _ (f : ℕ → Bool) (l w : List ℕ) (at : ℕ) where
+  pub kept-none : at + length (keep f l) ≤ length w → Wrote w w at at (keep f (take 0 l))
+  unfolding keep
+  kept-none h = wrote-none w at (omega arith)
+
+  module _ {b : List ℕ} {o i : ℕ} (h : i < length l) (a : Wrote w b at o (keep f (take i l))) where
+    pub kept-room : at + length (keep f l) ≤ length w → {t : Bool} → t ≡ f (getD l i 0) → o + bit t ≤ length b
+    kept-room room {t} e =
+        omega (arith, ap bit e, one (f (getD l i 0)), wrote-length a, a .next, ap length (keep-next f l i h), length-append (keep f (take i l)) (cond (f (getD l i 0)) (getD l i 0 ∷ []) []), keep-front f l (i + 1))
+      where
+        one : (b : Bool) → length (cond b (getD l i 0 ∷ []) []) ≡ bit b
+        one true = refl
+        one false = refl
+
+    pub kept-turn : {b' : List ℕ} {o' : ℕ} {t : Bool} → t ≡ f (getD l i 0) → Wrote b b' o o' (cond t (getD l i 0 ∷ []) []) → Wrote w b' at o' (keep f (take (i + 1) l))
+    kept-turn e c = rw (keep-next f l i h) (wrote-then a (rw e at c))
+
+  pub kept-all : {b : List ℕ} {o : ℕ} (i : ℕ) → i ≡ length l → Wrote w b at o (keep f (take i l)) → Wrote w b at o (keep f l)
+  kept-all i e a = rw (e, take-length l) at a
 
 -- ---- the index, cell by cell
 

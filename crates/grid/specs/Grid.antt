@@ -5,7 +5,7 @@ use mathlib.Core.Bool.{Bool, _&&_}
 use mathlib.Core.List.{List, [], _∷_, _++_}
 use Prim.Native.Nat.{ℕ, _+_, _*_, _/_, _%_}
 use lib.Dec.{leb}
-use lib.ListN.{length}
+use lib.ListN.{length, getD}
 use Rattle.lattice.specs.Sums.{total}
 use Rattle.lattice.specs.Cells.{bit}
 use Rattle.lattice.specs.Shots.{Shot}
@@ -30,6 +30,10 @@ shotCount coords = length coords / 3
 -- the shots that pass a test, by their numbers, rising
 abbrev pub shotsThat : (Shot → Bool) → ℕ → List ℕ → List ℕ
 shotsThat f E coords = keep (λ i. f (shotAt E coords i)) (upTo (shotCount coords))
+
+-- shot number i meets interval g of an axis: 0 is x, 1 is y, 2 is z
+abbrev pub meetsOn : ℕ → ℕ → ℕ → ℕ → List ℕ → ℕ → Bool
+meetsOn axis s g E coords i = meets s g (getD coords (3 * i + axis) 0) E
 
 -- the run of a grid cell: the shots that belong to it
 unfoldable pub runOf : ℕ → ℕ → ℕ → List ℕ → ℕ → List ℕ
@@ -57,6 +61,10 @@ touchesSlab s gx t = meets s gx (t .x) (t .edge)
 
 unfoldable pub slabOf : ℕ → ℕ → ℕ → List ℕ → ℕ → List ℕ
 slabOf F E G coords gx = shotsThat (touchesSlab (F / G) gx) E coords
+
+-- the shots that touch row number line = gx * G + gy: those that belong to some grid cell (gx, gy, gz)
+unfoldable pub rowOf : ℕ → ℕ → ℕ → List ℕ → ℕ → List ℕ
+rowOf F E G coords line = shotsThat (λ t. meets (F / G) (line / G) (t .x) (t .edge) && meets (F / G) (line % G) (t .y) (t .edge)) E coords
 
 -- a slice that holds the index of a list, and then anything
 pub record Holds (F E G : ℕ) (coords work : List ℕ) : Type 0 where
