@@ -1,3 +1,5 @@
 pub mod NumberLaws
 pub mod StoreLaws
 pub mod TouchLaws
+pub mod CellLaws
+pub mod FillLaws

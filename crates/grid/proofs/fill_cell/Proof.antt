@@ -1,3 +1,6 @@
+use mathlib.Core.Path.{_∙_}
+use lib.ListN.{length-set}
+use Rattle.grid.proofs.StoreLaws.{wrote-length}
 use borrow.Author.Needs.{needs}
 use Rattle.grid.proofs.fill_cell.Statement.{statement}
 use Rattle.grid.proofs.fill_cell.Tie as tie
@@ -27,7 +30,7 @@ narrow-requires c κs = search needs
 
 -- src/lib.rt:69:1
 same-length : tie.Need-same-length
-same-length c = search needs
+same-length c = wrote-length (c .before .before .narrow .ensures) ∙ simp length-set
 
 -- src/lib.rt:69:1
 returns : tie.Need-returns

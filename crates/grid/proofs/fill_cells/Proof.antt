@@ -1,71 +1,75 @@
+use Rattle.grid.proofs.CellLaws.{cube-most}
+use Rattle.grid.proofs.FillLaws.{cell-number, cells-none, cell-asked, cell-turn}
+use mathlib.Core.Path.{_≡_, refl}
+use Prim.Native.Nat.{_+_, _-_, _*_, _/_, _≤_}
+use native.Mathlib.Omega.{arith}
+use Rattle.grid.specs.Grid.{runOf}
+use Rattle.grid.specs.Filling.{Grew}
 use borrow.Author.Needs.{needs}
 use Rattle.grid.proofs.fill_cells.Statement.{statement}
 use Rattle.grid.proofs.fill_cells.Tie as tie
 use Rattle.grid.proofs.fill_cells.Reads as reads
 use Rattle.grid.proofs.fill_cells.Lts as lts
+use Rattle.grid.proofs.cells_of.Reads as cells-of-reads
 use Rattle.grid.proofs.fill_cell.Reads as fill-cell-reads
 
 abbrev Inv-loop : tie.InvT-loop
-Inv-loop field edge grid coords line row work₀ at width base next₀ gz₀ work next gz = ?
+Inv-loop field edge grid coords line row work₀ at width base next₀ gz₀ work next gz = (gz ≤ grid) × Grew (runOf field edge grid coords) (grid * grid * grid) (line * grid) (line * grid + gz) work₀ work next
 
 abbrev μ-loop : tie.MeasureT-loop
-μ-loop field edge grid coords line row work₀ at width base next₀ gz₀ work next gz = ?
+μ-loop field edge grid coords line row work₀ at width base next₀ gz₀ work next gz = grid - gz
 
--- src/lib.rt:88:17
+-- src/lib.rt:96:17
 div-width : tie.Need-div-width Inv-loop μ-loop
 div-width c = search needs
 
--- src/lib.rt:89:16
-mul-base : tie.Need-mul-base Inv-loop μ-loop
-mul-base c = search needs
+-- src/lib.rt:97:16
+cells-of-requires : tie.Need-cells-of-requires Inv-loop μ-loop
+cells-of-requires c κs = search needs
 
--- src/lib.rt:89:16
-mul-base-2 : tie.Need-mul-base-2 Inv-loop μ-loop
-mul-base-2 c = search needs
-
--- src/lib.rt:89:16
+-- src/lib.rt:97:16
 add-base : tie.Need-add-base Inv-loop μ-loop
-add-base c = search needs
+add-base c = let a = c .before .before .before .before in omega (arith, cube-most (a .args .grid) (a .pre .0 .grid-most), c .cells-of .ensures)
 
--- src/lib.rt:91:5
+-- src/lib.rt:99:5
 loop-holds : tie.Need-loop-holds Inv-loop μ-loop
-loop-holds c = search needs
+loop-holds c = let a = c .before .before .before .before in (omega arith, cells-none (a .args .field) (a .args .edge) (a .args .grid) (a .args .coords .now) (a .pre .0) (a .args .line) (a .pre .1 .0) (a .pre .1 .1 .1))
 
--- src/lib.rt:92:20
+-- src/lib.rt:100:20
 mul-cell : tie.Need-mul-cell Inv-loop μ-loop
-mul-cell c = search needs
+mul-cell c = let a = c .before .before .before .before .before .before in omega (arith, cell-number (a .args .field) (a .args .edge) (a .args .grid) (a .args .coords .now) (a .pre .0) (a .args .line) (a .pre .1 .0) (c .before .loop .gz) (c .loop-test .taken))
 
--- src/lib.rt:92:46
+-- src/lib.rt:100:46
 cast-cell : tie.Need-cast-cell Inv-loop μ-loop
 cast-cell c = search needs
 
--- src/lib.rt:92:20
+-- src/lib.rt:100:20
 add-cell : tie.Need-add-cell Inv-loop μ-loop
-add-cell c = search needs
+add-cell c = let a = c .before .before .before .before .before .before in omega (arith, cell-number (a .args .field) (a .args .edge) (a .args .grid) (a .args .coords .now) (a .pre .0) (a .args .line) (a .pre .1 .0) (c .before .loop .gz) (c .loop-test .taken))
 
--- src/lib.rt:93:9
+-- src/lib.rt:101:9
 fill-cell-requires : tie.Need-fill-cell-requires Inv-loop μ-loop
-fill-cell-requires c κs = search needs
+fill-cell-requires c κs = let a = c .before .before .before .before .before .before .before in cell-asked (a .args .field) (a .args .edge) (a .args .grid) (a .args .coords .now) (a .pre .0) (a .args .line) (a .pre .1 .0) (a .pre .1 .1 .1) (a .args .row .now) (a .pre .1 .1 .0) (c .before .before .loop .gz) (c .before .loop-test .taken) (c .before .before .loop .inv .1) (c .before .before .before .cells-of .ensures)
 
--- src/lib.rt:91:9
+-- src/lib.rt:99:9
 add-gz : tie.Need-add-gz Inv-loop μ-loop
 add-gz c = search needs
 
--- src/lib.rt:91:5
+-- src/lib.rt:99:5
 loop-less : tie.Need-loop-less Inv-loop μ-loop
 loop-less c = search needs
 
--- src/lib.rt:91:5
+-- src/lib.rt:99:5
 loop-again : tie.Need-loop-again Inv-loop μ-loop
-loop-again c = search needs
+loop-again c = let a = c .before .before .before .before .before .before .before .before .before .before in (omega arith, cell-turn (a .args .field) (a .args .edge) (a .args .grid) (a .args .coords .now) (a .pre .0) (a .args .line) (a .pre .1 .0) (a .pre .1 .1 .1) (a .args .row .now) (a .pre .1 .1 .0) (c .before .before .before .before .before .loop .gz) (c .before .before .before .before .loop-test .taken) (c .before .before .before .before .before .loop .inv .1) (c .before .before .before .before .before .before .cells-of .ensures) (c .before .before .fill-cell .ensures))
 
--- src/lib.rt:81:1
+-- src/lib.rt:89:1
 same-length : tie.Need-same-length Inv-loop μ-loop
-same-length c = search needs
+same-length c = c .before .loop .inv .1 .same-length
 
--- src/lib.rt:81:1
+-- src/lib.rt:89:1
 returns : tie.Need-returns Inv-loop μ-loop
-returns c = search needs
+returns c = let e : c .before .loop .gz ≡ c .before .before .before .before .before .before .args .grid = omega arith in rw e at (c .before .loop .inv .1)
 
 pub fill-cells-spec : {M : Type 1} → statement M
 fill-cells-spec =
@@ -74,8 +78,7 @@ fill-cells-spec =
     Inv-loop
     μ-loop
     div-width
-    mul-base
-    mul-base-2
+    cells-of-requires
     add-base
     loop-holds
     mul-cell
