@@ -8,7 +8,7 @@ use native.Mathlib.Omega.{arith}
 use lib.ListN.{length, getD}
 use Rattle.job.specs.Job.{shotAt, Valid}
 use Rattle.grid.specs.Numbers.{upTo, keep, joined}
-use Rattle.grid.specs.Grid.{meets, meetsOn, touchesCell, shotCount, runOf, rowOf, slabOf}
+use Rattle.grid.specs.Grid.{meets, meetsOn, touchesCell, touchesSlab, shotCount, runOf, rowOf, slabOf}
 use Rattle.grid.specs.Filling.{placeOf, Ready}
 use Rattle.grid.proofs.NumberLaws.{upTo-length, keep-length, keep-keep, keep-agree, joined-length-most, joined-length-up}
 
@@ -59,6 +59,10 @@ module _ (F E G : ℕ) (coords : List ℕ) (v : Valid F E G coords) where
   pub run-few : (cell : ℕ) → length (runOf F E G coords cell) ≤ 4096
   unfolding runOf
   run-few cell = omega (arith, keep-length (λ i. touchesCell F G cell (shotAt E coords i)) (upTo (shotCount coords)), upTo-length (shotCount coords), v .few)
+
+  pub slab-few : (gx : ℕ) → length (slabOf F E G coords gx) ≤ 4096
+  unfolding slabOf
+  slab-few gx = omega (arith, keep-length (λ i. touchesSlab (F / G) gx (shotAt E coords i)) (upTo (shotCount coords)), upTo-length (shotCount coords), v .few)
 
   pub runs-few : (c : ℕ) → c ≤ G * G * G → length (joined c (runOf F E G coords)) ≤ 1073741824
   runs-few c h =

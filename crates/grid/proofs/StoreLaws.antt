@@ -7,12 +7,12 @@ use native.Mathlib.Nat.{add-zero}
 use native.Mathlib.Numerals.{add-one}
 use native.Mathlib.Omega.{arith}
 use lib.ListN.{length, take, drop, set, getD, length-append, length-drop, length-set, take-append-drop}
-use lib.Seq.{length-take-le, take-at, drop-at, drop-append-add, drop-drop, drop-cons, set-at, set-split, set-append-left, append-snoc, take-length}
+use lib.Seq.{length-take-le, take-at, drop-at, drop-append-add, drop-drop, drop-cons, set-at, set-split, set-append-left, append-snoc, take-length, drop-length}
 use Rattle.lattice.specs.Cells.{bit}
-use Rattle.grid.specs.Numbers.{joined, keep, Wrote}
+use Rattle.grid.specs.Numbers.{upTo, joined, keep, Wrote}
 use Rattle.grid.specs.Grid.{starts}
 use Rattle.grid.specs.Filling.{placeOf, Filled, Ready, Grew}
-use Rattle.grid.proofs.NumberLaws.{joined-next, joined-length-next, joined-length-up, singles-length, keep-next, keep-front}
+use Rattle.grid.proofs.NumberLaws.{upTo-length, joined-next, joined-length-next, joined-length-up, singles-length, keep-next, keep-front}
 
 -- ---- a list written at a place
 
@@ -53,6 +53,14 @@ wrote-behind {w} {w'} {at} {r} {xs} d t l e a =
     let g : drop r w ≡ drop (length xs) t = rw (k, e) (drop-append-add d t (length xs)) in
     rw (a .is, f, g)
 
+-- a list written at the front is the part up to the place after it
+module _ {w w' : List ℕ} {r : ℕ} {xs : List ℕ} (a : Wrote w w' 0 r xs) where
+  pub front-part : take r w' ≡ xs
+  front-part = rw (a .is) (take-at xs (drop r w) r (omega (arith, a .next)))
+
+  pub front-count : r ≡ length (take r w')
+  front-count = omega (arith, ap length front-part, a .next)
+
 -- a number that is wanted or not
 module _ (b : Bool) where
   pub put-room : {at n : ℕ} → b ≡ true → at + bit b ≤ n → at < n
@@ -85,6 +93,22 @@ module _ (f : ℕ → Bool) (l w : List ℕ) (at : ℕ) where
 
   pub kept-all : {b : List ℕ} {o : ℕ} (i : ℕ) → i ≡ length l → Wrote w b at o (keep f (take i l)) → Wrote w b at o (keep f l)
   kept-all i e a = rw (e, take-length l) at a
+
+-- ---- a slice whose places are numbered one by one
+
+module _ (w : List ℕ) where
+  pub numbered-none : w ≡ upTo 0 ++ drop 0 w
+  unfolding upTo
+  numbered-none = refl
+
+  pub numbered-turn : (i : ℕ) {b : List ℕ} → i < length w → b ≡ upTo i ++ drop i w → set b i i ≡ upTo (i + 1) ++ drop (i + 1) w
+  unfolding upTo
+  numbered-turn i h e =
+      rw (e, add-one i, drop-cons w i 0 h, set-at (upTo i) (getD w i 0) (drop (suc i) w) i i (upTo-length i))
+      (sym (append-snoc (upTo i) i (drop (suc i) w)))
+
+  pub numbered-all : (i : ℕ) {b : List ℕ} → i ≡ length w → b ≡ upTo i ++ drop i w → b ≡ upTo (length w)
+  numbered-all i h e = e ∙ rw (h, drop-length w) (append-nil (upTo (length w)))
 
 -- ---- the index, cell by cell
 
