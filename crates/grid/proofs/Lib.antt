@@ -3,3 +3,4 @@ pub mod StoreLaws
 pub mod TouchLaws
 pub mod CellLaws
 pub mod FillLaws
+pub mod IndexLaws
