@@ -12,7 +12,7 @@ use Rattle.lattice.specs.Cells.{bit}
 use Rattle.grid.specs.Numbers.{upTo, joined, keep, Wrote}
 use Rattle.grid.specs.Grid.{starts}
 use Rattle.grid.specs.Filling.{placeOf, Filled, Ready, Grew}
-use Rattle.grid.proofs.NumberLaws.{upTo-length, joined-next, joined-length-next, joined-length-up, singles-length, keep-next, keep-front}
+use Rattle.grid.proofs.NumberLaws.{upTo-length, joined-next, joined-length-next, joined-length-up, singles-length, keep-next, keep-front, keep-up, keep-length}
 
 -- ---- a list written at a place
 
@@ -93,6 +93,24 @@ module _ (f : ℕ → Bool) (l w : List ℕ) (at : ℕ) where
 
   pub kept-all : {b : List ℕ} {o : ℕ} (i : ℕ) → i ≡ length l → Wrote w b at o (keep f (take i l)) → Wrote w b at o (keep f l)
   kept-all i e a = rw (e, take-length l) at a
+
+-- ---- the numbers below n that pass a test, written to the front one by one
+
+module _ (f : ℕ → Bool) (w : List ℕ) where
+  pub picked-none : Wrote w w 0 0 (keep f (upTo 0))
+  unfolding keep upTo
+  picked-none = wrote-none w 0 (omega arith)
+
+  module _ (i : ℕ) {b : List ℕ} {o : ℕ} (a : Wrote w b 0 o (keep f (upTo i))) where
+    pub picked-room : i < length w → o + bit (f i) ≤ length b
+    picked-room h = omega (arith, bit-most (f i), a .next, keep-length f (upTo i), upTo-length i, wrote-length a)
+      where
+        bit-most : (t : Bool) → bit t ≤ 1
+        bit-most true = omega arith
+        bit-most false = omega arith
+
+    pub picked-turn : {b' : List ℕ} {o' : ℕ} → Wrote b b' o o' (cond (f i) (i ∷ []) []) → Wrote w b' 0 o' (keep f (upTo (i + 1)))
+    picked-turn c = rw (keep-up f i) (wrote-then a c)
 
 -- ---- a slice whose places are numbered one by one
 

@@ -3,9 +3,9 @@
 use mathlib.Core.Path.{_≡_}
 use mathlib.Core.Bool.{Bool, _&&_}
 use mathlib.Core.List.{List, [], _∷_, _++_}
-use Prim.Native.Nat.{ℕ, _+_, _*_, _/_, _%_}
+use Prim.Native.Nat.{ℕ, _+_, _-_, _*_, _/_, _%_, _≤_}
 use lib.Dec.{leb}
-use lib.ListN.{length, getD}
+use lib.ListN.{length, getD, take, drop}
 use Rattle.lattice.specs.Sums.{total}
 use Rattle.lattice.specs.Cells.{bit}
 use Rattle.lattice.specs.Shots.{Shot}
@@ -70,3 +70,14 @@ rowOf F E G coords line = shotsThat (λ t. meets (F / G) (line / G) (t .x) (t .e
 pub record Holds (F E G : ℕ) (coords work : List ℕ) : Type 0 where
   pub rest : List ℕ
   pub is : work ≡ indexOf F E G coords ++ rest
+
+-- the runs of the grid cells from first on and before last, as they stand in a slice that begins with the starting places of this many cells
+unfoldable pub between : List ℕ → ℕ → ℕ → ℕ → List ℕ
+between work cells first last = take (cells + 1 + getD work last 0 - (cells + 1 + getD work first 0)) (drop (cells + 1 + getD work first 0) work)
+
+-- these starting places are in the slice, in order, and so are the runs between them
+pub record Starts (work : List ℕ) (cells first last : ℕ) : Type 0 where
+  pub rising : first ≤ last
+  pub known : last ≤ cells
+  pub order : getD work first 0 ≤ getD work last 0
+  pub within : cells + 1 + getD work last 0 ≤ length work

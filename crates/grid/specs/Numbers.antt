@@ -4,7 +4,7 @@ use mathlib.Core.Bool.{Bool, cond, _||_, false}
 use mathlib.Core.List.{List, [], _∷_, _++_}
 use Prim.Native.Nat.{ℕ, zero, suc, _+_, _≤_}
 use lib.Dec.{eqb}
-use lib.ListN.{length, take, drop, set}
+use lib.ListN.{length, getD, take, drop, set}
 
 -- 0, 1, .. n - 1
 unfoldable pub upTo : ℕ → List ℕ
@@ -30,6 +30,9 @@ has (b ∷ l) a = eqb a b || has l a
 unfoldable pub marked : List ℕ → List ℕ → List ℕ
 marked row [] = row
 marked row (a ∷ l) = marked (set row a 1) l
+
+abbrev pub isMarked : List ℕ → ℕ → Bool
+isMarked row a = eqb (getD row a 0) 1
 
 -- w' is w with the list xs written from the place at on, and r is the place after it
 pub record Wrote (w w' : List ℕ) (at r : ℕ) (xs : List ℕ) : Type 0 where
