@@ -4,3 +4,6 @@ pub mod TouchLaws
 pub mod CellLaws
 pub mod FillLaws
 pub mod IndexLaws
+pub mod ReadLaws
+pub mod ShotLaws
+pub mod SlabLaws
