@@ -7,3 +7,4 @@ pub mod IndexLaws
 pub mod ReadLaws
 pub mod ShotLaws
 pub mod SlabLaws
+pub mod CoverLaws
