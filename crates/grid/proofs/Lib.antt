@@ -8,3 +8,4 @@ pub mod ReadLaws
 pub mod ShotLaws
 pub mod SlabLaws
 pub mod CoverLaws
+pub mod CoverRuns
