@@ -3,3 +3,6 @@ pub mod Cells
 pub mod Pattern
 pub mod Listing
 pub mod Shots
+pub mod KnownJobs
+pub mod UnitEdges
+pub mod CornerSums

@@ -1,8 +1,9 @@
 -- The corner points of a field, their listing, and the sums over them: document 01, 'Corner points'.
 use mathlib.Core.Path.{_≡_}
+use mathlib.Core.Logic.{_⊎_}
 use mathlib.Core.Bool.{Bool, true, false, cond}
 use mathlib.Core.List.{List, [], _∷_, _++_}
-use Prim.Native.Nat.{ℕ, zero, suc, _+_, _*_, _/_, _%_, _<_}
+use Prim.Native.Nat.{ℕ, zero, suc, _+_, _*_, _/_, _%_, _<_, _≤_}
 use lib.IntN.{ℤ, pos, _+ℤ_}
 use lib.ListN.{length, getD}
 use Rattle.lattice.specs.Sums.{total}
@@ -28,6 +29,26 @@ here s x y z = cond (corner (around s x y z)) (record { x = x; y = y; z = z; pat
 -- the corner points of a field of side n, rising by x, then y, then z
 unfoldable pub corners : ℕ → Cells → List Corner
 corners n s = join (suc n) λ x. join (suc n) λ y. join (suc n) λ z. here s x y z
+
+-- what is listed: a lattice point of the field whose pattern is that of a corner, with its pattern byte
+pub record IsCorner (n : ℕ) (s : Cells) (v : Corner) : Type 0 where
+  pub x-in : v .x ≤ n
+  pub y-in : v .y ≤ n
+  pub z-in : v .z ≤ n
+  pub weighs : corner (around s (v .x) (v .y) (v .z)) ≡ true
+  pub pattern-is : v .pattern ≡ byte (around s (v .x) (v .y) (v .z))
+
+-- rising by x, then y, then z: each corner precedes all that follow, so none stands twice
+abbrev pub Precedes : Corner → Corner → Type 0
+Precedes v u = (v .x < u .x) ⊎ ((v .x ≡ u .x) × ((v .y < u .y) ⊎ ((v .y ≡ u .y) × (v .z < u .z))))
+
+abbrev pub All : (Corner → Type 0) → List Corner → Type 0
+All P [] = Unit {0}
+All P (v ∷ vs) = P v × All P vs
+
+abbrev pub Rising : List Corner → Type 0
+Rising [] = Unit {0}
+Rising (v ∷ vs) = All (Precedes v) vs × Rising vs
 
 -- how many lattice points have a weight that is not zero
 unfoldable pub cornerCount : ℕ → Cells → ℕ

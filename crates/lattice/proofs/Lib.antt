@@ -1,0 +1,17 @@
+pub mod Integers
+pub mod SumLaws
+pub mod ByParts
+pub mod Inside
+pub mod PointSums
+pub mod Cases
+pub mod PatternLaws
+pub mod ShotLaws
+pub mod ListingLaws
+pub mod Order
+pub mod SameSolid
+pub mod Agreement
+pub mod KnownTotals
+pub mod TableLaws
+pub mod EdgeLaws
+pub mod CornerSumLaws
+pub mod Bounds

@@ -1,0 +1,107 @@
+-- The listing: what is read back from its bytes, its length, and sums over its corners.
+use mathlib.Core.Path.{_≡_, refl, sym, _∙_, ap, fun-ext}
+use mathlib.Core.Bool.{Bool, true, false, cond}
+use mathlib.Core.List.{List, [], _∷_, _++_, append-assoc}
+use Prim.Native.Nat.{ℕ, zero, suc, _+_, _*_, _/_, _%_, _≤_}
+use native.Mathlib.Nat.{zero-mul, suc-mul, mul-zero}
+use native.Mathlib.Omega.{arith}
+use lib.IntN.{ℤ, pos, natAbs, _+ℤ_, _*ℤ_, +ℤ-assoc, +ℤ-idl, +ℤ-idr, *ℤ-zero}
+use lib.ListN.{length, length-append}
+use Rattle.lattice.specs.Sums.{total, sum}
+use Rattle.lattice.specs.Cells.{Cells, bit}
+use Rattle.lattice.specs.Pattern.{Pattern, around, byte, ofByte, corner, Term, volumeTerm, areaTerm, edgeTerm}
+use Rattle.lattice.specs.Listing.{Corner, join, here, corners, cornerCount, recordOf, bytes, listing, readBack, over, termAt, cornerSum}
+use Rattle.lattice.proofs.Integers.{natAbs-add}
+use Rattle.lattice.proofs.SumLaws.{sum-ext, total-ext}
+use Rattle.lattice.proofs.PointSums.{points}
+use Rattle.lattice.proofs.PatternLaws.{ofByte-byte, no-corner-zero}
+
+-- ---- bytes
+two-bytes : (x : ℕ) → x % 256 + x / 256 * 256 ≡ x
+two-bytes x = omega arith
+
+pub readBack-bytes : (vs : List Corner) → readBack (bytes vs) ≡ vs
+unfolding bytes readBack recordOf
+readBack-bytes [] = refl
+readBack-bytes (v ∷ vs) = rw (two-bytes (v .x), two-bytes (v .y), two-bytes (v .z), readBack-bytes vs)
+
+pub bytes-append : (a b : List Corner) → bytes (a ++ b) ≡ bytes a ++ bytes b
+unfolding bytes
+bytes-append [] b = refl
+bytes-append (v ∷ a) b = ap (λ l. recordOf v ++ l) (bytes-append a b) ∙ sym (append-assoc (recordOf v) (bytes a) (bytes b))
+
+pub length-bytes : (vs : List Corner) → length (bytes vs) ≡ 7 * length vs
+unfolding bytes recordOf
+length-bytes [] = refl
+length-bytes (v ∷ vs) = omega (arith, length-bytes vs)
+
+-- ---- how many corners
+length-join : (n : ℕ) (f : ℕ → List Corner) → length (join n f) ≡ total n (λ i. length (f i))
+unfolding join total
+length-join zero f = refl
+length-join (suc n) f = length-append (join n f) (f n) ∙ ap (λ t. t + length (f n)) (length-join n f)
+
+length-here : (s : Cells) (x y z : ℕ) → length (here s x y z) ≡ bit (corner (around s x y z))
+unfolding here
+length-here s x y z = one (corner (around s x y z)) (record { x = x; y = y; z = z; pattern = byte (around s x y z) })
+  where
+    one : (b : Bool) (v : Corner) → length (cond b (v ∷ []) []) ≡ bit b
+    one true v = refl
+    one false v = refl
+
+pub length-corners : (n : ℕ) (s : Cells) → length (corners n s) ≡ cornerCount n s
+unfolding corners cornerCount
+length-corners n s =
+    length-join (suc n) (λ x. join (suc n) λ y. join (suc n) λ z. here s x y z)
+    ∙ total-ext (suc n) (λ x. length-join (suc n) (λ y. join (suc n) λ z. here s x y z)
+    ∙ total-ext (suc n) (λ y. length-join (suc n) (λ z. here s x y z)
+    ∙ total-ext (suc n) (λ z. length-here s x y z)))
+
+pub length-listing : (n : ℕ) (s : Cells) → length (listing n s) ≡ 7 * cornerCount n s
+length-listing n s = length-bytes (corners n s) ∙ ap (λ k. 7 * k) (length-corners n s)
+
+-- ---- sums over corners
+pub over-append : (g : Corner → ℤ) (a b : List Corner) → over g (a ++ b) ≡ over g a +ℤ over g b
+unfolding over
+over-append g [] b = sym (+ℤ-idl (over g b))
+over-append g (v ∷ a) b = rw (over-append g a b) (sym (+ℤ-assoc (g v) (over g a) (over g b)))
+
+over-join : (g : Corner → ℤ) (n : ℕ) (f : ℕ → List Corner) → over g (join n f) ≡ sum n (λ i. over g (f i))
+unfolding over join sum
+over-join g zero f = refl
+over-join g (suc n) f = over-append g (join n f) (f n) ∙ ap (λ t. t +ℤ over g (f n)) (over-join g n f)
+
+-- a term that adds nothing where the weights are zero
+abbrev pub Weighted : Term → Type 0
+Weighted term = (x y z : ℕ) (p : Pattern) → corner p ≡ false → term x y z p ≡ pos 0
+
+-- over corner points only, such a term sums to its sum over all points
+pub corners-points : (n : ℕ) (s : Cells) (term : Term) → Weighted term → cornerSum term (corners n s) ≡ (points n λ x y z. term x y z (around s x y z))
+unfolding corners cornerSum here over
+corners-points n s term h =
+    over-join (termAt term) (suc n) (λ x. join (suc n) λ y. join (suc n) λ z. here s x y z)
+    ∙ sum-ext (suc n) (λ x. over-join (termAt term) (suc n) (λ y. join (suc n) λ z. here s x y z)
+    ∙ sum-ext (suc n) (λ y. over-join (termAt term) (suc n) (λ z. here s x y z)
+    ∙ sum-ext (suc n) (λ z. at-point x y z (corner (around s x y z)) refl)))
+  where
+    listed : ℕ → ℕ → ℕ → Corner
+    listed x y z = record { x = x; y = y; z = z; pattern = byte (around s x y z) }
+
+    at-point : (x y z : ℕ) (b : Bool) → corner (around s x y z) ≡ b → over (termAt term) (cond b (listed x y z ∷ []) []) ≡ term x y z (around s x y z)
+    at-point x y z true e = +ℤ-idr (termAt term (listed x y z)) ∙ ap (term x y z) (ofByte-byte (around s x y z))
+    at-point x y z false e = sym (h x y z (around s x y z) e)
+
+pub volume-weighted : Weighted volumeTerm
+volume-weighted x y z p e = rw (no-corner-zero p e 0) (*ℤ-zero (pos (x * y * z)))
+
+pub area-weighted : Weighted areaTerm
+area-weighted x y z p e = simp (no-corner-zero p e 1, no-corner-zero p e 2, no-corner-zero p e 3, mul-zero)
+
+pub edge-weighted : Weighted edgeTerm
+edge-weighted x y z p e = simp (no-corner-zero p e 4, no-corner-zero p e 5, no-corner-zero p e 6, mul-zero)
+
+-- how large a sum over corners is
+pub over-bound : (m : ℕ) (g : Corner → ℤ) (vs : List Corner) → ((v : Corner) → natAbs (g v) ≤ m) → natAbs (over g vs) ≤ length vs * m
+unfolding over
+over-bound m g [] h = omega (arith, zero-mul m)
+over-bound m g (v ∷ vs) h = omega (arith, suc-mul (length vs) m, natAbs-add (g v) (over g vs), h v, over-bound m g vs h)
