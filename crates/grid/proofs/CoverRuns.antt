@@ -109,10 +109,10 @@ module _ (F E G : ℕ) (coords : List ℕ) (gx gy gz : ℕ) (hy : gy < G) (hz : 
 
 pub near-holding : (s i : ℕ) → 1 ≤ s → Near s (i / s) i
 near-holding s i h =
-    record
-      { low = omega (arith, div-mul-le-self i s)
-      ; high = omega (arith, lt-div-mul-add {a = i} {b = s} h, add-mul (i / s) 1 s, one-mul s)
-      }
+    record {
+      low = omega (arith, div-mul-le-self i s);
+      high = omega (arith, lt-div-mul-add {a = i} {b = s} h, add-mul (i / s) 1 s, one-mul s);
+    }
 
 -- ---- the eight cells about a lattice point of a closed box
 
@@ -136,4 +136,4 @@ module _ (F E G : ℕ) (coords : List ℕ) (gx gy gz : ℕ) (hy : gy < G) (hz : 
   pub run-around : (x y z : ℕ) → OnInterval (F / G) gx x → OnInterval (F / G) gy y → OnInterval (F / G) gz z → (a b c : Bool) → around (runCovers E coords (runOf F E G coords ((gx * G + gy) * G + gz))) x y z a b c ≡ around (cells (shotsOf E coords)) x y z a b c
   run-around x y z nx ny nz a b c =
       below-agree _ _ (up a x) (up b y) (up c z) λ i j k ei ej ek.
-        run-covers F E G coords gx gy gz hy hz i j k (near-point (F / G) gx x (nx .low) (nx .high) a i ei) (near-point (F / G) gy y (ny .low) (ny .high) b j ej) (near-point (F / G) gz z (nz .low) (nz .high) c k ek)
+      run-covers F E G coords gx gy gz hy hz i j k (near-point (F / G) gx x (nx .low) (nx .high) a i ei) (near-point (F / G) gy y (ny .low) (ny .high) b j ej) (near-point (F / G) gz z (nz .low) (nz .high) c k ek)

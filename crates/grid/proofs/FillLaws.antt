@@ -34,11 +34,16 @@ module _ (F E G : ℕ) (coords : List ℕ) (v : Valid F E G coords) (line : ℕ)
       run-is = rw is (run-narrow F E G coords line gz h)
 
       pub cell-asked : {cells : ℕ} → cells ≡ G * G * G → (line * G + gz < cells + 1) × (cells + 1 ≤ next × (next < 4294967296 × next + length (keep (meetsOn 2 (F / G) gz E coords) row) ≤ length w))
-      cell-asked e =
-          ( omega (arith, cell-below gz h)
-          , ( omega (arith, ready .next)
-            , ( place-fits F E G coords v (line * G + gz) next (omega (arith, cell-below gz h)) ready
-              , omega (arith, ready-room (runOf F E G coords) (G * G * G) (line * G + gz) (cell-below gz h) ready, ap length run-is))))
+      cell-asked e = (
+        omega (arith, cell-below gz h),
+        (
+          omega (arith, ready .next),
+          (
+            place-fits F E G coords v (line * G + gz) next (omega (arith, cell-below gz h)) ready,
+            omega (arith, ready-room (runOf F E G coords) (G * G * G) (line * G + gz) (cell-below gz h) ready, ap length run-is),
+          ),
+        ),
+      )
 
       pub cell-turn : {cells r : ℕ} {w' : List ℕ} → cells ≡ G * G * G → Wrote (set w (line * G + gz) (next - (cells + 1))) w' next r (keep (meetsOn 2 (F / G) gz E coords) row) → Grew (runOf F E G coords) (G * G * G) (line * G) (line * G + (gz + 1)) w₀ w' r
       cell-turn {cells} {r} {w'} e b =

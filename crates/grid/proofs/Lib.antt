@@ -9,3 +9,5 @@ pub mod ShotLaws
 pub mod SlabLaws
 pub mod CoverLaws
 pub mod CoverRuns
+pub mod TotalLaws
+pub mod NeedLaws

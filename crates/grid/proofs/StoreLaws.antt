@@ -39,11 +39,11 @@ module _ {w w' : List ℕ} {at r : ℕ} {xs : List ℕ} (a : Wrote w w' at r xs)
       let t : take r w' ≡ take at w ++ xs = rw front-is (take-at (take at w ++ xs) (drop r w) r front) in
       let u : drop r' w' ≡ drop r' w = rw (b .next, front-is) (ap (λ (k : ℕ). drop (k + length ys) ((take at w ++ xs) ++ drop r w)) (sym front) ∙ (drop-append-add (take at w ++ xs) (drop r w) (length ys) ∙ drop-drop (length ys) r w)) in
       let f : w'' ≡ (take at w ++ xs) ++ (ys ++ drop r' w) = rw (b .is, t, u) in
-      record
-        { next = omega (arith, a .next, b .next, length-append xs ys)
-        ; room = omega (arith, b .room, wrote-length)
-        ; is = f ∙ simp append-assoc
-        }
+      record {
+        next = omega (arith, a .next, b .next, length-append xs ys);
+        room = omega (arith, b .room, wrote-length);
+        is = f ∙ simp append-assoc;
+      }
 
 -- a list written right behind d
 pub wrote-behind : {w w' : List ℕ} {at r : ℕ} {xs : List ℕ} (d t : List ℕ) → length d ≡ at → w ≡ d ++ t → Wrote w w' at r xs → w' ≡ d ++ (xs ++ drop (length xs) t)
@@ -142,11 +142,11 @@ module _ (run : ℕ → List ℕ) (N : ℕ) where
   pub filled-none : (w : List ℕ) → N + 1 ≤ length w → Filled run N 0 w w
   unfolding starts joined
   filled-none w h =
-      record
-        { waiting = take (N + 1) w
-        ; left = omega (arith, length-take-le (N + 1) w h)
-        ; is = rw (add-zero (N + 1)) (sym (take-append-drop (N + 1) w))
-        }
+      record {
+        waiting = take (N + 1) w;
+        left = omega (arith, length-take-le (N + 1) w h);
+        is = rw (add-zero (N + 1)) (sym (take-append-drop (N + 1) w));
+      }
 
   module _ (c : ℕ) (w₀ : List ℕ) where
     -- a starting place goes in front of those that are yet to come
@@ -160,11 +160,11 @@ module _ (run : ℕ → List ℕ) (N : ℕ) where
       cell-in : Filled run N c w₀ w → Filled run N (c + 1) w₀ w'
       cell-in f =
           let place : N + 1 + length (joined c run ++ run c) ≡ placeOf run N c + length (run c) = omega (arith, length-append (joined c run) (run c)) in
-          record
-            { waiting = drop 1 (f .waiting)
-            ; left = omega (arith, length-drop 1 (f .waiting), f .left)
-            ; is = wrote-behind d (drop (placeOf run N c) w₀) long e a ∙ rw (joined-next run c, drop-drop (length (run c)) (placeOf run N c) w₀, place) (simp append-assoc)
-            }
+          record {
+            waiting = drop 1 (f .waiting);
+            left = omega (arith, length-drop 1 (f .waiting), f .left);
+            is = wrote-behind d (drop (placeOf run N c) w₀) long e a ∙ rw (joined-next run c, drop-drop (length (run c)) (placeOf run N c) w₀, place) (simp append-assoc);
+          }
         where
           d : List ℕ
           d = (starts run (c + 1) ++ drop 1 (f .waiting)) ++ joined c run
@@ -184,11 +184,11 @@ module _ (run : ℕ → List ℕ) (N : ℕ) where
   pub grew-cell : (c at : ℕ) {w w' : List ℕ} {r : ℕ} → c < N → Ready run N c at w → Wrote (set w c (at - (N + 1))) w' at r (run c) → Grew run N c (c + 1) w w' r
   grew-cell c at {w} {w'} {r} h p a =
       let e : at - (N + 1) ≡ length (joined c run) = omega (arith, p .next) in
-      record
-        { next = omega (arith, a .next, p .next, joined-length-next run c)
-        ; same-length = wrote-length a ∙ length-set w c (at - (N + 1))
-        ; fills = λ w₀ f. cell-in c w₀ h (rw (e, p .next) at a) f
-        }
+      record {
+        next = omega (arith, a .next, p .next, joined-length-next run c);
+        same-length = wrote-length a ∙ length-set w c (at - (N + 1));
+        fills = λ w₀ f. cell-in c w₀ h (rw (e, p .next) at a) f;
+      }
 
   pub grew-then : {c c' c'' : ℕ} {w w' w'' : List ℕ} {r r' : ℕ} → Grew run N c c' w w' r → Grew run N c' c'' w' w'' r' → Grew run N c c'' w w'' r'
   grew-then a b =

@@ -55,6 +55,14 @@ pairs F E G coords = total (G * G * G) λ cell. total (shotCount coords) λ i. b
 unfoldable pub need : ℕ → ℕ → ℕ → List ℕ → ℕ
 need F E G coords = G * G * G + 1 + pairs F E G coords
 
+-- how many of the G intervals of width s a span meets
+abbrev pub spanOf : ℕ → ℕ → ℕ → ℕ → ℕ
+spanOf G s c e = total G λ g. bit (meets s g c e)
+
+-- how many grid cells shot number i belongs to
+abbrev pub pairsOf : ℕ → ℕ → ℕ → List ℕ → ℕ → ℕ
+pairsOf F E G coords i = total (G * G * G) λ cell. bit (touchesCell F G cell (shotAt E coords i))
+
 -- the shots that touch slab gx: those that belong to some grid cell (gx, gy, gz)
 abbrev pub touchesSlab : ℕ → ℕ → Shot → Bool
 touchesSlab s gx t = meets s gx (t .x) (t .edge)
