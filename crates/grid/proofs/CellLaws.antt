@@ -1,15 +1,15 @@
 -- Grid cells by their numbers: a run is found by narrowing a slab to a row and a row to a cell, and the runs of a valid list are few.
-use mathlib.Core.Path.{_≡_, refl, sym, ap, _∙_}
+use mathlib.Core.Path.{_≡_, sym, _∙_}
 use mathlib.Core.Bool.{Bool, _&&_, and-assoc}
-use mathlib.Core.List.{List, [], _∷_}
-use Prim.Native.Nat.{ℕ, zero, suc, _+_, _-_, _*_, _/_, _%_, _≤_, _<_}
+use mathlib.Core.List.{List}
+use Prim.Native.Nat.{ℕ, _+_, _*_, _/_, _%_, _≤_, _<_}
 use native.Mathlib.Nat.{mul-le-mul, mul-le-mul-right, add-mul, one-mul, add-zero, mul-add-div-right, mul-add-mod-self-right, mod-eq-of-lt, div-eq-of-lt}
 use native.Mathlib.Omega.{arith}
 use lib.ListN.{length, getD}
 use Rattle.job.specs.Job.{shotAt, Valid}
 use Rattle.grid.specs.Numbers.{upTo, keep, joined}
 use Rattle.grid.specs.Grid.{meets, meetsOn, touchesCell, touchesSlab, shotCount, runOf, rowOf, slabOf}
-use Rattle.grid.specs.Filling.{placeOf, Ready}
+use Rattle.grid.specs.Filling.{Ready}
 use Rattle.grid.proofs.NumberLaws.{upTo-length, keep-length, keep-keep, keep-agree, joined-length-most, joined-length-up}
 
 -- ---- numbers of two digits: a * n + b with b < n

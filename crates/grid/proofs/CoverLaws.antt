@@ -1,18 +1,15 @@
 -- The cover test of a run: by halves, and against the cells that the list covers.
 use mathlib.Core.Path.{_≡_, refl, sym, ap, _∙_}
-use mathlib.Core.Bool.{Bool, true, false, cond, _&&_, _||_, or-false, or-assoc, and-assoc, and-false}
-use mathlib.Core.Option.{Option, none, some}
+use mathlib.Core.Bool.{Bool, true, false, cond, _||_}
+use mathlib.Core.Option.{none, some}
 use mathlib.Core.List.{List, [], _∷_, _++_}
-use Prim.Native.Nat.{ℕ, zero, suc, _+_, _-_, _*_, _/_, _%_, _≤_, _<_}
+use Prim.Native.Nat.{ℕ, _+_, _-_, _*_, _/_, _≤_, _<_}
 use native.Mathlib.Omega.{arith}
-use lib.Dec.{leb, ltb}
+use lib.Dec.{ltb}
 use lib.ListN.{length, getD, take, drop, take-append-drop, length-drop}
 use lib.Seq.{take-all, length-take-le}
 use borrow.Author.Tests.{le-ltb, lt-ltb, le-leb, lt-leb}
-use Rattle.lattice.specs.Shots.{Shot, spans, covers, any, cells}
-use Rattle.job.specs.Job.{shotsOf, shotAt}
-use Rattle.grid.specs.Numbers.{upTo, keep}
-use Rattle.grid.specs.Grid.{meets, touches, shotCount, runOf}
+use Rattle.lattice.specs.Shots.{spans, covers, cells}
 use Rattle.grid.specs.Cover.{shotCovers, first, found, firstCovering, runCovers}
 
 -- ---- one shot

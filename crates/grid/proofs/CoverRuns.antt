@@ -1,24 +1,23 @@
 -- The run of a grid cell covers what the list covers: the unit cells in it, and the eight cells about each lattice point of its closed box.
 use mathlib.Core.Path.{_≡_, refl, sym, ap, _∙_}
 use mathlib.Core.Bool.{Bool, true, false, cond, _&&_, _||_, or-false, or-assoc, and-false, false≢true}
-use mathlib.Core.Option.{Option, none, some}
-use mathlib.Core.List.{List, [], _∷_, _++_}
-use Prim.Native.Nat.{ℕ, zero, suc, _+_, _-_, _*_, _/_, _%_, _≤_, _<_}
+use mathlib.Core.Option.{none, some}
+use mathlib.Core.List.{List, [], _∷_}
+use Prim.Native.Nat.{ℕ, zero, suc, _+_, _*_, _/_, _≤_, _<_}
 use native.Mathlib.Nat.{div-mul-le-self, lt-div-mul-add, add-mul, one-mul}
 use native.Mathlib.Omega.{arith}
 use lib.Dec.{leb, ltb}
-use lib.ListN.{length, getD}
 use borrow.Author.Tests.{le-leb, lt-ltb, leb-true, ltb-true}
 use Rattle.lattice.specs.Cells.{Cells, below, up}
 use Rattle.lattice.specs.Pattern.{around}
 use Rattle.lattice.specs.Shots.{Shot, spans, covers, any, cells}
-use Rattle.job.specs.Job.{shotsOf, shotAt, Valid}
+use Rattle.job.specs.Job.{shotsOf, shotAt}
 use Rattle.grid.specs.Numbers.{upTo, keep}
 use Rattle.grid.specs.Grid.{meets, touches, touchesCell, shotCount, runOf}
 use Rattle.grid.specs.Cover.{shotCovers, first, found, firstCovering, runCovers}
 use Rattle.grid.proofs.NumberLaws.{keep-append}
 use Rattle.grid.proofs.CellLaws.{digit-high, digit-low}
-use Rattle.grid.proofs.ShotLaws.{shot-next, width-least}
+use Rattle.grid.proofs.ShotLaws.{shot-next}
 use Rattle.grid.proofs.CoverLaws.{found-append}
 
 -- ---- some number below n passes a test

@@ -1,12 +1,12 @@
 -- The index of a list: what it needs, that a filled slice holds it, and the runs read from it.
 use mathlib.Core.Path.{_≡_, refl, sym, ap, _∙_, fun-ext}
 use mathlib.Core.Bool.{Bool, true, false, cond}
-use mathlib.Core.List.{List, [], _∷_, _++_, append-assoc, append-nil}
-use Prim.Native.Nat.{ℕ, zero, suc, _+_, _-_, _*_, _/_, _%_, _≤_, _<_}
+use mathlib.Core.List.{List, [], _∷_, _++_}
+use Prim.Native.Nat.{ℕ, zero, suc, _+_, _-_, _*_, _≤_}
 use native.Mathlib.Nat.{add-zero, add-suc, le-refl}
 use native.Mathlib.Omega.{arith}
-use lib.ListN.{length, getD, take, drop, set, length-append}
-use lib.Seq.{length-take-le, take-at, take-all, take-append-le}
+use lib.ListN.{length, take, drop, set, length-append}
+use lib.Seq.{take-all, take-append-le}
 use mir.Val.{Fits}
 use mir.Syntax.{w32}
 use Rattle.lattice.specs.Sums.{total}
@@ -14,8 +14,8 @@ use Rattle.lattice.specs.Cells.{bit}
 use Rattle.job.specs.Job.{shotAt, Valid}
 use Rattle.grid.specs.Numbers.{upTo, keep, joined}
 use Rattle.grid.specs.Grid.{touchesCell, shotCount, runOf, starts, indexOf, pairs, need}
-use Rattle.grid.specs.Filling.{placeOf, Filled, Ready, Grew}
-use Rattle.grid.proofs.NumberLaws.{upTo-length, keep-append, joined-add, joined-length-next}
+use Rattle.grid.specs.Filling.{placeOf, Ready, Grew}
+use Rattle.grid.proofs.NumberLaws.{upTo-length, keep-append}
 use Rattle.grid.proofs.CellLaws.{runs-few}
 use Rattle.grid.proofs.StoreLaws.{starts-length, filled-none, index-whole}
 

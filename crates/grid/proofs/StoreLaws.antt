@@ -2,12 +2,12 @@
 use mathlib.Core.Path.{_≡_, refl, sym, ap, _∙_}
 use mathlib.Core.Bool.{Bool, true, false, cond}
 use mathlib.Core.List.{List, [], _∷_, _++_, append-assoc, append-nil}
-use Prim.Native.Nat.{ℕ, zero, suc, _+_, _-_, _≤_, _<_}
+use Prim.Native.Nat.{ℕ, suc, _+_, _-_, _≤_, _<_}
 use native.Mathlib.Nat.{add-zero}
 use native.Mathlib.Numerals.{add-one}
 use native.Mathlib.Omega.{arith}
 use lib.ListN.{length, take, drop, set, getD, length-append, length-drop, length-set, take-append-drop}
-use lib.Seq.{length-take-le, take-at, drop-at, drop-append-add, drop-drop, drop-cons, set-at, set-split, set-append-left, append-snoc, take-length, drop-length}
+use lib.Seq.{length-take-le, take-at, drop-append-add, drop-drop, drop-cons, set-at, set-split, set-append-left, append-snoc, take-length, drop-length}
 use Rattle.lattice.specs.Cells.{bit}
 use Rattle.grid.specs.Numbers.{upTo, joined, keep, Wrote}
 use Rattle.grid.specs.Grid.{starts}

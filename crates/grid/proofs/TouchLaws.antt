@@ -1,14 +1,14 @@
 -- When an interval of an axis meets a span, and how many intervals do.
-use mathlib.Core.Path.{_≡_, refl, sym, ap, _∙_}
-use mathlib.Core.Bool.{Bool, true, false, _&&_}
-use mathlib.Core.List.{List, [], _∷_}
-use Prim.Native.Nat.{ℕ, zero, suc, _+_, _-_, _*_, _/_, _^_, _≤_, _<_}
-use native.Mathlib.Nat.{mul-le-mul, add-zero}
+use mathlib.Core.Path.{_≡_, sym}
+use mathlib.Core.Bool.{false}
+use mathlib.Core.List.{List}
+use Prim.Native.Nat.{ℕ, _+_, _*_, _^_, _≤_, _<_}
+use native.Mathlib.Nat.{mul-le-mul}
 use native.Mathlib.Omega.{arith}
 use lib.Dec.{leb}
 use lib.ListN.{length, getD, List·getD-eq-default}
 use mir.Val.{Fits}
-use mir.Syntax.{w16, w32}
+use mir.Syntax.{w32}
 use borrow.Author.Tests.{le-leb, lt-leb}
 use Rattle.grid.specs.Grid.{meets}
 
