@@ -39,25 +39,45 @@ both f = f false +ℤ f true
 unfoldable pub w : Pattern → ℤ
 w p = both λ a. both λ b. both λ c. sign a *ℤ sign b *ℤ sign c *ℤ pos (bit (p a b c))
 
--- over the four unit squares at the point in the plane across an axis, their count times the product of their signs on the other two
+-- over the four unit squares at the point in the plane across an axis, what they count times the product of their signs on the other two
+module _ (count : OfTwo) (p : Pattern) where
+  abbrev pub across-x : ℤ
+  across-x = both λ b. both λ c. sign b *ℤ sign c *ℤ pos (count (λ a. p a b c))
+
+  abbrev pub across-y : ℤ
+  across-y = both λ a. both λ c. sign a *ℤ sign c *ℤ pos (count (λ b. p a b c))
+
+  abbrev pub across-z : ℤ
+  across-z = both λ a. both λ b. sign a *ℤ sign b *ℤ pos (count (λ c. p a b c))
+
 unfoldable pub ax : Pattern → ℤ
-ax p = both λ b. both λ c. sign b *ℤ sign c *ℤ pos (square (λ a. p a b c))
+ax = across-x square
 
 unfoldable pub ay : Pattern → ℤ
-ay p = both λ a. both λ c. sign a *ℤ sign c *ℤ pos (square (λ b. p a b c))
+ay = across-y square
 
 unfoldable pub az : Pattern → ℤ
-az p = both λ a. both λ b. sign a *ℤ sign b *ℤ pos (square (λ c. p a b c))
+az = across-z square
 
 -- the count of the unit edge below the point on an axis, minus that of the one above
+module _ (count : OfFour) (p : Pattern) where
+  abbrev pub along-x : ℤ
+  along-x = pos (count (λ b c. p false b c)) -ℤ pos (count (λ b c. p true b c))
+
+  abbrev pub along-y : ℤ
+  along-y = pos (count (λ a c. p a false c)) -ℤ pos (count (λ a c. p a true c))
+
+  abbrev pub along-z : ℤ
+  along-z = pos (count (λ a b. p a b false)) -ℤ pos (count (λ a b. p a b true))
+
 unfoldable pub ex : Pattern → ℤ
-ex p = pos (edge (λ b c. p false b c)) -ℤ pos (edge (λ b c. p true b c))
+ex = along-x edge
 
 unfoldable pub ey : Pattern → ℤ
-ey p = pos (edge (λ a c. p a false c)) -ℤ pos (edge (λ a c. p a true c))
+ey = along-y edge
 
 unfoldable pub ez : Pattern → ℤ
-ez p = pos (edge (λ a b. p a b false)) -ℤ pos (edge (λ a b. p a b true))
+ez = along-z edge
 
 abbrev pub weights : Pattern → List ℤ
 weights p = w p ∷ ax p ∷ ay p ∷ az p ∷ ex p ∷ ey p ∷ ez p ∷ []

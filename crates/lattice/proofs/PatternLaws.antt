@@ -1,0 +1,130 @@
+-- Patterns and their bytes, the range of the weights, and which patterns are corners: those that change across every axis.
+use mathlib.Core.Path.{_≡_, refl, sym, _∙_, ap, subst, fun-ext}
+use mathlib.Core.Bool.{Bool, true, false, _&&_, _||_, not, and-false}
+use mathlib.Core.List.{List, [], _∷_}
+use Prim.Native.Nat.{ℕ, zero, suc, _+_, _*_, _/_, _%_, _^_, _<_, _≤_}
+use native.Mathlib.Omega.{arith}
+use lib.Dec.{T, eqb, eqb→eq, ltb, ltb→lt, leb, leb→le}
+use lib.IntN.{ℤ, pos, negsuc, natAbs}
+use lib.ListN.{getD}
+use Rattle.lattice.specs.Pattern.{Pattern, byte, ofByte, w, ax, ay, az, ex, ey, ez, weights, isZero, someNonzero, corner}
+use Rattle.lattice.proofs.Cases.{same, same-at, each, each-at, eachPattern-at, eachBelow-at, and-left, and-right}
+use Rattle.lattice.proofs.Inside.{refute}
+
+-- ---- the pattern byte
+pub ofByte-byte : (p : Pattern) → ofByte (byte p) ≡ p
+unfolding byte ofByte
+ofByte-byte p = fun-ext λ a. fun-ext λ b. fun-ext λ c.
+    same-at (ofByte (byte p) a b c) (p a b c)
+    (each-at (λ c. same (ofByte (byte p) a b c) (p a b c))
+    (each-at (λ b. each λ c. same (ofByte (byte p) a b c) (p a b c))
+    (each-at (λ a. each λ b. each λ c. same (ofByte (byte p) a b c) (p a b c))
+    (eachPattern-at (λ p. each λ a. each λ b. each λ c. same (ofByte (byte p) a b c) (p a b c)) tt p) a) b) c)
+
+pub byte-small : (p : Pattern) → byte p < 256
+unfolding byte
+byte-small p = ltb→lt (byte p) 256 (eachPattern-at (λ p. ltb (byte p) 256) tt p)
+
+pub byte-ofByte : (n : ℕ) → n < 256 → byte (ofByte n) ≡ n
+unfolding byte ofByte
+byte-ofByte n h = eqb→eq (byte (ofByte n)) n (eachBelow-at (λ n. eqb (byte (ofByte n)) n) 256 tt n h)
+
+-- ---- the range of the weights
+-- w is within -4 and 4, the others within -2 and 2
+abbrev pub Small : ℕ → (Pattern → ℤ) → Type 0
+Small m f = (p : Pattern) → natAbs (f p) ≤ m
+
+small-by : (m : ℕ) (f : Pattern → ℤ) → ((p : Pattern) → T (leb (natAbs (f p)) m)) → Small m f
+small-by m f h p = leb→le (natAbs (f p)) m (h p)
+
+pub w-small : Small 4 w
+unfolding w
+w-small = small-by 4 w (eachPattern-at (λ p. leb (natAbs (w p)) 4) tt)
+
+pub ax-small : Small 2 ax
+unfolding ax
+ax-small = small-by 2 ax (eachPattern-at (λ p. leb (natAbs (ax p)) 2) tt)
+
+pub ay-small : Small 2 ay
+unfolding ay
+ay-small = small-by 2 ay (eachPattern-at (λ p. leb (natAbs (ay p)) 2) tt)
+
+pub az-small : Small 2 az
+unfolding az
+az-small = small-by 2 az (eachPattern-at (λ p. leb (natAbs (az p)) 2) tt)
+
+pub ex-small : Small 2 ex
+unfolding ex
+ex-small = small-by 2 ex (eachPattern-at (λ p. leb (natAbs (ex p)) 2) tt)
+
+pub ey-small : Small 2 ey
+unfolding ey
+ey-small = small-by 2 ey (eachPattern-at (λ p. leb (natAbs (ey p)) 2) tt)
+
+pub ez-small : Small 2 ez
+unfolding ez
+ez-small = small-by 2 ez (eachPattern-at (λ p. leb (natAbs (ez p)) 2) tt)
+
+-- ---- a point that is no corner weighs nothing
+zero-at : (k : ℤ) (b : Bool) → (not (isZero k) || b) ≡ false → k ≡ pos 0
+zero-at (pos n) b e = ap pos (eqb→eq n 0 (go (eqb n 0) e))
+  where
+    go : (t : Bool) → (not t || b) ≡ false → T t
+    go true e = tt
+    go false e = subst T e tt
+zero-at (negsuc n) b e = absurd (subst T e tt)
+
+rest-at : (t b : Bool) → (not t || b) ≡ false → b ≡ false
+rest-at true b e = e
+rest-at false b e = absurd (subst T e tt)
+
+none-nonzero : (ks : List ℤ) → someNonzero ks ≡ false → (i : ℕ) → getD ks i (pos 0) ≡ pos 0
+unfolding someNonzero
+none-nonzero [] e i = refl
+none-nonzero (k ∷ ks) e zero = zero-at k (someNonzero ks) e
+none-nonzero (k ∷ ks) e (suc i) = none-nonzero ks (rest-at (isZero k) (someNonzero ks) e) i
+
+pub no-corner-zero : (p : Pattern) → corner p ≡ false → (i : ℕ) → getD (weights p) i (pos 0) ≡ pos 0
+unfolding corner
+no-corner-zero p = none-nonzero (weights p)
+
+-- ---- the corners are the patterns that change across every axis
+pub data Axis : Type 0 where
+  x-axis y-axis z-axis : Axis
+
+-- the pattern with the axis first
+abbrev pub turned : Axis → Pattern → Pattern
+turned x-axis p a b c = p a b c
+turned y-axis p a b c = p b a c
+turned z-axis p a b c = p b c a
+
+abbrev pub changes : Axis → Pattern → Bool
+changes axis p = not (each λ b. each λ c. same (turned axis p false b c) (turned axis p true b c))
+
+pub corner-changes : (p : Pattern) → corner p ≡ (changes x-axis p && (changes y-axis p && changes z-axis p))
+unfolding corner someNonzero w ax ay az ex ey ez
+corner-changes p =
+    same-at (corner p) (changes x-axis p && (changes y-axis p && changes z-axis p))
+    (eachPattern-at (λ p. same (corner p) (changes x-axis p && (changes y-axis p && changes z-axis p))) tt p)
+
+-- a pattern that does not change across one axis is no corner
+abbrev pub Still : Axis → Pattern → Type 0
+Still axis p = (b c : Bool) → turned axis p true b c ≡ turned axis p false b c
+
+same-refl : {a b : Bool} → b ≡ a → same a b ≡ true
+same-refl {a} e = ap (same a) e ∙ go a
+  where
+    go : (a : Bool) → same a a ≡ true
+    go true = refl
+    go false = refl
+
+still-changes : (axis : Axis) (p : Pattern) → Still axis p → changes axis p ≡ false
+still-changes axis p h = rw (same-refl (h false false), same-refl (h false true), same-refl (h true false), same-refl (h true true))
+
+pub still-no-corner : (axis : Axis) (p : Pattern) → Still axis p → corner p ≡ false
+still-no-corner x-axis p h = corner-changes p ∙ ap (λ b. b && (changes y-axis p && changes z-axis p)) (still-changes x-axis p h)
+still-no-corner y-axis p h =
+    corner-changes p ∙ ap (λ b. changes x-axis p && (b && changes z-axis p)) (still-changes y-axis p h) ∙ and-false (changes x-axis p)
+still-no-corner z-axis p h =
+    corner-changes p ∙ ap (λ b. changes x-axis p && (changes y-axis p && b)) (still-changes z-axis p h)
+    ∙ ap (λ b. changes x-axis p && b) (and-false (changes y-axis p)) ∙ and-false (changes x-axis p)
