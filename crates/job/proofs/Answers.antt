@@ -1,14 +1,12 @@
 -- What the checks answer, one refusal after the other. Assumes nothing.
-use mathlib.Core.Path.{_≡_, refl, sym, _∙_}
-use mathlib.Core.Bool.{Bool, true, false, not, cond, _||_}
+use mathlib.Core.Path.{_≡_}
+use mathlib.Core.Bool.{true, false}
 use mathlib.Core.List.{List}
-use Prim.Native.Nat.{ℕ, _+_, _*_, _/_, _%_, _≤_, _<_}
-use native.Mathlib.Omega.{arith}
-use lib.Dec.{ltb, eqb}
+use Prim.Native.Nat.{ℕ, _/_, _%_, _≤_, _<_}
+use lib.Dec.{ltb}
 use lib.ListN.{length}
 use borrow.Author.Tests.{lt-ltb, le-ltb, eq-eqb, ne-eqb}
 use Rattle.lattice.specs.Shots.{any}
-use Rattle.job.specs.declared.Checked.{Checked}
 use Rattle.job.specs.declared.Checked.the-variants.{Accepted, Refused}
 use Rattle.job.specs.declared.Refusal.the-variants.{BrokenShot, TooManyShots, FieldRange, EdgeRange, GridRange, OutsideField}
 use Rattle.job.specs.Job.{shotsOf}

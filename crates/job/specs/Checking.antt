@@ -1,5 +1,5 @@
 -- The checks that every call on a list shares, in their order: refusals 1, 2, 6, 7, 8, 9 of document 01, 'When a job is refused'.
-use mathlib.Core.Bool.{Bool, true, false, not, cond, _||_}
+use mathlib.Core.Bool.{Bool, not, cond, _||_}
 use mathlib.Core.List.{List, [], _∷_}
 use Prim.Native.Nat.{ℕ, suc, _+_, _/_, _%_}
 use lib.Dec.{eqb, ltb}
