@@ -1,0 +1,5 @@
+pub mod Tests
+pub mod Shots
+pub mod Answers
+pub mod Outcome
+pub mod Conditions

@@ -1,0 +1,182 @@
+-- The shots of a coordinate list, one by one: how many, which, and whether they stay in the field. Assumes nothing.
+use mathlib.Core.Path.{_≡_, refl, sym, ap, _∙_}
+use mathlib.Core.Bool.{Bool, true, false, cond, _||_, true≢false}
+use mathlib.Core.List.{List, [], _∷_}
+use Prim.Native.Nat.{ℕ, zero, suc, _+_, _*_, _/_, _≤_, _<_}
+use native.Mathlib.Omega.{arith}
+use lib.Dec.{T, ltb, leb·suc-suc}
+use lib.ListN.{length, getD, drop, length-drop}
+use lib.Seq.{drop-cons}
+use borrow.Author.Tests.{lt-ltb, le-ltb, ltb-false}
+use Rattle.lattice.specs.Shots.{Shot, any, InField, AllInField}
+use Rattle.job.specs.Job.{shotsOf, shotAt}
+use Rattle.job.specs.Checking.{past, leaves, firstLeaving}
+use Rattle.job.proofs.Tests.{or-false, or-left, or-right}
+use Rattle.lattice.proofs.ShotLaws.{or-elim}
+
+module _ (e : ℕ) where
+  -- three numbers a shot
+  pub shots-count : (coords : List ℕ) → length (shotsOf e coords) ≡ length coords / 3
+  unfolding shotsOf
+  shots-count [] = refl
+  shots-count (x ∷ []) = refl
+  shots-count (x ∷ y ∷ []) = refl
+  shots-count (x ∷ y ∷ z ∷ rest) = omega (arith, shots-count rest)
+
+  shots-short : (coords : List ℕ) → length coords < 3 → shotsOf e coords ≡ []
+  unfolding shotsOf
+  shots-short [] h = refl
+  shots-short (x ∷ []) h = refl
+  shots-short (x ∷ y ∷ []) h = refl
+  shots-short (x ∷ y ∷ z ∷ rest) h = absurd (omega arith)
+
+  shot-later : (x y z : ℕ) (rest : List ℕ) (i : ℕ) → shotAt e (x ∷ y ∷ z ∷ rest) (suc i) ≡ shotAt e rest i
+  shot-later x y z rest i =
+      let px : 3 * suc i ≡ suc (suc (suc (3 * i))) = omega arith in
+      let py : 3 * suc i + 1 ≡ suc (suc (suc (3 * i + 1))) = omega arith in
+      let pz : 3 * suc i + 2 ≡ suc (suc (suc (3 * i + 2))) = omega arith in
+      rw (pz, py, px)
+
+  -- the shots by their numbers
+  pub shots-at : (coords : List ℕ) (i : ℕ) (t : Shot) → i < length coords / 3 → getD (shotsOf e coords) i t ≡ shotAt e coords i
+  unfolding shotsOf
+  shots-at [] i t h = absurd (omega arith)
+  shots-at (x ∷ []) i t h = absurd (omega arith)
+  shots-at (x ∷ y ∷ []) i t h = absurd (omega arith)
+  shots-at (x ∷ y ∷ z ∷ rest) zero t h = refl
+  shots-at (x ∷ y ∷ z ∷ rest) (suc i) t h = shots-at rest i t (omega arith) ∙ sym (shot-later x y z rest i)
+
+  module _ (coords : List ℕ) (i : ℕ) where
+    -- from shot i on: shot i, and then from the next one on
+    pub shots-from : i < length coords / 3 → shotsOf e (drop (3 * i) coords) ≡ shotAt e coords i ∷ shotsOf e (drop (3 * (i + 1)) coords)
+    unfolding shotsOf
+    shots-from h =
+        let hx : 3 * i < length coords = omega arith in
+        let hy : 3 * i + 1 < length coords = omega arith in
+        let hz : 3 * i + 2 < length coords = omega arith in
+        let ny : suc (3 * i) ≡ 3 * i + 1 = omega arith in
+        let nz : suc (3 * i + 1) ≡ 3 * i + 2 = omega arith in
+        let ne : suc (3 * i + 2) ≡ 3 * (i + 1) = omega arith in
+        rw (drop-cons coords (3 * i) 0, ny, drop-cons coords (3 * i + 1) 0, nz, drop-cons coords (3 * i + 2) 0, ne)
+
+    -- past the last shot
+    pub shots-end : length coords / 3 ≤ i → shotsOf e (drop (3 * i) coords) ≡ []
+    shots-end h = shots-short (drop (3 * i) coords) (omega (arith, length-drop (3 * i) coords))
+
+-- ---- the first shot that leaves the field
+module _ (F : ℕ) (t : Shot) (ts : List Shot) where
+  first-here : leaves F t ≡ true → firstLeaving F (t ∷ ts) ≡ 0
+  unfolding firstLeaving
+  first-here l = simp l
+
+  first-later : leaves F t ≡ false → firstLeaving F (t ∷ ts) ≡ suc (firstLeaving F ts)
+  unfolding firstLeaving
+  first-later l = simp l
+
+module _ (F e : ℕ) (coords : List ℕ) (i : ℕ) where
+  -- the search has passed i shots
+  abbrev pub Passed : Type 0
+  Passed = firstLeaving F (shotsOf e coords) ≡ i + firstLeaving F (shotsOf e (drop (3 * i) coords))
+
+  module _ (h : i < length coords / 3) (p : Passed) where
+    pub leaving-here : leaves F (shotAt e coords i) ≡ true → i ≡ firstLeaving F (shotsOf e coords)
+    leaving-here l = omega (arith, p, ap (firstLeaving F) (shots-from e coords i h) ∙ first-here F (shotAt e coords i) (shotsOf e (drop (3 * (i + 1)) coords)) l)
+
+    pub leaving-later : leaves F (shotAt e coords i) ≡ false → firstLeaving F (shotsOf e coords) ≡ (i + 1) + firstLeaving F (shotsOf e (drop (3 * (i + 1)) coords))
+    leaving-later l = omega (arith, p, ap (firstLeaving F) (shots-from e coords i h) ∙ first-later F (shotAt e coords i) (shotsOf e (drop (3 * (i + 1)) coords)) l)
+
+  pub leaving-none : length coords / 3 ≤ i → Passed → i ≡ firstLeaving F (shotsOf e coords)
+  unfolding firstLeaving
+  leaving-none h p = omega (arith, p, ap (firstLeaving F) (shots-end e coords i h))
+
+-- nothing is passed at first
+pub passed-none : (F e : ℕ) (coords : List ℕ) → Passed F e coords 0
+passed-none F e coords = omega arith
+
+-- ---- a shot leaves the field if and only if one is found
+module _ (F : ℕ) where
+  pub any-leaves : (ts : List Shot) → any (leaves F) ts ≡ ltb (firstLeaving F ts) (length ts)
+  unfolding any firstLeaving
+  any-leaves [] = refl
+  any-leaves (t ∷ ts) = go (leaves F t) (any-leaves ts)
+    where
+      go : (b : Bool) → any (leaves F) ts ≡ ltb (firstLeaving F ts) (length ts) → (b || any (leaves F) ts) ≡ ltb (cond b 0 (suc (firstLeaving F ts))) (length (t ∷ ts))
+      go true e = sym (lt-ltb 0 (length (t ∷ ts)) (omega arith))
+      go false e = e ∙ sym (leb·suc-suc (suc (firstLeaving F ts)) (length ts))
+
+-- ---- shots that stay in the field
+module _ (F : ℕ) (t : Shot) where
+  pub stays : leaves F t ≡ false → InField F t
+  stays h =
+      record {
+        x-in = ltb-false F (t .x + t .edge) (or-false (past F (t .edge) (t .x)) _ h .0);
+        y-in = ltb-false F (t .y + t .edge) (or-false (past F (t .edge) (t .y)) _ (or-false (past F (t .edge) (t .x)) _ h .1) .0);
+        z-in = ltb-false F (t .z + t .edge) (or-false (past F (t .edge) (t .y)) _ (or-false (past F (t .edge) (t .x)) _ h .1) .1);
+      }
+
+  pub stays-not : leaves F t ≡ true → ¬ InField F t
+  stays-not h s = true≢false (sym h ∙ simp (le-ltb F (t .x + t .edge) (s .x-in), le-ltb F (t .y + t .edge) (s .y-in), le-ltb F (t .z + t .edge) (s .z-in)))
+
+-- every shot of a list stays in the field, or one is the first that leaves it
+module _ (F : ℕ) where
+  pub all-stay : (ts : List Shot) → length ts ≤ firstLeaving F ts → AllInField F ts
+  unfolding firstLeaving
+  all-stay [] h = tt
+  all-stay (t ∷ ts) h = go (leaves F t) refl h (all-stay ts)
+    where
+      go : (b : Bool) → leaves F t ≡ b → suc (length ts) ≤ cond b 0 (suc (firstLeaving F ts)) → (length ts ≤ firstLeaving F ts → AllInField F ts) → InField F t × AllInField F ts
+      go true e l r = absurd (omega arith)
+      go false e l r = (stays F t e, r (omega arith))
+
+  pub first-leaves : (ts : List Shot) (o : Shot) → firstLeaving F ts < length ts → leaves F (getD ts (firstLeaving F ts) o) ≡ true
+  unfolding firstLeaving
+  first-leaves [] o h = absurd (omega arith)
+  first-leaves (t ∷ ts) o h = go (leaves F t) refl h (first-leaves ts o)
+    where
+      go : (b : Bool) → leaves F t ≡ b → cond b 0 (suc (firstLeaving F ts)) < suc (length ts) → (firstLeaving F ts < length ts → leaves F (getD ts (firstLeaving F ts) o) ≡ true) → leaves F (getD (t ∷ ts) (cond b 0 (suc (firstLeaving F ts))) o) ≡ true
+      go true e l r = e
+      go false e l r = r (omega arith)
+
+  pub earlier-stays : (ts : List Shot) (o : Shot) (i : ℕ) → i < firstLeaving F ts → leaves F (getD ts i o) ≡ false
+  unfolding firstLeaving
+  earlier-stays [] o i h = absurd (omega arith)
+  earlier-stays (t ∷ ts) o i h = go (leaves F t) refl i h (earlier-stays ts o)
+    where
+      go : (b : Bool) → leaves F t ≡ b → (i : ℕ) → i < cond b 0 (suc (firstLeaving F ts)) → ((j : ℕ) → j < firstLeaving F ts → leaves F (getD ts j o) ≡ false) → leaves F (getD (t ∷ ts) i o) ≡ false
+      go true e i l r = absurd (omega arith)
+      go false e zero l r = e
+      go false e (suc i) l r = r i (omega arith)
+
+-- the shots of a coordinate list stay in the field if each one does, by its number
+module _ (F e : ℕ) where
+  pub stay-at : (coords : List ℕ) → AllInField F (shotsOf e coords) → (i : ℕ) → i < length coords / 3 → InField F (shotAt e coords i)
+  unfolding shotsOf
+  stay-at [] a i h = absurd (omega arith)
+  stay-at (x ∷ []) a i h = absurd (omega arith)
+  stay-at (x ∷ y ∷ []) a i h = absurd (omega arith)
+  stay-at (x ∷ y ∷ z ∷ rest) a zero h = a .0
+  stay-at (x ∷ y ∷ z ∷ rest) a (suc i) h = rw (shot-later e x y z rest i) (stay-at rest (a .1) i (omega arith))
+
+  pub stay-all : (coords : List ℕ) → ((i : ℕ) → i < length coords / 3 → InField F (shotAt e coords i)) → AllInField F (shotsOf e coords)
+  unfolding shotsOf
+  stay-all [] s = tt
+  stay-all (x ∷ []) s = tt
+  stay-all (x ∷ y ∷ []) s = tt
+  stay-all (x ∷ y ∷ z ∷ rest) s = (s 0 (omega arith), stay-all rest (λ i h. rw (shot-later e x y z rest i) at (s (suc i) (omega arith))))
+
+-- a test of the shots, by their numbers
+module _ (e : ℕ) (f : Shot → Bool) where
+  pub any-at : (coords : List ℕ) → T (any f (shotsOf e coords)) → (i : ℕ) × (i < length coords / 3) × T (f (shotAt e coords i))
+  unfolding shotsOf any
+  any-at [] a = absurd a
+  any-at (x ∷ []) a = absurd a
+  any-at (x ∷ y ∷ []) a = absurd a
+  any-at (x ∷ y ∷ z ∷ rest) a = or-elim (f (shotAt e (x ∷ y ∷ z ∷ rest) 0)) (any f (shotsOf e rest)) a (λ h. (0, omega arith, h)) (λ h. let r = any-at rest h in (suc (r .0), omega (arith, r .1), rw (shot-later e x y z rest (r .0)) (r .2)))
+
+  pub at-any : (coords : List ℕ) (i : ℕ) → i < length coords / 3 → T (f (shotAt e coords i)) → T (any f (shotsOf e coords))
+  unfolding shotsOf any
+  at-any [] i h t = absurd (omega arith)
+  at-any (x ∷ []) i h t = absurd (omega arith)
+  at-any (x ∷ y ∷ []) i h t = absurd (omega arith)
+  at-any (x ∷ y ∷ z ∷ rest) zero h t = or-left (f (shotAt e (x ∷ y ∷ z ∷ rest) 0)) (any f (shotsOf e rest)) t
+  at-any (x ∷ y ∷ z ∷ rest) (suc i) h t = or-right (f (shotAt e (x ∷ y ∷ z ∷ rest) 0)) (any f (shotsOf e rest)) (at-any rest i (omega arith) (rw (shot-later e x y z rest i) at t))

@@ -1,0 +1,65 @@
+-- Tests joined by 'or'. Assumes nothing.
+use mathlib.Core.Path.{_≡_, refl}
+use mathlib.Core.Logic.{_⊎_, inl, inr, ⊎-elim}
+use mathlib.Core.Bool.{Bool, true, false, _||_, true≢false}
+use Prim.Native.Nat.{ℕ, _≤_, _<_}
+use native.Mathlib.Omega.{arith}
+use lib.Dec.{T, ltb, eqb}
+use borrow.Author.Tests.{ltb-true, ltb-false, eqb-true, eqb-false, lt-ltb}
+use Rattle.job.specs.Checking.{outside}
+
+pub or-first : (a b : Bool) → a ≡ true → true ≡ a || b
+or-first a b h = rw h
+
+pub or-second : (a b : Bool) {c : Bool} → a ≡ false → c ≡ b → c ≡ a || b
+or-second a b h e = rw h e
+
+pub or-false : (a b : Bool) → a || b ≡ false → (a ≡ false) × (b ≡ false)
+or-false true b h = absurd (true≢false h)
+or-false false b h = (refl, h)
+
+pub or-true : (a b : Bool) → a || b ≡ true → (a ≡ true) ⊎ (b ≡ true)
+or-true true b h = inl refl
+or-true false b h = inr h
+
+pub or-left : (a b : Bool) → T a → T (a || b)
+or-left true b h = tt
+or-left false b h = absurd h
+
+pub or-right : (a b : Bool) → T b → T (a || b)
+or-right true b h = tt
+or-right false b h = h
+
+-- a setting that is not outside its range
+pub within : (least most a : ℕ) → outside least most a ≡ false → (least ≤ a) × (a ≤ most)
+within least most a h = (ltb-false a least (or-false _ _ h .0), ltb-false most a (or-false (ltb a least) _ h .1))
+
+-- and one that is
+pub out : (least most a : ℕ) → outside least most a ≡ true → (a < least) ⊎ (most < a)
+out least most a h = ⊎-elim (λ l. inl (ltb-true a least l)) (λ l. inr (ltb-true most a l)) (or-true (ltb a least) (ltb most a) h)
+
+pub not-out : (least most a : ℕ) → outside least most a ≡ false → ¬ ((a < least) ⊎ (most < a))
+not-out least most a h = ⊎-elim (λ l. omega (arith, within least most a h)) (λ l. omega (arith, within least most a h))
+
+pub is-out : (least most a : ℕ) → (a < least) ⊎ (most < a) → outside least most a ≡ true
+is-out least most a (inl l) = rw (lt-ltb a least l)
+is-out least most a (inr l) = go (ltb a least)
+  where
+    go : (b : Bool) → b || ltb most a ≡ true
+    go true = refl
+    go false = lt-ltb most a l
+
+pub is-in : (least most a : ℕ) → ¬ ((a < least) ⊎ (most < a)) → outside least most a ≡ false
+is-in least most a h = go (outside least most a) refl
+  where
+    go : (b : Bool) → outside least most a ≡ b → outside least most a ≡ false
+    go true e = absurd (h (out least most a e))
+    go false e = e
+
+-- what is not refused by a test of equality
+pub settled : (a b : ℕ) → ¬ (¬ (a ≡ b)) → a ≡ b
+settled a b h = go (eqb a b) refl
+  where
+    go : (t : Bool) → eqb a b ≡ t → a ≡ b
+    go true e = eqb-true a b e
+    go false e = absurd (h (eqb-false a b e))
