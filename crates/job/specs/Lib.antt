@@ -1,1 +1,4 @@
 pub mod Job
+pub mod Refusals
+pub mod Checking
+pub mod Conditions

@@ -1,0 +1,13 @@
+pub mod NumberLaws
+pub mod StoreLaws
+pub mod TouchLaws
+pub mod CellLaws
+pub mod FillLaws
+pub mod IndexLaws
+pub mod ReadLaws
+pub mod ShotLaws
+pub mod SlabLaws
+pub mod CoverLaws
+pub mod CoverRuns
+pub mod TotalLaws
+pub mod NeedLaws

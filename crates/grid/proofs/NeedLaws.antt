@@ -1,0 +1,133 @@
+-- The need, counted shot by shot: the pairs of a shot are the product of three spans.
+use mathlib.Core.Path.{_≡_, refl, sym, ap, _∙_}
+use mathlib.Core.Bool.{Bool, true, false, _&&_}
+use mathlib.Core.List.{List}
+use Prim.Native.Nat.{ℕ, suc, _+_, _-_, _*_, _/_, _≤_, _<_}
+use native.Mathlib.Nat.{le-div-iff-mul-le, div-lt-iff-lt-mul, mul-le-mul, mul-pos, mul-one, mul-comm, div-mul-le-self, div-le-of-le-mul, div-le-self, div-eq-of-lt}
+use native.Mathlib.Numerals.{add-one}
+use native.Mathlib.Omega.{arith}
+use lib.Dec.{leb, ltb}
+use lib.ListN.{getD}
+use borrow.Author.Tests.{le-leb, leb-true, leb-false}
+use Rattle.lattice.specs.Sums.{total}
+use Rattle.lattice.specs.Cells.{bit}
+use Rattle.job.specs.Job.{shotAt, Valid}
+use Rattle.grid.specs.Grid.{meets, touchesCell, shotCount, spanOf, pairsOf, pairs, need}
+use Rattle.grid.proofs.TotalLaws.{total-agree, total-most, total-swap, total-digits, total-triples, count-inside, count-past}
+use Rattle.grid.proofs.CellLaws.{digit-high, digit-low, cube-most}
+use Rattle.grid.proofs.ShotLaws.{in-field-at, width-times, width-least}
+
+-- ---- how many intervals a span meets
+
+leb-alike : (a b c d : ℕ) → (a ≤ b → c ≤ d) → (c ≤ d → a ≤ b) → leb a b ≡ leb c d
+leb-alike a b c d f g = one (leb a b) (leb c d) refl refl
+  where
+    one : (s t : Bool) → leb a b ≡ s → leb c d ≡ t → leb a b ≡ leb c d
+    one true t e e' = e ∙ sym (le-leb c d (f (leb-true a b e)))
+    one false true e e' = absurd (omega (arith, leb-false a b e, g (leb-true c d e')))
+    one false false e e' = e ∙ sym e'
+
+module _ (s c e : ℕ) (h : 1 ≤ s) where
+  -- the interval after the last one that a span meets, and the first one
+  abbrev pub lastAfter : ℕ
+  lastAfter = (c + e) / s + 1
+
+  abbrev pub firstMet : ℕ
+  firstMet = (c - 1) / s
+
+  pub meets-from : (g : ℕ) → meets s g c e ≡ (ltb g lastAfter && leb firstMet g)
+  unfolding meets
+  meets-from g =
+      rw (leb-alike (g * s) (c + e) (suc g) ((c + e) / s + 1) (λ l. omega (arith, le-div-iff-mul-le {k = s} {x = g} {y = c + e} h .1 l)) (λ l. le-div-iff-mul-le {k = s} {x = g} {y = c + e} h .0 (omega arith)))
+      (ap (λ t. ltb g lastAfter && t) (leb-alike c ((g + 1) * s) ((c - 1) / s) g low high))
+    where
+      some : 1 ≤ (g + 1) * s
+      some = mul-pos {m = g + 1} {n = s} (omega arith) h
+
+      low : c ≤ (g + 1) * s → (c - 1) / s ≤ g
+      low l = omega (arith, div-lt-iff-lt-mul {k = s} {x = c - 1} {y = g + 1} h .1 (omega (arith, some)))
+
+      high : (c - 1) / s ≤ g → c ≤ (g + 1) * s
+      high l = omega (arith, div-lt-iff-lt-mul {k = s} {x = c - 1} {y = g + 1} h .0 (omega arith), some)
+
+  pub first-before : firstMet ≤ lastAfter
+  first-before = omega (arith, le-div-iff-mul-le {k = s} {x = (c - 1) / s} {y = c + e} h .1 (omega (arith, div-mul-le-self (c - 1) s)))
+
+  pub first-most : (G : ℕ) → c + e ≤ G * s → firstMet ≤ G
+  first-most G l = div-le-of-le-mul s {m = c - 1} {n = G} (omega (arith, mul-comm s G))
+
+  pub after-most : lastAfter ≤ c + e + 1
+  after-most = omega (arith, div-le-self (c + e) s)
+
+  pub span-inside : (G : ℕ) → G ≤ lastAfter → G - firstMet ≡ spanOf G s c e
+  span-inside G l = sym (total-agree G _ _ (λ g k. ap bit (meets-from g)) ∙ count-inside firstMet lastAfter G l)
+
+  pub span-past : (G : ℕ) → lastAfter ≤ G → lastAfter - firstMet ≡ spanOf G s c e
+  span-past G l = sym (total-agree G _ _ (λ g k. ap bit (meets-from g)) ∙ count-past firstMet lastAfter G l)
+
+pub first-of-none : (s c : ℕ) → 1 ≤ s → c ≡ 0 → 0 ≡ (c - 1) / s
+first-of-none s c h e = rw e (sym (div-eq-of-lt {n = 0} {m = s} h))
+
+-- ---- the grid cells that a shot belongs to
+
+pub span-most : (G s c e : ℕ) → spanOf G s c e ≤ G
+span-most G s c e = omega (arith, total-most G 1 (λ g. bit (meets s g c e)) (λ g l. bit-most (meets s g c e)), mul-one G)
+  where
+    bit-most : (b : Bool) → bit b ≤ 1
+    bit-most true = omega arith
+    bit-most false = omega arith
+
+-- three spans of at most 64
+pub product-most : (a b c G : ℕ) → G ≤ 64 → a ≤ G → b ≤ G → c ≤ G → a * b * c ≤ 262144
+product-most a b c G h i j k = mul-le-mul {n₁ = a * b} {m₁ = c} {n₂ = 4096} {m₂ = 64} (mul-le-mul {n₁ = a} {m₁ = b} {n₂ = 64} {m₂ = 64} (omega arith) (omega arith)) (omega arith)
+
+pub square-of-most : (a b G : ℕ) → G ≤ 64 → a ≤ G → b ≤ G → a * b ≤ 4096
+square-of-most a b G h i j = mul-le-mul {n₁ = a} {m₁ = b} {n₂ = 64} {m₂ = 64} (omega arith) (omega arith)
+
+module _ (F E G : ℕ) (coords : List ℕ) where
+  pub pairs-product : (i : ℕ) → spanOf G (F / G) (getD coords (3 * i) 0) E * spanOf G (F / G) (getD coords (3 * i + 1) 0) E * spanOf G (F / G) (getD coords (3 * i + 2) 0) E ≡ pairsOf F E G coords i
+  pairs-product i =
+      sym (total-digits (G * G) G _
+      ∙ (total-digits G G _
+      ∙ (total-agree G _ _ (λ gx hx. total-agree G _ _ (λ gy hy. total-agree G _ _ (λ gz hz. by-place gx gy gz hy hz)))
+      ∙ total-triples G (λ g. meets (F / G) g (getD coords (3 * i) 0) E) (λ g. meets (F / G) g (getD coords (3 * i + 1) 0) E) (λ g. meets (F / G) g (getD coords (3 * i + 2) 0) E))))
+    where
+      by-place : (gx gy gz : ℕ) → gy < G → gz < G → bit (touchesCell F G ((gx * G + gy) * G + gz) (shotAt E coords i)) ≡ bit (meets (F / G) gx (getD coords (3 * i) 0) E && (meets (F / G) gy (getD coords (3 * i + 1) 0) E && meets (F / G) gz (getD coords (3 * i + 2) 0) E))
+      by-place gx gy gz hy hz = rw (digit-high G (gx * G + gy) gz hz, digit-low G (gx * G + gy) gz hz, digit-high G gx gy hy, digit-low G gx gy hy)
+
+  -- the spans of a shot stay in the field
+  module _ (v : Valid F E G coords) (i : ℕ) (h : i < shotCount coords) where
+    pub in-width-x : (1 ≤ F / G) × (getD coords (3 * i) 0 + E ≤ G * (F / G))
+    in-width-x = (width-least v, omega (arith, width-times v, in-field-at F E coords (v .inside) i h .x-in))
+
+    pub in-width-y : (1 ≤ F / G) × (getD coords (3 * i + 1) 0 + E ≤ G * (F / G))
+    in-width-y = (width-least v, omega (arith, width-times v, in-field-at F E coords (v .inside) i h .y-in))
+
+    pub in-width-z : (1 ≤ F / G) × (getD coords (3 * i + 2) 0 + E ≤ G * (F / G))
+    in-width-z = (width-least v, omega (arith, width-times v, in-field-at F E coords (v .inside) i h .z-in))
+
+  -- the pairs counted by shots are the pairs counted by grid cells
+  pub pairs-by-shots : total (shotCount coords) (pairsOf F E G coords) ≡ pairs F E G coords
+  unfolding pairs
+  pairs-by-shots = total-swap (shotCount coords) (G * G * G) (λ i cell. bit (touchesCell F G cell (shotAt E coords i)))
+
+  pub pairs-none : 0 ≡ total 0 (pairsOf F E G coords)
+  unfolding total
+  pairs-none = refl
+
+  pub pairs-next : (n : ℕ) {a b : ℕ} → a ≡ total n (pairsOf F E G coords) → b ≡ pairsOf F E G coords n → a + b ≡ total (n + 1) (pairsOf F E G coords)
+  unfolding total
+  pairs-next n e e' = rw (add-one n, e, e')
+
+  pub pairs-few : G ≤ 64 → (n : ℕ) → total n (pairsOf F E G coords) ≤ n * 262144
+  pairs-few h n = total-most n 262144 (pairsOf F E G coords) λ i l.
+      omega (arith, pairs-product i, product-most (spanOf G (F / G) (getD coords (3 * i) 0) E) (spanOf G (F / G) (getD coords (3 * i + 1) 0) E) (spanOf G (F / G) (getD coords (3 * i + 2) 0) E) G h (span-most G (F / G) (getD coords (3 * i) 0) E) (span-most G (F / G) (getD coords (3 * i + 1) 0) E) (span-most G (F / G) (getD coords (3 * i + 2) 0) E))
+
+  pub need-by-shots : {cells a : ℕ} (n : ℕ) → n ≡ shotCount coords → cells ≡ G * G * G → a ≡ total n (pairsOf F E G coords) → cells + 1 + a ≡ need F E G coords
+  unfolding need
+  need-by-shots n e c p = rw (c, p, e, pairs-by-shots)
+
+-- largest need
+pub need-most : (F E G : ℕ) (coords : List ℕ) → Valid F E G coords → need F E G coords ≤ 1074003969
+unfolding need
+need-most F E G coords v = omega (arith, pairs-by-shots F E G coords, pairs-few F E G coords (v .grid-most) (shotCount coords), v .few, cube-most G (v .grid-most))

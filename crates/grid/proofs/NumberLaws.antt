@@ -1,0 +1,212 @@
+-- Laws of lists made piece by piece: counting up, keeping, joining, membership and marks.
+use mathlib.Core.Path.{_≡_, refl, sym, ap, _∙_}
+use mathlib.Core.Bool.{Bool, true, false, cond, _&&_, _||_, or-assoc, or-true, or-false}
+use mathlib.Core.List.{List, [], _∷_, _++_, append-assoc, append-nil}
+use Prim.Native.Nat.{ℕ, zero, suc, _+_, _-_, _*_, _≤_, _<_}
+use native.Mathlib.Nat.{add-zero, add-suc, le-refl, zero-mul, suc-mul}
+use native.Mathlib.Numerals.{add-one}
+use native.Mathlib.Omega.{arith}
+use lib.Dec.{eqb, ltb}
+use lib.ListN.{length, getD, take, drop, set, length-append, length-set, take-append-drop, List·getD-append}
+use lib.Seq.{take-suc, take-length, getD-at, getD-set-same, getD-set-other}
+use borrow.Author.Tests.{ltb-true, ltb-false, eqb-true, eqb-false, lt-ltb, le-ltb, eq-eqb}
+use Rattle.grid.specs.Numbers.{upTo, keep, joined, has, marked, isMarked}
+
+-- ---- counting up
+
+pub upTo-length : (n : ℕ) → length (upTo n) ≡ n
+unfolding upTo
+upTo-length zero = refl
+upTo-length (suc n) = omega (arith, length-append (upTo n) (n ∷ []), upTo-length n)
+
+-- ---- keeping
+
+module _ (f : ℕ → Bool) where
+  pub keep-append : (l m : List ℕ) → keep f (l ++ m) ≡ keep f l ++ keep f m
+  unfolding keep
+  keep-append [] m = refl
+  keep-append (a ∷ l) m = rw (keep-append l m) (one (f a))
+    where
+      one : (b : Bool) → cond b (a ∷ (keep f l ++ keep f m)) (keep f l ++ keep f m) ≡ cond b (a ∷ keep f l) (keep f l) ++ keep f m
+      one true = refl
+      one false = refl
+
+  -- one number more
+  pub keep-next : (l : List ℕ) (j : ℕ) → j < length l → keep f (take (j + 1) l) ≡ keep f (take j l) ++ cond (f (getD l j 0)) (getD l j 0 ∷ []) []
+  unfolding keep
+  keep-next l j h = rw (add-one j, take-suc l j 0 h) (keep-append (take j l) (getD l j 0 ∷ []))
+
+  pub keep-up : (n : ℕ) → keep f (upTo (n + 1)) ≡ keep f (upTo n) ++ cond (f n) (n ∷ []) []
+  unfolding keep upTo
+  keep-up n = rw (add-one n) (keep-append (upTo n) (n ∷ []))
+
+  pub keep-length : (l : List ℕ) → length (keep f l) ≤ length l
+  unfolding keep
+  keep-length [] = le-refl 0
+  keep-length (a ∷ l) = one (f a) (keep-length l)
+    where
+      one : (b : Bool) → length (keep f l) ≤ length l → length (cond b (a ∷ keep f l) (keep f l)) ≤ suc (length l)
+      one true h = omega arith
+      one false h = omega arith
+
+  pub keep-front : (l : List ℕ) (j : ℕ) → length (keep f (take j l)) ≤ length (keep f l)
+  keep-front l j =
+      omega (arith, ap (λ (m : List ℕ). length (keep f m)) (take-append-drop j l), ap length (keep-append (take j l) (drop j l)), length-append (keep f (take j l)) (keep f (drop j l)))
+
+  -- keeping twice
+  pub keep-keep : (g : ℕ → Bool) (l : List ℕ) → keep g (keep f l) ≡ keep (λ a. f a && g a) l
+  unfolding keep
+  keep-keep g [] = refl
+  keep-keep g (a ∷ l) = one (f a) (keep-keep g l)
+    where
+      one : (b : Bool) → keep g (keep f l) ≡ keep (λ a. f a && g a) l → keep g (cond b (a ∷ keep f l) (keep f l)) ≡ cond (b && g a) (a ∷ keep (λ a. f a && g a) l) (keep (λ a. f a && g a) l)
+      one true h = rw h
+      one false h = h
+
+-- tests that agree below n keep the same numbers below n
+pub keep-agree : (f g : ℕ → Bool) (n : ℕ) → ((i : ℕ) → i < n → f i ≡ g i) → keep f (upTo n) ≡ keep g (upTo n)
+unfolding upTo keep
+keep-agree f g zero h = refl
+keep-agree f g (suc n) h =
+    rw (keep-append f (upTo n) (n ∷ []), keep-append g (upTo n) (n ∷ []), keep-agree f g n (λ i l. h i (omega arith)), h n (omega arith))
+
+-- ---- joining
+
+module _ (f : ℕ → List ℕ) where
+  pub joined-next : (n : ℕ) → joined (n + 1) f ≡ joined n f ++ f n
+  unfolding joined
+  joined-next n = rw (add-one n)
+
+  pub joined-add : (n k : ℕ) → joined (n + k) f ≡ joined n f ++ joined k (λ j. f (n + j))
+  unfolding joined
+  joined-add n zero = rw (add-zero n) (sym (append-nil (joined n f)))
+  joined-add n (suc k) = rw (add-suc n k, joined-add n k) (append-assoc (joined n f) (joined k (λ j. f (n + j))) (f (n + k)))
+
+  pub joined-length-next : (n : ℕ) → length (joined (n + 1) f) ≡ length (joined n f) + length (f n)
+  joined-length-next n = ap length (joined-next n) ∙ length-append (joined n f) (f n)
+
+  pub joined-length-up : (n m : ℕ) → n ≤ m → length (joined n f) ≤ length (joined m f)
+  joined-length-up n m h =
+      let e : n + (m - n) ≡ m = omega arith in
+      omega (arith, ap (λ (k : ℕ). length (joined k f)) e, ap length (joined-add n (m - n)), length-append (joined n f) (joined (m - n) (λ j. f (n + j))))
+
+  pub joined-length-most : (k : ℕ) → ((i : ℕ) → length (f i) ≤ k) → (n : ℕ) → length (joined n f) ≤ n * k
+  unfolding joined
+  joined-length-most k h zero = omega (arith, zero-mul k)
+  joined-length-most k h (suc n) = omega (arith, length-append (joined n f) (f n), h n, joined-length-most k h n, suc-mul n k)
+
+-- single numbers: number g of the series is its g-th list's one element
+module _ (f : ℕ → ℕ) where
+  pub singles-length : (n : ℕ) → length (joined n (λ g. f g ∷ [])) ≡ n
+  unfolding joined
+  singles-length zero = refl
+  singles-length (suc n) = omega (arith, length-append (joined n (λ g. f g ∷ [])) (f n ∷ []), singles-length n)
+
+  pub singles-at : (n g : ℕ) → g < n → getD (joined n (λ g. f g ∷ [])) g 0 ≡ f g
+  unfolding joined
+  singles-at zero g h = absurd (omega arith)
+  singles-at (suc n) g h = one (ltb g n) refl (singles-at n g)
+    where
+      one : (b : Bool) → ltb g n ≡ b → (g < n → getD (joined n (λ g. f g ∷ [])) g 0 ≡ f g) → getD (joined n (λ g. f g ∷ []) ++ f n ∷ []) g 0 ≡ f g
+      one true e before =
+          List·getD-append (joined n (λ g. f g ∷ [])) (f n ∷ []) 0 g (omega (arith, singles-length n, ltb-true g n e)) ∙ before (ltb-true g n e)
+      one false e before =
+          let last : g ≡ n = omega (arith, ltb-false g n e) in
+          rw last (getD-at (joined n (λ g. f g ∷ [])) (f n) [] 0 n (singles-length n))
+
+-- ---- membership
+
+module _ (a : ℕ) where
+  pub has-append : (l m : List ℕ) → has (l ++ m) a ≡ (has l a || has m a)
+  unfolding has
+  has-append [] m = refl
+  has-append (b ∷ l) m = rw (has-append l m) (sym (or-assoc (eqb a b) (has l a) (has m a)))
+
+  -- a member of one list of a series is a member of the joined series, and the other way round
+  pub has-joined : (f : ℕ → List ℕ) (n g : ℕ) → g < n → has (f g) a ≡ true → has (joined n f) a ≡ true
+  unfolding joined
+  has-joined f zero g h e = absurd (omega arith)
+  has-joined f (suc n) g h e = has-append (joined n f) (f n) ∙ one (ltb g n) refl (λ l. has-joined f n g l e)
+    where
+      one : (b : Bool) → ltb g n ≡ b → (g < n → has (joined n f) a ≡ true) → (has (joined n f) a || has (f n) a) ≡ true
+      one true t before = rw (before (ltb-true g n t))
+      one false t before =
+          let last : n ≡ g = omega (arith, ltb-false g n t) in
+          rw (last, e) (or-true (has (joined g f) a))
+
+  pub has-joined-none : (f : ℕ → List ℕ) (n : ℕ) → ((g : ℕ) → g < n → has (f g) a ≡ false) → has (joined n f) a ≡ false
+  unfolding joined has
+  has-joined-none f zero h = refl
+  has-joined-none f (suc n) h =
+      has-append (joined n f) (f n) ∙ rw (has-joined-none f n (λ g l. h g (omega arith)), h n (omega arith))
+
+  -- a number as a list, or nothing
+  has-same : (b : Bool) → has (cond b (a ∷ []) []) a ≡ b
+  unfolding has
+  has-same true = rw (eq-eqb a a refl)
+  has-same false = refl
+
+  has-other : (n : ℕ) (b : Bool) → eqb a n ≡ false → has (cond b (n ∷ []) []) a ≡ false
+  unfolding has
+  has-other n true e = rw e
+  has-other n false e = refl
+
+  -- the numbers below n that pass a test
+  pub has-keep : (f : ℕ → Bool) (n : ℕ) → has (keep f (upTo n)) a ≡ (ltb a n && f a)
+  unfolding has keep upTo
+  has-keep f zero = rw (le-ltb a 0 (omega arith))
+  has-keep f (suc n) =
+      ap (λ l. has l a) (keep-append f (upTo n) (n ∷ []))
+      ∙ (has-append (keep f (upTo n)) (keep f (n ∷ []))
+      ∙ rw (has-keep f n) (one (eqb a n) refl))
+    where
+      one : (b : Bool) → eqb a n ≡ b → (ltb a n && f a || has (cond (f n) (n ∷ []) []) a) ≡ (ltb a (suc n) && f a)
+      one true e =
+          let same : n ≡ a = sym (eqb-true a n e) in
+          rw (same, le-ltb a a (omega arith), lt-ltb a (suc a) (omega arith)) (has-same (f a))
+      one false e = rw (has-other n (f n) e) (or-false (ltb a n && f a) ∙ two (ltb a n) refl)
+        where
+          two : (b : Bool) → ltb a n ≡ b → (ltb a n && f a) ≡ (ltb a (suc n) && f a)
+          two true t = rw (t, lt-ltb a (suc n) (omega (arith, ltb-true a n t)))
+          two false t = rw (t, le-ltb a (suc n) (omega (arith, ltb-false a n t, eqb-false a n e)))
+
+-- ---- marks
+
+pub marked-next : (row l : List ℕ) (b : ℕ) → marked row (l ++ b ∷ []) ≡ set (marked row l) b 1
+unfolding marked
+marked-next row [] b = refl
+marked-next row (c ∷ l) b = marked-next (set row c 1) l b
+
+pub marked-length : (row l : List ℕ) → length (marked row l) ≡ length row
+unfolding marked
+marked-length row [] = refl
+marked-length row (b ∷ l) = marked-length (set row b 1) l ∙ length-set row b 1
+
+-- a place is marked if it was, or if the list names it
+pub marked-at : (a : ℕ) (row l : List ℕ) → a < length row → isMarked (marked row l) a ≡ (isMarked row a || has l a)
+unfolding marked has
+marked-at a row [] h = sym (or-false (isMarked row a))
+marked-at a row (b ∷ l) h =
+    marked-at a (set row b 1) l (omega (arith, length-set row b 1))
+    ∙ (ap (λ t. t || has l a) (one (eqb a b) refl) ∙ or-assoc (isMarked row a) (eqb a b) (has l a))
+  where
+    one : (t : Bool) → eqb a b ≡ t → isMarked (set row b 1) a ≡ (isMarked row a || eqb a b)
+    one true e =
+        let same : b ≡ a = sym (eqb-true a b e) in
+        rw (same, getD-set-same row a 1 0 h, eq-eqb a a refl) (sym (or-true (isMarked row a)))
+    one false e = rw (getD-set-other row b a 1 0 (eqb-false a b e), e) (sym (or-false (isMarked row a)))
+
+-- a row that is marked number by number
+module _ (row l : List ℕ) where
+  pub marked-none : row ≡ marked row (take 0 l)
+  unfolding marked
+  marked-none = refl
+
+  pub marked-turn : (i : ℕ) {b b' : List ℕ} → i < length l → b ≡ marked row (take i l) → b' ≡ set b (getD l i 0) 1 → b' ≡ marked row (take (i + 1) l)
+  marked-turn i h e e' = rw (e', e, add-one i, take-suc l i 0 h) (sym (marked-next row (take i l) (getD l i 0)))
+
+  pub marked-all : (i : ℕ) {b : List ℕ} → i ≡ length l → b ≡ marked row (take i l) → b ≡ marked row l
+  marked-all i e h = rw (e, take-length l) at h
+
+  pub marked-same : (i : ℕ) {b : List ℕ} → b ≡ marked row (take i l) → length b ≡ length row
+  marked-same i e = ap length e ∙ marked-length row (take i l)

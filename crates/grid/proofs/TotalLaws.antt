@@ -1,0 +1,92 @@
+-- Totals over 0, 1, .. n - 1: term by term, in either order of two, by digits, and of products.
+use mathlib.Core.Path.{_≡_, refl, sym, ap, _∙_}
+use mathlib.Core.Bool.{Bool, true, false, _&&_}
+use Prim.Native.Nat.{ℕ, zero, suc, _+_, _-_, _*_, _≤_, _<_}
+use native.Mathlib.Nat.{zero-mul, suc-mul, mul-zero, mul-add, mul-assoc, mul-comm, one-mul, add-zero, add-suc}
+use native.Mathlib.Omega.{arith}
+use lib.Dec.{leb, ltb}
+use borrow.Author.Tests.{lt-ltb, le-ltb, leb-true, leb-false}
+use Rattle.lattice.specs.Sums.{total}
+use Rattle.lattice.specs.Cells.{bit}
+
+pub total-agree : (n : ℕ) (f g : ℕ → ℕ) → ((i : ℕ) → i < n → f i ≡ g i) → total n f ≡ total n g
+unfolding total
+total-agree zero f g h = refl
+total-agree (suc n) f g h = rw (total-agree n f g (λ i l. h i (omega arith)), h n (omega arith))
+
+pub total-most : (n k : ℕ) (f : ℕ → ℕ) → ((i : ℕ) → i < n → f i ≤ k) → total n f ≤ n * k
+unfolding total
+total-most zero k f h = omega (arith, zero-mul k)
+total-most (suc n) k f h = omega (arith, suc-mul n k, total-most n k f (λ i l. h i (omega arith)), h n (omega arith))
+
+total-none : (n : ℕ) → total n (λ i. 0) ≡ 0
+unfolding total
+total-none zero = refl
+total-none (suc n) = omega (arith, total-none n)
+
+total-plus : (n : ℕ) (f g : ℕ → ℕ) → total n (λ i. f i + g i) ≡ total n f + total n g
+unfolding total
+total-plus zero f g = refl
+total-plus (suc n) f g = omega (arith, total-plus n f g)
+
+-- in either order
+pub total-swap : (n m : ℕ) (f : ℕ → ℕ → ℕ) → total n (λ i. total m (λ j. f i j)) ≡ total m (λ j. total n (λ i. f i j))
+unfolding total
+total-swap zero m f = sym (total-none m)
+total-swap (suc n) m f = rw (total-swap n m f) (sym (total-plus m (λ j. total n (λ i. f i j)) (λ j. f n j)))
+
+total-append : (n k : ℕ) (f : ℕ → ℕ) → total (n + k) f ≡ total n f + total k (λ j. f (n + j))
+unfolding total
+total-append n zero f = rw (add-zero n, add-zero (total n f))
+total-append n (suc k) f = rw (add-suc n k) (omega (arith, total-append n k f))
+
+-- by two digits
+pub total-digits : (n m : ℕ) (f : ℕ → ℕ) → total (n * m) f ≡ total n (λ i. total m (λ j. f (i * m + j)))
+unfolding total
+total-digits zero m f = rw (zero-mul m)
+total-digits (suc n) m f = rw (suc-mul n m) (total-append (n * m) m f ∙ ap (λ (t : ℕ). t + total m (λ j. f (n * m + j))) (total-digits n m f))
+
+total-scale : (n c : ℕ) (f : ℕ → ℕ) → total n (λ i. c * f i) ≡ c * total n f
+unfolding total
+total-scale zero c f = sym (mul-zero c)
+total-scale (suc n) c f = rw (total-scale n c f) (sym (mul-add c (total n f) (f n)))
+
+total-scale-right : (n c : ℕ) (f : ℕ → ℕ) → total n (λ i. f i * c) ≡ total n f * c
+total-scale-right n c f = total-agree n _ _ (λ i l. mul-comm (f i) c) ∙ (total-scale n c f ∙ mul-comm c (total n f))
+
+bit-and : (a b : Bool) → bit (a && b) ≡ bit a * bit b
+bit-and true b = sym (one-mul (bit b))
+bit-and false b = sym (zero-mul (bit b))
+
+-- the triples that pass three tests, one on each
+pub total-triples : (n : ℕ) (p q r : ℕ → Bool) → total n (λ x. total n (λ y. total n (λ z. bit (p x && (q y && r z))))) ≡ total n (λ x. bit (p x)) * total n (λ y. bit (q y)) * total n (λ z. bit (r z))
+total-triples n p q r =
+    total-agree n _ _ (λ x l. total-agree n _ _ (λ y l. total-agree n _ _ (λ z l. bit-and (p x) (q y && r z)) ∙ total-scale n (bit (p x)) (λ z. bit (q y && r z))) ∙ total-scale n (bit (p x)) (λ y. total n (λ z. bit (q y && r z))))
+    ∙ (total-scale-right n (total n (λ y. total n (λ z. bit (q y && r z)))) (λ x. bit (p x))
+    ∙ (ap (λ (t : ℕ). total n (λ x. bit (p x)) * t) pairs ∙ sym (mul-assoc (total n (λ x. bit (p x))) (total n (λ y. bit (q y))) (total n (λ z. bit (r z))))))
+  where
+    pairs : total n (λ y. total n (λ z. bit (q y && r z))) ≡ total n (λ y. bit (q y)) * total n (λ z. bit (r z))
+    pairs =
+        total-agree n _ _ (λ y l. total-agree n _ _ (λ z l. bit-and (q y) (r z)) ∙ total-scale n (bit (q y)) (λ z. bit (r z)))
+        ∙ total-scale-right n (total n (λ z. bit (r z))) (λ y. bit (q y))
+
+-- the numbers from a on and before b
+module _ (a b : ℕ) where
+  pub count-inside : (n : ℕ) → n ≤ b → total n (λ g. bit (ltb g b && leb a g)) ≡ n - a
+  unfolding total
+  count-inside zero h = omega arith
+  count-inside (suc n) h = rw (count-inside n (omega arith), lt-ltb n b (omega arith)) (one (leb a n) refl)
+    where
+      one : (t : Bool) → leb a n ≡ t → n - a + bit t ≡ suc n - a
+      one true e = omega (arith, leb-true a n e)
+      one false e = omega (arith, leb-false a n e)
+
+  count-more : (k : ℕ) → total (b + k) (λ g. bit (ltb g b && leb a g)) ≡ b - a
+  unfolding total
+  count-more zero = rw (add-zero b) (count-inside b (omega arith))
+  count-more (suc k) = rw (add-suc b k, count-more k, le-ltb (b + k) b (omega arith)) (add-zero (b - a))
+
+  pub count-past : (n : ℕ) → b ≤ n → total n (λ g. bit (ltb g b && leb a g)) ≡ b - a
+  count-past n h =
+      let e : b + (n - b) ≡ n = omega arith in
+      rw e at (count-more (n - b))

@@ -1,0 +1,91 @@
+-- The uniform grid index as a function of a list: document 01, 'The grid index'.
+-- An axis of side F is cut into G intervals of width F / G; the grid cell (gx, gy, gz) has the number (gx * G + gy) * G + gz.
+use mathlib.Core.Path.{_≡_}
+use mathlib.Core.Bool.{Bool, _&&_}
+use mathlib.Core.List.{List, [], _∷_, _++_}
+use Prim.Native.Nat.{ℕ, _+_, _-_, _*_, _/_, _%_, _≤_}
+use lib.Dec.{leb}
+use lib.ListN.{length, getD, take, drop}
+use Rattle.lattice.specs.Sums.{total}
+use Rattle.lattice.specs.Cells.{bit}
+use Rattle.lattice.specs.Shots.{Shot}
+use Rattle.job.specs.Job.{shotAt}
+use Rattle.grid.specs.Numbers.{upTo, keep, joined}
+
+-- interval g of width s, with both its ends, shares a point with the e units from c, with both their ends
+unfoldable pub meets : ℕ → ℕ → ℕ → ℕ → Bool
+meets s g c e = leb (g * s) (c + e) && leb c ((g + 1) * s)
+
+-- the closed box of a grid cell shares a point with the closed cube of a shot
+abbrev pub touches : ℕ → ℕ → ℕ → ℕ → Shot → Bool
+touches s gx gy gz t = meets s gx (t .x) (t .edge) && (meets s gy (t .y) (t .edge) && meets s gz (t .z) (t .edge))
+
+-- the same by the number of the grid cell
+abbrev pub touchesCell : ℕ → ℕ → ℕ → Shot → Bool
+touchesCell F G cell t = touches (F / G) (cell / G / G) (cell / G % G) (cell % G) t
+
+abbrev pub shotCount : List ℕ → ℕ
+shotCount coords = length coords / 3
+
+-- the shots that pass a test, by their numbers, rising
+abbrev pub shotsThat : (Shot → Bool) → ℕ → List ℕ → List ℕ
+shotsThat f E coords = keep (λ i. f (shotAt E coords i)) (upTo (shotCount coords))
+
+-- shot number i meets interval g of an axis: 0 is x, 1 is y, 2 is z
+abbrev pub meetsOn : ℕ → ℕ → ℕ → ℕ → List ℕ → ℕ → Bool
+meetsOn axis s g E coords i = meets s g (getD coords (3 * i + axis) 0) E
+
+-- the run of a grid cell: the shots that belong to it
+unfoldable pub runOf : ℕ → ℕ → ℕ → List ℕ → ℕ → List ℕ
+runOf F E G coords cell = shotsThat (touchesCell F G cell) E coords
+
+-- where the first n runs of a series start, counted from the first run entry
+unfoldable pub starts : (ℕ → List ℕ) → ℕ → List ℕ
+starts run n = joined n λ cell. length (joined cell run) ∷ []
+
+-- the starting places of the runs, the last being the number of pairs; then the runs
+unfoldable pub indexOf : ℕ → ℕ → ℕ → List ℕ → List ℕ
+indexOf F E G coords = starts (runOf F E G coords) (G * G * G + 1) ++ joined (G * G * G) (runOf F E G coords)
+
+-- pairs of a grid cell and a shot that belongs to it
+unfoldable pub pairs : ℕ → ℕ → ℕ → List ℕ → ℕ
+pairs F E G coords = total (G * G * G) λ cell. total (shotCount coords) λ i. bit (touchesCell F G cell (shotAt E coords i))
+
+-- the entries that the index needs
+unfoldable pub need : ℕ → ℕ → ℕ → List ℕ → ℕ
+need F E G coords = G * G * G + 1 + pairs F E G coords
+
+-- how many of the G intervals of width s a span meets
+abbrev pub spanOf : ℕ → ℕ → ℕ → ℕ → ℕ
+spanOf G s c e = total G λ g. bit (meets s g c e)
+
+-- how many grid cells shot number i belongs to
+abbrev pub pairsOf : ℕ → ℕ → ℕ → List ℕ → ℕ → ℕ
+pairsOf F E G coords i = total (G * G * G) λ cell. bit (touchesCell F G cell (shotAt E coords i))
+
+-- the shots that touch slab gx: those that belong to some grid cell (gx, gy, gz)
+abbrev pub touchesSlab : ℕ → ℕ → Shot → Bool
+touchesSlab s gx t = meets s gx (t .x) (t .edge)
+
+unfoldable pub slabOf : ℕ → ℕ → ℕ → List ℕ → ℕ → List ℕ
+slabOf F E G coords gx = shotsThat (touchesSlab (F / G) gx) E coords
+
+-- the shots that touch row number line = gx * G + gy: those that belong to some grid cell (gx, gy, gz)
+unfoldable pub rowOf : ℕ → ℕ → ℕ → List ℕ → ℕ → List ℕ
+rowOf F E G coords line = shotsThat (λ t. meets (F / G) (line / G) (t .x) (t .edge) && meets (F / G) (line % G) (t .y) (t .edge)) E coords
+
+-- a slice that holds the index of a list, and then anything
+pub record Holds (F E G : ℕ) (coords work : List ℕ) : Type 0 where
+  pub rest : List ℕ
+  pub is : work ≡ indexOf F E G coords ++ rest
+
+-- the runs of the grid cells from first on and before last, as they stand in a slice that begins with the starting places of this many cells
+unfoldable pub between : List ℕ → ℕ → ℕ → ℕ → List ℕ
+between work cells first last = take (cells + 1 + getD work last 0 - (cells + 1 + getD work first 0)) (drop (cells + 1 + getD work first 0) work)
+
+-- these starting places are in the slice, in order, and so are the runs between them
+pub record Starts (work : List ℕ) (cells first last : ℕ) : Type 0 where
+  pub rising : first ≤ last
+  pub known : last ≤ cells
+  pub order : getD work first 0 ≤ getD work last 0
+  pub within : cells + 1 + getD work last 0 ≤ length work

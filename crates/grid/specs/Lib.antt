@@ -1,0 +1,4 @@
+pub mod Numbers
+pub mod Grid
+pub mod Cover
+pub mod Filling

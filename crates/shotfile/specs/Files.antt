@@ -1,0 +1,104 @@
+-- A shot file: the header's record, then a record a shot, up to the end of the bytes. Document 01, 'Shot file' and 'When a job is refused'.
+use mathlib.Core.Bool.{Bool, true, false, cond, _&&_}
+use mathlib.Core.List.{List, [], _∷_, _++_}
+use Prim.Native.Nat.{ℕ, zero, suc, _+_, _-_, _/_}
+use lib.Dec.{ltb}
+use lib.ListN.{length}
+use Rattle.job.specs.declared.Refusal.{Refusal}
+use Rattle.job.specs.declared.Refusal.the-variants.{TooManyShots, NoPlace}
+use Rattle.shotfile.specs.declared.record.Fields.{Fields}
+use Rattle.shotfile.specs.declared.record.Taken.{Taken}
+use Rattle.shotfile.specs.declared.record.Taken.the-variants.{Whole, Refused}
+use Rattle.shotfile.specs.declared.reader.Cursor.{Cursor}
+use Rattle.shotfile.specs.declared.reader.Step.{Step}
+use Rattle.shotfile.specs.declared.reader.Step.the-variants.{Shot, Refused as Stopped, End}
+use Rattle.shotfile.specs.Records.{headerAbsent, firstAbsent, recordAt, recordOf, tight}
+
+-- ---- reading
+-- a step takes one record: a shot, with the cursor after it, or a refusal; or there is no record left
+abbrev pub stepOf : Taken → Step
+stepOf (Whole fields end) = Shot (record { at = end; previous = fields })
+stepOf (Refused r) = Stopped r
+
+unfoldable pub stepAt : List ℕ → Cursor → Step
+stepAt s c = cond (ltb (c .at) (length s)) (stepOf (recordAt s (c .at) (c .previous))) End
+
+-- what the rest of a file says: coordinates, or the refusal of its first faulty record
+pub data Rest : Type 0 where
+  shots : List ℕ → Rest
+  faulty : Refusal → Rest
+
+-- a shot and then the rest
+abbrev pub withShot : Fields → Rest → Rest
+withShot f (shots cs) = shots (f .first ∷ f .second ∷ f .third ∷ cs)
+withShot f (faulty r) = faulty r
+
+abbrev pub onStep : Step → (Cursor → Rest) → Rest
+onStep (Shot c) next = withShot (c .previous) (next c)
+onStep (Stopped r) next = faulty r
+onStep End next = shots []
+
+-- the shots from a cursor on, where `left` more are allowed and `places` of the coordinate slice are free:
+-- refusals 2, 3, 4, 5 in this order on each record, and the first faulty record decides
+unfoldable pub shotsFrom : ℕ → ℕ → List ℕ → Cursor → Rest
+shotsFrom zero places s c = cond (ltb (c .at) (length s)) (faulty (TooManyShots (c .at))) (shots [])
+shotsFrom (suc left) places s c =
+    cond (ltb (c .at) (length s))
+    (cond (ltb places 3) (faulty (NoPlace (c .at))) (onStep (stepAt s c) (shotsFrom left (places - 3) s)))
+    (shots [])
+
+-- a file: the settings of its header and the coordinates of its shots, or its refusal
+pub data File : Type 0 where
+  file : Fields → List ℕ → File
+  refused : Refusal → File
+
+abbrev pub withSettings : Fields → Rest → File
+withSettings f (shots cs) = file f cs
+withSettings f (faulty r) = refused r
+
+-- the cursor at the first shot
+abbrev pub firstShot : ℕ → Cursor
+firstShot at = record { at = at; previous = firstAbsent }
+
+abbrev pub onHeader : Taken → (ℕ → Rest) → File
+onHeader (Whole f end) rest = withSettings f (rest end)
+onHeader (Refused r) rest = refused r
+
+-- at most 4,096 shots
+unfoldable pub fileIn : ℕ → List ℕ → File
+fileIn places s = onHeader (recordAt s 0 headerAbsent) (λ end. shotsFrom 4096 places s (firstShot end))
+
+-- the coordinates of the next n shots
+abbrev pub onShot : {A : Type 0} → Step → A → (Cursor → A) → A
+onShot (Shot c) none next = next c
+onShot (Stopped r) none next = none
+onShot End none next = none
+
+unfoldable pub nextShots : ℕ → List ℕ → Cursor → List ℕ
+nextShots zero s c = []
+nextShots (suc n) s c = onShot (stepAt s c) [] (λ c'. c' .previous .first ∷ c' .previous .second ∷ c' .previous .third ∷ nextShots n s c')
+
+-- ---- writing: the shortest form
+-- the records of shots, after a shot with these coordinates
+unfoldable pub shotRecords : Fields → List ℕ → List ℕ
+shotRecords previous [] = []
+shotRecords previous (x ∷ []) = []
+shotRecords previous (x ∷ y ∷ []) = []
+shotRecords previous (x ∷ y ∷ z ∷ rest) =
+    recordOf previous (record { first = x; second = y; third = z }) ++ shotRecords (record { first = x; second = y; third = z }) rest
+
+unfoldable pub fileOf : ℕ → ℕ → ℕ → List ℕ → List ℕ
+fileOf F E G coords = recordOf headerAbsent (record { first = F; second = E; third = G }) ++ shotRecords firstAbsent coords
+
+-- no field of the next n records says what its absence would mean
+unfoldable pub tightFrom : ℕ → List ℕ → Cursor → Bool
+tightFrom zero s c = true
+tightFrom (suc n) s c = tight s (c .at) (c .previous) && onShot (stepAt s c) true (tightFrom n s)
+
+-- a file is in its shortest form if no field of its header and of its shots says what its absence would mean
+unfoldable pub shortest : List ℕ → Bool
+shortest s = tight s 0 headerAbsent && onRecord (recordAt s 0 headerAbsent)
+  where
+    onRecord : Taken → Bool
+    onRecord (Whole f end) = tightFrom (length s) s (firstShot end)
+    onRecord (Refused r) = false

@@ -1,0 +1,37 @@
+-- What a sweep has found: the sums of the corners met so far, and the lent buffer with as many of their records as it has room for.
+use mathlib.Core.Bool.{cond}
+use mathlib.Core.List.{List, [], _∷_, _++_}
+use Prim.Native.Nat.{ℕ, _+_, _*_, _/_}
+use lib.Dec.{ltb}
+use lib.ListN.{length, take, drop}
+use Rattle.lattice.specs.Pattern.{ofByte, corner}
+use Rattle.lattice.specs.Listing.{Corner, recordOf}
+use Rattle.lattice.specs.CornerSums.{added}
+use Rattle.lattice.specs.declared.sums.CornerSums.{CornerSums}
+
+abbrev pub at : ℕ → ℕ → ℕ → ℕ → Corner
+at x y z p = record { x = x; y = y; z = z; pattern = p }
+
+-- the point of pattern p, if it is a corner
+unfoldable pub spot : ℕ → ℕ → ℕ → ℕ → List Corner
+spot x y z p = cond (corner (ofByte p)) (at x y z p ∷ []) []
+
+-- the buffer with record n, where there is room for it
+unfoldable pub stored : List ℕ → ℕ → List ℕ → List ℕ
+stored b n r = cond (ltb n (length b / 7)) (take (7 * n) b ++ (r ++ drop (7 * n + 7) b)) b
+
+pub record Found : Type 0 where
+  pub sums : CornerSums
+  pub bytes : List ℕ
+
+abbrev pub state : CornerSums → List ℕ → Found
+state t b = record { sums = t; bytes = b }
+
+-- one corner more
+unfoldable pub meet : Found → Corner → Found
+meet f v = state (added (f .sums) v) (stored (f .bytes) (f .sums .corners) (recordOf v))
+
+-- corner after corner
+unfoldable pub found : Found → List Corner → Found
+found f [] = f
+found f (v ∷ vs) = found (meet f v) vs
