@@ -1,0 +1,131 @@
+-- How the answers of the two calls follow from the checks, the index and the sweep.
+use mathlib.Core.Path.{_≡_, refl, sym, _∙_, ap, ap₂, subst}
+use mathlib.Core.Bool.{Bool, true, false, cond}
+use mathlib.Core.List.{List, [], _∷_, _++_}
+use Prim.Native.Nat.{ℕ, _+_, _*_, _/_, _≤_, _<_}
+use native.Mathlib.Omega.{arith}
+use lib.Dec.{ltb}
+use lib.IntN.{ℤ, pos, natAbs}
+use lib.ListN.{length, drop}
+use borrow.Author.Tests.{lt-ltb, le-ltb, ltb-false}
+use Rattle.lattice.specs.Cells.{Cells, Within}
+use Rattle.lattice.specs.Listing.{corners, cornerCount, listing, bytes, cornerSum}
+use Rattle.lattice.specs.CornerSums.{sumsOf, totalsOf, Whole}
+use Rattle.lattice.specs.declared.sums.CornerSums.{CornerSums}
+use Rattle.lattice.specs.declared.sums.Totals.{Totals}
+use Rattle.lattice.proofs.Agreement.{corner-sums}
+use Rattle.lattice.proofs.ListingLaws.{length-corners}
+use Rattle.job.specs.Job.{Valid}
+use Rattle.job.specs.Checking.{checked, andThen}
+use Rattle.job.specs.declared.Refusal.{Refusal}
+use Rattle.job.specs.declared.Refusal.the-variants.{ShortWork, ShortListing}
+use Rattle.job.specs.declared.Checked.{Checked}
+use Rattle.job.specs.declared.Checked.the-variants.{Accepted, Refused}
+use Rattle.job.proofs.Conditions.{accepted-valid, valid-within}
+use Rattle.grid.specs.Grid.{indexOf, need, Holds}
+use Rattle.tally.specs.Found.{state, found}
+use Rattle.tally.proofs.Result.{found-sums, found-bytes}
+use Rattle.measure.specs.Answers.{solid, measureChecked, listChecked, shortWork, shortListing, answerOf, measureAnswer, listAnswer, onChecked, workAfter, listingAfter}
+use Rattle.measure.specs.declared.Measured.{Measured}
+use Rattle.measure.specs.declared.Measured.the-variants.{Quote, Refused as Unmeasured}
+
+-- ---- the checks and the index
+module _ (F E G : ℕ) (coords work : List ℕ) where
+  -- a refused list
+  pub refused-checked : {c : Checked} (r : Refusal) → c ≡ checked F E G coords → c ≡ Refused r → c ≡ measureChecked F E G coords (length work)
+  unfolding measureChecked
+  refused-checked r e k = k ∙ ap (λ d. andThen d (shortWork F E G coords (length work))) (sym k ∙ e)
+
+  pub refused-work : (r : Refusal) → Refused r ≡ measureChecked F E G coords (length work) → work ≡ workAfter F E G coords work
+  unfolding workAfter
+  refused-work r e = ap (λ d. onChecked d work (indexOf F E G coords ++ drop (need F E G coords) work)) e
+
+  -- an accepted list, and a work slice that is too short or long enough
+  module _ (accepted : checked F E G coords ≡ Accepted) where
+    pub valid : Valid F E G coords
+    valid = accepted-valid F E G coords .0 accepted
+
+    pub short-checked : length work < need F E G coords → Refused (ShortWork (need F E G coords)) ≡ measureChecked F E G coords (length work)
+    unfolding measureChecked
+    short-checked h = sym (ap (λ d. andThen d (shortWork F E G coords (length work))) accepted ∙ ap (λ b. cond b (Refused (ShortWork (need F E G coords))) Accepted) (lt-ltb (length work) (need F E G coords) h))
+
+    pub long-checked : need F E G coords ≤ length work → Accepted ≡ measureChecked F E G coords (length work)
+    unfolding measureChecked
+    long-checked h = sym (ap (λ d. andThen d (shortWork F E G coords (length work))) accepted ∙ ap (λ b. cond b (Refused (ShortWork (need F E G coords))) Accepted) (le-ltb (length work) (need F E G coords) h))
+
+  pub long-work : {after : List ℕ} → Accepted ≡ measureChecked F E G coords (length work) → after ≡ indexOf F E G coords ++ drop (need F E G coords) work → after ≡ workAfter F E G coords work
+  unfolding workAfter
+  long-work e k = k ∙ ap (λ d. onChecked d work (indexOf F E G coords ++ drop (need F E G coords) work)) e
+
+  -- what an accepted list leaves is its index
+  pub accepted-list : measureChecked F E G coords (length work) ≡ Accepted → Valid F E G coords
+  unfolding measureChecked
+  accepted-list e = accepted-valid F E G coords .0 (first (checked F E G coords) e)
+    where
+      first : (c : Checked) → andThen c (shortWork F E G coords (length work)) ≡ Accepted → c ≡ Accepted
+      first Accepted k = refl
+      first (Refused r) k = k
+
+  pub accepted-holds : measureChecked F E G coords (length work) ≡ Accepted → {after : List ℕ} → after ≡ workAfter F E G coords work → Holds F E G coords after
+  unfolding workAfter
+  accepted-holds e k = record {
+    rest = drop (need F E G coords) work;
+    is = k ∙ ap (λ d. onChecked d work (indexOf F E G coords ++ drop (need F E G coords) work)) e;
+  }
+
+-- ---- the sums of a sweep are the totals
+module _ (n : ℕ) (s : Cells) (within : Within n s) where
+  nonnegative : {z : ℤ} {m : ℕ} → z ≡ pos m → z ≡ pos (natAbs z)
+  nonnegative e = e ∙ ap (λ z. pos (natAbs z)) (sym e)
+
+  pub swept-nonnegative : {t : CornerSums} → t ≡ sumsOf (corners n s) → (t .volume ≡ pos (natAbs (t .volume))) × (t .area ≡ pos (natAbs (t .area))) × (t .edge ≡ pos (natAbs (t .edge)))
+  unfolding sumsOf
+  swept-nonnegative e = (
+    nonnegative (ap (λ t. t .volume) e ∙ corner-sums n s within .volume-is),
+    nonnegative (ap (λ t. t .area) e ∙ corner-sums n s within .area-is),
+    nonnegative (ap (λ t. t .edge) e ∙ corner-sums n s within .edge-is),
+  )
+
+  pub swept-totals : {t : CornerSums} {r : Totals} → t ≡ sumsOf (corners n s) → Whole t r → r ≡ totalsOf n s
+  unfolding sumsOf totalsOf
+  swept-totals {t} {r} e h = λ i. record {
+    volume = ap natAbs (sym (h .volume-is) ∙ ap (λ t. t .volume) e ∙ corner-sums n s within .volume-is) i;
+    area = ap natAbs (sym (h .area-is) ∙ ap (λ t. t .area) e ∙ corner-sums n s within .area-is) i;
+    edge = ap natAbs (sym (h .edge-is) ∙ ap (λ t. t .edge) e ∙ corner-sums n s within .edge-is) i;
+    corners = (sym (h .corners-is) ∙ ap (λ t. t .corners) e ∙ length-corners n s) i;
+  }
+
+-- what a sweep found, apart
+pub swept-sums : {t : CornerSums} {after : List ℕ} (before : List ℕ) (n : ℕ) (s : Cells) → state t after ≡ found (state (sumsOf []) before) (corners n s) → t ≡ sumsOf (corners n s)
+swept-sums before n s e = ap (λ f. f .sums) e ∙ found-sums (corners n s) before
+
+pub swept-listing : {t : CornerSums} {after : List ℕ} (before : List ℕ) (n : ℕ) (s : Cells) → 7 * cornerCount n s ≤ length before → state t after ≡ found (state (sumsOf []) before) (corners n s)
+    → after ≡ listing n s ++ drop (7 * cornerCount n s) before
+swept-listing before n s h e =
+    ap (λ f. f .bytes) e
+    ∙ found-bytes (corners n s) before (subst (λ (k : ℕ). 7 * k ≤ length before) (sym (length-corners n s)) h)
+    ∙ ap (λ k. listing n s ++ drop (7 * k) before) (length-corners n s)
+
+-- ---- a listing buffer that is too short or long enough
+module _ (n : ℕ) (s : Cells) (before : List ℕ) where
+  pub short-listing : {c : ℕ} → c ≡ cornerCount n s → length before / 7 < c → Unmeasured (ShortListing c) ≡ answerOf (andThen Accepted (shortListing n s (length before))) n s
+  short-listing e h =
+      ap (λ c. Unmeasured (ShortListing c)) e
+      ∙ ap (λ b. answerOf (cond b (Refused (ShortListing (cornerCount n s))) Accepted) n s) (sym (lt-ltb (length before) (7 * cornerCount n s) (omega (arith, e))))
+
+  pub short-kept : {c : ℕ} → c ≡ cornerCount n s → length before / 7 < c
+      → before ≡ onChecked (andThen Accepted (shortListing n s (length before))) before (listing n s ++ drop (7 * cornerCount n s) before)
+  short-kept e h =
+      ap (λ b. onChecked (cond b (Refused (ShortListing (cornerCount n s))) Accepted) before (listing n s ++ drop (7 * cornerCount n s) before))
+      (sym (lt-ltb (length before) (7 * cornerCount n s) (omega (arith, e))))
+
+  module _ (h : 7 * cornerCount n s ≤ length before) where
+    pub long-listing : {t : Totals} → t ≡ totalsOf n s → Quote t ≡ answerOf (andThen Accepted (shortListing n s (length before))) n s
+    long-listing e =
+        ap Quote e
+        ∙ ap (λ b. answerOf (cond b (Refused (ShortListing (cornerCount n s))) Accepted) n s) (sym (le-ltb (length before) (7 * cornerCount n s) h))
+
+    pub long-stored : {after : List ℕ} → after ≡ listing n s ++ drop (7 * cornerCount n s) before
+        → after ≡ onChecked (andThen Accepted (shortListing n s (length before))) before (listing n s ++ drop (7 * cornerCount n s) before)
+    long-stored e =
+        e ∙ ap (λ b. onChecked (cond b (Refused (ShortListing (cornerCount n s))) Accepted) before (listing n s ++ drop (7 * cornerCount n s) before)) (sym (le-ltb (length before) (7 * cornerCount n s) h))

@@ -1,0 +1,3 @@
+pub mod AnswerLaws
+pub mod AcceptedLaws
+pub mod Condition3
