@@ -3,6 +3,7 @@
 use crate::cells::Cells;
 use crate::list::{refusal, List, Refusal};
 use crate::{corners, grid, shotfile, totals};
+use std::cell::OnceCell;
 
 /// A call's answer: refusal number (0 if accepted), detail, then the call's numbers (all 0 if refused).
 pub type Answer<const N: usize> = [u64; N];
@@ -12,16 +13,6 @@ fn refused<const N: usize>(refusal: Refusal) -> Answer<N> {
     answer[0] = refusal.number;
     answer[1] = refusal.detail;
     answer
-}
-
-/// Refusals 1, 2, 6 to 9 and 10.
-fn check_with_work(list: &List, work: &[u32]) -> Result<(), Refusal> {
-    list.check()?;
-    let need = grid::need(list);
-    if work.len() < need {
-        return Err(refusal(10, need));
-    }
-    Ok(())
 }
 
 /// An accepted list's numbers: volume, area, edge length and corner count, with the listing beside them.
@@ -40,33 +31,70 @@ pub fn measured(list: &List) -> Measured {
     Measured { numbers: [totals.volume, totals.area, totals.edge, corners.len() as u64], listing }
 }
 
-/// The measuring call; success leaves the index in the work slice.
+/// The calls on one list, which is counted once for all of them.
+pub struct Calls<'a> {
+    list: &'a List,
+    measured: OnceCell<Measured>,
+}
+
+impl<'a> Calls<'a> {
+    pub fn on(list: &'a List) -> Calls<'a> {
+        Calls { list, measured: OnceCell::new() }
+    }
+
+    /// The list's numbers and its listing; only for a list that `check` accepts.
+    pub fn measured(&self) -> &Measured {
+        self.measured.get_or_init(|| measured(self.list))
+    }
+
+    /// The measuring call; success leaves the index in the work slice.
+    pub fn measure(&self, work: &mut [u32]) -> Answer<6> {
+        match self.check_with(work) {
+            Err(refusal) => refused(refusal),
+            Ok(()) => self.accept(work),
+        }
+    }
+
+    /// The listing call; refusal 11 leaves the index in the work slice and the listing buffer as it was.
+    pub fn list(&self, work: &mut [u32], listing: &mut [u8]) -> Answer<6> {
+        if let Err(refusal) = self.check_with(work) {
+            return refused(refusal);
+        }
+        let answer = self.accept(work);
+        let records = &self.measured().listing;
+        if listing.len() < records.len() {
+            return refused(refusal(11, records.len() / 7));
+        }
+        listing[..records.len()].copy_from_slice(records);
+        answer
+    }
+
+    /// Refusals 1, 2, 6 to 9 and 10.
+    fn check_with(&self, work: &[u32]) -> Result<(), Refusal> {
+        self.list.check()?;
+        let need = grid::need(self.list);
+        if work.len() < need {
+            return Err(refusal(10, need));
+        }
+        Ok(())
+    }
+
+    fn accept(&self, work: &mut [u32]) -> Answer<6> {
+        let index = grid::index(self.list);
+        work[..index.len()].copy_from_slice(&index);
+        let [volume, area, edge, corners] = self.measured().numbers;
+        [0, 0, volume, area, edge, corners]
+    }
+}
+
+/// The measuring call on a list.
 pub fn measure(list: &List, work: &mut [u32]) -> Answer<6> {
-    match check_with_work(list, work) {
-        Err(refusal) => refused(refusal),
-        Ok(()) => accept(list, work, &measured(list)),
-    }
+    Calls::on(list).measure(work)
 }
 
-/// The listing call; refusal 11 leaves the index in the work slice and the listing buffer as it was.
+/// The listing call on a list.
 pub fn list(list: &List, work: &mut [u32], listing: &mut [u8]) -> Answer<6> {
-    if let Err(refusal) = check_with_work(list, work) {
-        return refused(refusal);
-    }
-    let measured = measured(list);
-    let answer = accept(list, work, &measured);
-    if listing.len() < measured.listing.len() {
-        return refused(refusal(11, measured.listing.len() / 7));
-    }
-    listing[..measured.listing.len()].copy_from_slice(&measured.listing);
-    answer
-}
-
-fn accept(list: &List, work: &mut [u32], measured: &Measured) -> Answer<6> {
-    let index = grid::index(list);
-    work[..index.len()].copy_from_slice(&index);
-    let [volume, area, edge, corners] = measured.numbers;
-    [0, 0, volume, area, edge, corners]
+    Calls::on(list).list(work, listing)
 }
 
 /// The reader; a refusal stores nothing.

@@ -3,7 +3,7 @@
 //! The same seed gives the same inputs on every machine.
 
 use crate::list::{List, MOST_SHOTS};
-use crate::shotfile;
+use crate::{grid, shotfile};
 
 /// A small generator of random numbers (splitmix64).
 #[derive(Clone)]
@@ -102,7 +102,7 @@ pub fn damaged(random: &mut Random, size: Size) -> List {
         match random.within(0, 6) {
             0 => list.field = random.one_of(&[0, 1025, 1026, 2048, 32768, 65535]),
             1 => list.edge = random.one_of(&[0, list.field.wrapping_add(1), 1025, 65535]),
-            2 => list.grid = random.one_of(&[0, 65, 64, 3, 7, 65535, list.grid + 1]),
+            2 => list.grid = random.one_of(&[0, 65, 64, 3, 7, 65535, list.grid.wrapping_add(1)]),
             3 => drop(list.coords.pop()),
             4 => list.coords.push(random.next() as u16),
             5 => leave_field(random, &mut list),
@@ -210,13 +210,37 @@ fn flip(random: &mut Random, file: &mut [u8], most: usize) {
     }
 }
 
-/// A length about `need`: short by a little, exact, longer, or anything below.
-pub fn length_about(random: &mut Random, need: usize) -> usize {
-    match random.within(0, 9) {
-        0 => need.saturating_sub(1),
-        1 => random.within(0, need),
-        2 | 3 => need,
-        4 => need + 1,
-        _ => need + random.within(0, 40),
+/// Makes the grid of an accepted list coarser until its index needs at most `entries`, as far as that goes.
+pub fn coarsen(list: &mut List, entries: usize) {
+    while list.grid > 1 && grid::need(list) > entries {
+        list.grid = (1..list.grid).rev().find(|g| list.field % g == 0).unwrap_or(1);
+    }
+}
+
+/// The length of a lent buffer: so many places more or fewer than the call needs, or a number of its own.
+#[derive(Clone, Copy, Debug, PartialEq, Eq)]
+pub enum Length {
+    About(i64),
+    Fixed(usize),
+}
+
+impl Length {
+    /// The length where a call needs so many places.
+    pub fn places(self, need: usize) -> usize {
+        match self {
+            Length::About(more) => (need as i64 + more).max(0) as usize,
+            Length::Fixed(places) => places,
+        }
+    }
+
+    /// Mostly enough, often exact, now and then short.
+    pub fn any(random: &mut Random) -> Length {
+        match random.within(0, 11) {
+            0 => Length::About(-1),
+            1 => Length::About(-(random.within(1, 9) as i64)),
+            2 => Length::Fixed(random.within(0, 20)),
+            3..=6 => Length::About(0),
+            _ => Length::About(random.within(1, 30) as i64),
+        }
     }
 }
