@@ -1,6 +1,9 @@
 // A stand-in for libcapi.a, made of the fuzz target's oracle: it lets the wrapper, the differential tests, the fuzz
 // target and the benchmarks be tried without the proved library, and it tries the tests themselves. Compiled with
 // -DFAULT=n it has fault n, and the differential tests must find it.
+
+// A name of its own, so that a program with the oracle inside it can link the stand-in.
+#define oracle heqdanu_standin
 #include "../../fuzz/oracle.hpp"
 #include "../../include/heqdanu.h"
 

@@ -1,0 +1,73 @@
+"""Peer: a NumPy painter. One byte a cell, painted cube by cube with slices, then counted plane by plane.
+
+Called and answering as the other programs are (common.hpp): numpy_painter.py FILE SECONDS
+"""
+
+import re
+import sys
+import time
+
+import numpy as np
+
+
+def read_list(path):
+    data = open(path, "rb").read()
+    header, shot, shots, at = [1024, 16, 8], [0, 0, 0], [], 0
+    while at < len(data):
+        values = shot if at else header
+        bits = data[at]
+        at += 1
+        for bit in range(3):
+            if bits >> bit & 1:
+                values[bit] = data[at] | data[at + 1] << 8
+                at += 2
+        if values is shot:
+            shots.append(tuple(shot))
+    return header[0], header[1], shots
+
+
+def unit_edges(p, q, r, s):
+    odd = p ^ q ^ r ^ s
+    across = (p & s & ~(q | r)) | (q & r & ~(p | s))
+    return np.count_nonzero(odd) + 2 * np.count_nonzero(across)
+
+
+def count_plane(below, above):
+    a, b, c, d = below[:-1], below[1:], above[:-1], above[1:]
+    a0, a1, b0, b1 = a[:, :-1], a[:, 1:], b[:, :-1], b[:, 1:]
+    c0, c1, d0, d1 = c[:, :-1], c[:, 1:], d[:, :-1], d[:, 1:]
+    volume = np.count_nonzero(d1)
+    area = np.count_nonzero(d1 ^ b1) + np.count_nonzero(d1 ^ c1) + np.count_nonzero(d1 ^ d0)
+    edge = unit_edges(a1, b1, c1, d1) + unit_edges(b0, b1, d0, d1) + unit_edges(c0, c1, d0, d1)
+    # A point is a corner if the eight cells about it change across every axis.
+    x = (a0 ^ c0) | (a1 ^ c1) | (b0 ^ d0) | (b1 ^ d1)
+    y = (a0 ^ b0) | (a1 ^ b1) | (c0 ^ d0) | (c1 ^ d1)
+    z = (a0 ^ a1) | (b0 ^ b1) | (c0 ^ c1) | (d0 ^ d1)
+    return volume, area, edge, np.count_nonzero(x & y & z)
+
+
+def measure(field, edge, shots):
+    cells = np.zeros((field + 2,) * 3, dtype=bool)
+    for x, y, z in shots:
+        cells[x + 1 : x + 1 + edge, y + 1 : y + 1 + edge, z + 1 : z + 1 + edge] = True
+    totals = np.zeros(4, dtype=np.int64)
+    for x in range(field + 1):
+        totals += count_plane(cells[x], cells[x + 1])
+    return totals
+
+
+def main():
+    field, edge, shots = read_list(sys.argv[1])
+    patience, start, runs = float(sys.argv[2]), time.monotonic(), 0
+    best_wall = best_cpu = 1e300
+    while runs == 0 or time.monotonic() - start < patience:
+        wall, cpu = time.monotonic(), time.process_time()
+        totals = measure(field, edge, shots)
+        best_wall = min(best_wall, time.monotonic() - wall)
+        best_cpu = min(best_cpu, time.process_time() - cpu)
+        runs += 1
+    peak = re.search(r"VmHWM:\s*(\d+)", open("/proc/self/status").read()).group(1)
+    print(*totals, f"{best_wall:.9f} {best_cpu:.9f} {peak} {runs}")
+
+
+main()
