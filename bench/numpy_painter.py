@@ -26,33 +26,43 @@ def read_list(path):
     return header[0], header[1], shots
 
 
+def ones(cells):
+    return np.count_nonzero(cells.view(bool))
+
+
 def unit_edges(p, q, r, s):
-    odd = p ^ q ^ r ^ s
     across = (p & s & ~(q | r)) | (q & r & ~(p | s))
-    return np.count_nonzero(odd) + 2 * np.count_nonzero(across)
+    return ones(p ^ q ^ r ^ s) + 2 * ones(across)
 
 
-def count_plane(below, above):
-    a, b, c, d = below[:-1], below[1:], above[:-1], above[1:]
-    a0, a1, b0, b1 = a[:, :-1], a[:, 1:], b[:, :-1], b[:, 1:]
-    c0, c1, d0, d1 = c[:, :-1], c[:, 1:], d[:, :-1], d[:, 1:]
-    volume = np.count_nonzero(d1)
-    area = np.count_nonzero(d1 ^ b1) + np.count_nonzero(d1 ^ c1) + np.count_nonzero(d1 ^ d0)
+def count_plane(below, above, width):
+    """Counts at the lattice points of one plane across x.
+
+    Planes are flat, with a margin of zeros, so one step on z is one place and one step on y is one row; the points
+    between the rows see nothing but margin.
+    """
+    near, far = slice(0, -width - 1), slice(1, -width)
+    near_y, far_y = slice(width, -1), slice(width + 1, None)
+    a0, a1, b0, b1 = below[near], below[far], below[near_y], below[far_y]
+    c0, c1, d0, d1 = above[near], above[far], above[near_y], above[far_y]
+    area = ones(d1 ^ b1) + ones(d1 ^ c1) + ones(d1 ^ d0)
     edge = unit_edges(a1, b1, c1, d1) + unit_edges(b0, b1, d0, d1) + unit_edges(c0, c1, d0, d1)
     # A point is a corner if the eight cells about it change across every axis.
     x = (a0 ^ c0) | (a1 ^ c1) | (b0 ^ d0) | (b1 ^ d1)
     y = (a0 ^ b0) | (a1 ^ b1) | (c0 ^ d0) | (c1 ^ d1)
     z = (a0 ^ a1) | (b0 ^ b1) | (c0 ^ c1) | (d0 ^ d1)
-    return volume, area, edge, np.count_nonzero(x & y & z)
+    return ones(d1), area, edge, ones(x & y & z)
 
 
 def measure(field, edge, shots):
-    cells = np.zeros((field + 2,) * 3, dtype=bool)
+    width = field + 2
+    cells = np.zeros((width,) * 3, dtype=np.uint8)
     for x, y, z in shots:
-        cells[x + 1 : x + 1 + edge, y + 1 : y + 1 + edge, z + 1 : z + 1 + edge] = True
+        cells[x + 1 : x + 1 + edge, y + 1 : y + 1 + edge, z + 1 : z + 1 + edge] = 1
+    planes = cells.reshape(width, -1)
     totals = np.zeros(4, dtype=np.int64)
     for x in range(field + 1):
-        totals += count_plane(cells[x], cells[x + 1])
+        totals += count_plane(planes[x], planes[x + 1], width)
     return totals
 
 

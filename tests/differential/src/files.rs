@@ -26,7 +26,7 @@ impl FileCase {
             _ => 3 * file.len() + random.within(0, 4),
         };
         let answer = if random.once_in(20) { Length::any(random) } else { Length::About(0) };
-        FileCase { file, places, answer, seed: random.next() }
+        FileCase { file, places, answer, seed: random.number() }
     }
 }
 
@@ -39,14 +39,7 @@ impl Case for FileCase {
         let (c, a) = (our_coords.slice(), our_answer.slice());
         // SAFETY: each pointer comes from a slice with the length beside it, and no two of them overlap.
         let written = unsafe {
-            raw::heqdanu_read(
-                self.file.as_ptr(),
-                self.file.len(),
-                c.as_mut_ptr(),
-                c.len(),
-                a.as_mut_ptr(),
-                a.len(),
-            )
+            raw::heqdanu_read(self.file.as_ptr(), self.file.len(), c.as_mut_ptr(), c.len(), a.as_mut_ptr(), a.len())
         };
         let expected = expect(answer.slice(), || calls::read(&self.file, coords.slice()));
         same_answer("read", &[written.into()], &[expected])?;

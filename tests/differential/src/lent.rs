@@ -20,7 +20,7 @@ macro_rules! junk {
     ($($number:ty)*) => {$(
         impl Junk for $number {
             fn junk(random: &mut Random) -> Self {
-                random.next() as $number
+                random.number() as $number
             }
         }
     )*};

@@ -32,14 +32,14 @@ impl ListCase {
             listing: Length::any(random),
             bytes: Length::any(random),
             answer: if random.once_in(20) { Length::any(random) } else { Length::About(0) },
-            seed: random.next(),
+            seed: random.number(),
         }
     }
 
     /// A case with this list and enough room in every buffer.
     pub fn roomy(random: &mut Random, list: List) -> ListCase {
         let more = Length::About(5);
-        ListCase { list, work: more, listing: more, bytes: more, answer: Length::About(2), seed: random.next() }
+        ListCase { list, work: more, listing: more, bytes: more, answer: Length::About(2), seed: random.number() }
     }
 
     /// The work entries and listing bytes that the list needs; 0 where it is refused before they count.

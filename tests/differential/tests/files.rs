@@ -43,7 +43,7 @@ fn every_map_byte() {
         for bytes in 0..8 {
             for shot in [false, true] {
                 let mut file = if shot { vec![0, map] } else { vec![map] };
-                file.extend((0..bytes).map(|_| random.next() as u8));
+                file.extend((0..bytes).map(|_| random.number() as u8));
                 hold(FileCase::any(&mut random, file));
             }
         }

@@ -119,10 +119,10 @@ impl Cells {
 
 /// Sets the bits from `low` up to, but not including, `high`.
 fn set_range(row: &mut [u64], low: usize, high: usize) {
-    for at in low / 64..=(high - 1) / 64 {
+    for (at, word) in row.iter_mut().enumerate().take((high - 1) / 64 + 1).skip(low / 64) {
         let from = low.max(at * 64) - at * 64;
         let to = high.min(at * 64 + 64) - at * 64;
-        row[at] |= (u64::MAX >> (64 - (to - from))) << from;
+        *word |= (u64::MAX >> (64 - (to - from))) << from;
     }
 }
 

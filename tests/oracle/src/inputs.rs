@@ -14,7 +14,7 @@ impl Random {
         Random(seed)
     }
 
-    pub fn next(&mut self) -> u64 {
+    pub fn number(&mut self) -> u64 {
         self.0 = self.0.wrapping_add(0x9e37_79b9_7f4a_7c15);
         let mut z = self.0;
         z = (z ^ z >> 30).wrapping_mul(0xbf58_476d_1ce4_e5b9);
@@ -24,7 +24,7 @@ impl Random {
 
     /// A number from `low` to `high`, both included.
     pub fn within(&mut self, low: usize, high: usize) -> usize {
-        low + (self.next() % (high - low + 1) as u64) as usize
+        low + (self.number() % (high - low + 1) as u64) as usize
     }
 
     /// True once in `n` times.
@@ -59,7 +59,7 @@ pub fn accepted(random: &mut Random, size: Size) -> List {
 
 /// A list with the given field and edge that every call accepts, given room.
 pub fn accepted_with(random: &mut Random, field: usize, edge: usize, most_shots: usize) -> List {
-    let grids: Vec<usize> = (1..=field.min(64)).filter(|g| field % g == 0).collect();
+    let grids: Vec<usize> = (1..=field.min(64)).filter(|g| field.is_multiple_of(*g)).collect();
     let grid = random.one_of(&grids);
     let shots = if random.once_in(40) { 0 } else { random.within(1, most_shots) };
     let coords = coords(random, field, edge, grid, shots);
@@ -104,7 +104,7 @@ pub fn damaged(random: &mut Random, size: Size) -> List {
             1 => list.edge = random.one_of(&[0, list.field.wrapping_add(1), 1025, 65535]),
             2 => list.grid = random.one_of(&[0, 65, 64, 3, 7, 65535, list.grid.wrapping_add(1)]),
             3 => drop(list.coords.pop()),
-            4 => list.coords.push(random.next() as u16),
+            4 => list.coords.push(random.number() as u16),
             5 => leave_field(random, &mut list),
             _ => too_many(random, &mut list),
         }
@@ -168,9 +168,9 @@ pub fn file(random: &mut Random, size: Size) -> Vec<u8> {
         0 => file.truncate(random.within(0, file.len())),
         1 => flip(random, &mut file, 1),
         2 => flip(random, &mut file, 8),
-        3 => file.extend((0..random.within(1, 9)).map(|_| random.next() as u8 & 7).collect::<Vec<u8>>()),
-        4 => file = (0..random.within(0, 60)).map(|_| random.next() as u8).collect(),
-        5 => file = (0..random.within(0, 60)).map(|_| random.next() as u8 & 7).collect(),
+        3 => file.extend((0..random.within(1, 9)).map(|_| random.number() as u8 & 7).collect::<Vec<u8>>()),
+        4 => file = (0..random.within(0, 60)).map(|_| random.number() as u8).collect(),
+        5 => file = (0..random.within(0, 60)).map(|_| random.number() as u8 & 7).collect(),
         _ => {}
     }
     file
@@ -191,7 +191,7 @@ pub fn crowded_file(random: &mut Random) -> Vec<u8> {
         }
     }
     match random.within(0, 5) {
-        0 => file.push(random.next() as u8),
+        0 => file.push(random.number() as u8),
         1 => file.truncate(file.len() - 1),
         2 => flip(random, &mut file, 1),
         3 => file.extend([0, 255, 1]),
@@ -213,7 +213,7 @@ fn flip(random: &mut Random, file: &mut [u8], most: usize) {
 /// Makes the grid of an accepted list coarser until its index needs at most `entries`, as far as that goes.
 pub fn coarsen(list: &mut List, entries: usize) {
     while list.grid > 1 && grid::need(list) > entries {
-        list.grid = (1..list.grid).rev().find(|g| list.field % g == 0).unwrap_or(1);
+        list.grid = (1..list.grid).rev().find(|g| list.field.is_multiple_of(*g)).unwrap_or(1);
     }
 }
 

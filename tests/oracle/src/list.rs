@@ -36,7 +36,7 @@ impl List {
     /// Refusals 1, 2, 6, 7, 8 and 9, in this order: those that depend on the list alone.
     pub fn check(&self) -> Result<(), Refusal> {
         let (field, edge, grid) = (self.field as usize, self.edge as usize, self.grid as usize);
-        if self.coords.len() % 3 != 0 {
+        if !self.coords.len().is_multiple_of(3) {
             return Err(refusal(1, 0));
         }
         if self.coords.len() / 3 > MOST_SHOTS {
@@ -48,7 +48,7 @@ impl List {
         if !(1..=field).contains(&edge) {
             return Err(refusal(7, 0));
         }
-        if !(1..=64).contains(&grid) || field % grid != 0 {
+        if !(1..=64).contains(&grid) || !field.is_multiple_of(grid) {
             return Err(refusal(8, 0));
         }
         match self.shots().iter().position(|shot| shot.iter().any(|c| c + edge > field)) {

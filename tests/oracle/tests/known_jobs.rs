@@ -8,6 +8,9 @@ fn job(field: u16, edge: u16, grid: u16, shots: &[[u16; 3]]) -> List {
     List { field, edge, grid, coords: shots.concat() }
 }
 
+/// A job's edge, its shots, and its volume, area, edge length and corners.
+type Known<'a> = (u16, &'a [[u16; 3]], [u64; 4]);
+
 /// The measuring call's answer with plenty of room; the listing call must give the same.
 fn measure(list: &List) -> [u64; 6] {
     let mut work = vec![0; 2_000_000];
@@ -29,7 +32,7 @@ fn the_table_of_known_totals() {
         }
     }
     for grid in [1, 2, 4, 8] {
-        let known: [(u16, &[[u16; 3]], [u64; 4]); 8] = [
+        let known: [Known; 8] = [
             (2, &[], [0, 0, 0, 0]),
             (2, &[[1, 1, 1]], [8, 24, 24, 8]),
             (2, &[[1, 1, 1], [1, 1, 1]], [8, 24, 24, 8]),

@@ -91,7 +91,7 @@ fn what_is_written_reads_back() {
 #[test]
 fn large_fields() {
     let mut random = Random::new(5);
-    for edge in [1, 16, 128, 512, 700, 1000] {
+    for edge in [16, 700] {
         let mut list = accepted_with(&mut random, 1024, edge, 1);
         list.grid = 8;
         list.coords = (0..12_288).map(|_| random.within(0, 1024 - edge) as u16).collect();
