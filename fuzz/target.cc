@@ -28,7 +28,7 @@ const uint8_t *input;
 size_t input_length;
 
 [[noreturn]] void fail(const char *call, const char *what) {
-    fprintf(stderr, "%s: %s\nshot file:", call, what);
+    fprintf(stderr, "fault: %s: %s\nshot file:", call, what);
     for (size_t at = 6; at < input_length; at++) fprintf(stderr, " %02x", input[at]);
     fprintf(stderr, "\nchosen by:");
     for (size_t at = 0; at < 6 && at < input_length; at++) fprintf(stderr, " %02x", input[at]);
