@@ -1,8 +1,8 @@
 // What the benchmark's programs share: reading a workload's shot file, counting over planes of byte cells, timing.
 //
 // A program is called `PROGRAM FILE SECONDS`: it measures the file's list again and again for about SECONDS, at least
-// once, and prints `volume area edge corners WALL CPU PEAK RUNS`: the times of the quickest run in seconds, and the
-// program's peak memory in KiB.
+// once, and prints `volume area edge corners WALL CPU PEAK RUNS`: the quickest run's elapsed time and the runs' mean
+// processor time, in seconds, and the program's peak memory in KiB.
 #ifndef HEQDANU_BENCH_COMMON_HPP
 #define HEQDANU_BENCH_COMMON_HPP
 
@@ -117,21 +117,20 @@ inline long peak_memory() {
 
 // Runs `measure` for about so many seconds and prints its figures and its best times.
 template <class Measure> int report(double patience, Measure measure) {
-    double best_wall = 1e300, best_cpu = 1e300;
-    double start = seconds(CLOCK_MONOTONIC);
+    double best_wall = 1e300;
+    double start = seconds(CLOCK_MONOTONIC), cpu = seconds(CLOCK_PROCESS_CPUTIME_ID);
     Totals totals;
     int runs = 0;
     do {
-        double wall = seconds(CLOCK_MONOTONIC), cpu = seconds(CLOCK_PROCESS_CPUTIME_ID);
+        double wall = seconds(CLOCK_MONOTONIC);
         totals = measure();
         wall = seconds(CLOCK_MONOTONIC) - wall;
-        cpu = seconds(CLOCK_PROCESS_CPUTIME_ID) - cpu;
         if (wall < best_wall) best_wall = wall;
-        if (cpu < best_cpu) best_cpu = cpu;
         runs++;
     } while (seconds(CLOCK_MONOTONIC) - start < patience);
+    cpu = (seconds(CLOCK_PROCESS_CPUTIME_ID) - cpu) / runs;
     printf("%llu %llu %llu %llu %.9f %.9f %ld %d\n", (unsigned long long)totals.volume, (unsigned long long)totals.area,
-           (unsigned long long)totals.edge, (unsigned long long)totals.corners, best_wall, best_cpu, peak_memory(), runs);
+           (unsigned long long)totals.edge, (unsigned long long)totals.corners, best_wall, cpu, peak_memory(), runs);
     return 0;
 }
 

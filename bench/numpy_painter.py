@@ -68,16 +68,16 @@ def measure(field, edge, shots):
 
 def main():
     field, edge, shots = read_list(sys.argv[1])
-    patience, start, runs = float(sys.argv[2]), time.monotonic(), 0
-    best_wall = best_cpu = 1e300
+    patience, start, runs, best = float(sys.argv[2]), time.monotonic(), 0, 1e300
+    cpu = time.process_time()
     while runs == 0 or time.monotonic() - start < patience:
-        wall, cpu = time.monotonic(), time.process_time()
+        wall = time.monotonic()
         totals = measure(field, edge, shots)
-        best_wall = min(best_wall, time.monotonic() - wall)
-        best_cpu = min(best_cpu, time.process_time() - cpu)
+        best = min(best, time.monotonic() - wall)
         runs += 1
+    cpu = (time.process_time() - cpu) / runs
     peak = re.search(r"VmHWM:\s*(\d+)", open("/proc/self/status").read()).group(1)
-    print(*totals, f"{best_wall:.9f} {best_cpu:.9f} {peak} {runs}")
+    print(*totals, f"{best:.9f} {cpu:.9f} {peak} {runs}")
 
 
 main()

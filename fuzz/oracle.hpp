@@ -145,38 +145,49 @@ struct Measured {
     std::vector<uint8_t> listing;
 };
 
-// Counts an accepted list.
-inline Measured measured(const List &list) {
-    static const std::vector<uint8_t> corner = [] {
-        std::vector<uint8_t> table;
-        for (int pattern = 0; pattern < 256; pattern++) table.push_back(Weights(uint8_t(pattern)).corner());
-        return table;
+// The corner table: whether a pattern carries a weight.
+inline const std::vector<uint8_t> &corner_table() {
+    static const std::vector<uint8_t> table = [] {
+        std::vector<uint8_t> made;
+        for (int pattern = 0; pattern < 256; pattern++) made.push_back(Weights(uint8_t(pattern)).corner());
+        return made;
     }();
+    return table;
+}
+
+// Adds what belongs to a lattice point: the cell above it on all axes, the squares and unit edges that start there, and
+// the point itself if it is a corner.
+inline void count_point(const int *point, uint8_t pattern, Measured &result) {
+    auto cell = [&](int bit) { return pattern >> bit & 1; };
+    result.volume += uint64_t(cell(7));
+    result.area += uint64_t((cell(7) != cell(3)) + (cell(7) != cell(5)) + (cell(7) != cell(6)));
+    result.edge += uint64_t(edge_count(cell(1), cell(3), cell(5), cell(7)) + edge_count(cell(2), cell(3), cell(6), cell(7)) +
+                            edge_count(cell(4), cell(5), cell(6), cell(7)));
+    if (!corner_table()[pattern]) return;
+    result.corners++;
+    for (int axis = 0; axis < 3; axis++) {
+        result.listing.push_back(uint8_t(point[axis] & 255));
+        result.listing.push_back(uint8_t(point[axis] >> 8));
+    }
+    result.listing.push_back(pattern);
+}
+
+// Counts an accepted list. Along z the four cells above a point are the four below the next one.
+inline Measured measured(const List &list) {
     Measured result;
     Room room(list);
     for (int x = 0; x <= room.side[0]; x++)
-        for (int y = 0; y <= room.side[1]; y++)
+        for (int y = 0; y <= room.side[1]; y++) {
+            const uint8_t *rows[4];
+            for (int row = 0; row < 4; row++) rows[row] = &room.at(x - 1 + (row >> 1), y - 1 + (row & 1), -1);
+            unsigned pattern = 0;
             for (int z = 0; z <= room.side[2]; z++) {
-                int cell[8];
-                uint8_t pattern = 0;
-                for (int bit = 0; bit < 8; bit++) {
-                    cell[bit] = room.at(x - 1 + (bit >> 2), y - 1 + (bit >> 1 & 1), z - 1 + (bit & 1));
-                    pattern = uint8_t(pattern | cell[bit] << bit);
-                }
-                if (pattern == 0) continue;
-                result.volume += uint64_t(cell[7]);
-                result.area += uint64_t((cell[7] != cell[3]) + (cell[7] != cell[5]) + (cell[7] != cell[6]));
-                result.edge += uint64_t(edge_count(cell[1], cell[3], cell[5], cell[7]) +
-                                        edge_count(cell[2], cell[3], cell[6], cell[7]) +
-                                        edge_count(cell[4], cell[5], cell[6], cell[7]));
-                if (!corner[pattern]) continue;
-                result.corners++;
-                for (int c : {x + room.low[0], y + room.low[1], z + room.low[2]}) {
-                    result.listing.push_back(uint8_t(c & 255));
-                    result.listing.push_back(uint8_t(c >> 8));
-                }
-                result.listing.push_back(pattern);
+                pattern = pattern >> 1 & 0x55;
+                for (int row = 0; row < 4; row++) pattern |= unsigned(rows[row][z + 1]) << (2 * row + 1);
+                int point[3] = {x + room.low[0], y + room.low[1], z + room.low[2]};
+                if (pattern != 0) count_point(point, uint8_t(pattern), result);
             }
+        }
     return result;
 }
 
