@@ -1,6 +1,6 @@
 //! The jobs whose totals the request gives.
 
-use oracle::calls;
+use oracle::calls::{self, Calls};
 use oracle::list::List;
 use oracle::quote::quote;
 
@@ -13,9 +13,9 @@ type Known<'a> = (u16, &'a [[u16; 3]], [u64; 4]);
 
 /// The measuring call's answer with plenty of room; the listing call must give the same.
 fn measure(list: &List) -> [u64; 6] {
-    let mut work = vec![0; 2_000_000];
-    let answer = calls::measure(list, &mut work);
-    assert_eq!(answer, calls::list(list, &mut work, &mut vec![0; 70_000]));
+    let calls = Calls::on(list);
+    let answer = calls.measure(&mut vec![0; 2_000_000]);
+    assert_eq!(answer, calls.list(&mut vec![0; 2_000_000], &mut vec![0; 70_000]));
     answer
 }
 
