@@ -1,0 +1,137 @@
+// What the benchmark's programs share: reading a workload's shot file, counting over planes of byte cells, timing.
+//
+// A program is called `PROGRAM FILE SECONDS`: it measures the file's list again and again for about SECONDS, at least
+// once, and prints `volume area edge corners WALL CPU PEAK RUNS`: the quickest run's elapsed time and the runs' mean
+// processor time, in seconds, and the program's peak memory in KiB.
+#ifndef HEQDANU_BENCH_COMMON_HPP
+#define HEQDANU_BENCH_COMMON_HPP
+
+#include <cstddef>
+#include <cstdint>
+#include <cstdio>
+#include <cstdlib>
+#include <cstring>
+#include <ctime>
+#include <vector>
+
+struct List {
+    uint16_t field = 1024, edge = 16, grid = 8;
+    std::vector<uint16_t> coords;
+
+    size_t shots() const { return coords.size() / 3; }
+};
+
+struct Totals {
+    uint64_t volume = 0, area = 0, edge = 0, corners = 0;
+};
+
+inline std::vector<uint8_t> read_bytes(const char *path) {
+    std::vector<uint8_t> bytes(1 << 16);
+    FILE *file = fopen(path, "rb");
+    if (file == nullptr) {
+        perror(path);
+        exit(2);
+    }
+    bytes.resize(fread(bytes.data(), 1, bytes.size(), file));
+    fclose(file);
+    return bytes;
+}
+
+// The list of a whole shot file.
+inline List read_list(const char *path) {
+    std::vector<uint8_t> bytes = read_bytes(path);
+    List list;
+    uint16_t header[3] = {1024, 16, 8}, shot[3] = {0, 0, 0};
+    size_t at = 0;
+    auto record = [&](uint16_t *values) {
+        uint8_t map = bytes[at++];
+        for (int bit = 0; bit < 3; bit++)
+            if (map >> bit & 1) {
+                values[bit] = uint16_t(bytes[at] | bytes[at + 1] << 8);
+                at += 2;
+            }
+    };
+    record(header);
+    while (at < bytes.size()) {
+        record(shot);
+        list.coords.insert(list.coords.end(), shot, shot + 3);
+    }
+    list.field = header[0];
+    list.edge = header[1];
+    list.grid = header[2];
+    return list;
+}
+
+// Adds what belongs to the lattice points of one plane across x: the cells above it, the squares and unit edges that
+// start there, and its corner points. A plane of cells has field + 2 rows of field + 2 bytes, 0 or 1, with a margin of
+// zeros; `below` and `above` are the planes of cells about the lattice plane.
+inline void count_plane(const uint8_t *below, const uint8_t *above, int field, Totals &totals) {
+    size_t width = size_t(field) + 2;
+    uint64_t volume = 0, area = 0, edge = 0, corners = 0;
+    for (int y = 0; y <= field; y++) {
+        const uint8_t *a = below + size_t(y) * width, *b = a + width, *c = above + size_t(y) * width, *d = c + width;
+        unsigned row_volume = 0, row_area = 0, row_edge = 0, row_corners = 0;
+        for (int z = 0; z <= field; z++) {
+            uint8_t a0 = a[z], a1 = a[z + 1], b0 = b[z], b1 = b[z + 1], c0 = c[z], c1 = c[z + 1], d0 = d[z], d1 = d[z + 1];
+            auto unit_edge = [](uint8_t p, uint8_t q, uint8_t r, uint8_t s) -> uint8_t {
+                uint8_t odd = p ^ q ^ r ^ s;
+                uint8_t across = uint8_t((p & s & ~(q | r)) | (q & r & ~(p | s)));
+                return uint8_t(odd + 2 * (across & 1));
+            };
+            row_volume += d1;
+            row_area += uint8_t((d1 ^ b1) + (d1 ^ c1) + (d1 ^ d0));
+            row_edge += uint8_t(unit_edge(a1, b1, c1, d1) + unit_edge(b0, b1, d0, d1) + unit_edge(c0, c1, d0, d1));
+            // A point is a corner if the eight cells about it change across every axis.
+            uint8_t x = (a0 ^ c0) | (a1 ^ c1) | (b0 ^ d0) | (b1 ^ d1);
+            uint8_t w = (a0 ^ b0) | (a1 ^ b1) | (c0 ^ d0) | (c1 ^ d1);
+            uint8_t v = (a0 ^ a1) | (b0 ^ b1) | (c0 ^ c1) | (d0 ^ d1);
+            row_corners += x & w & v;
+        }
+        volume += row_volume;
+        area += row_area;
+        edge += row_edge;
+        corners += row_corners;
+    }
+    totals.volume += volume;
+    totals.area += area;
+    totals.edge += edge;
+    totals.corners += corners;
+}
+
+inline double seconds(clockid_t clock) {
+    timespec now;
+    clock_gettime(clock, &now);
+    return double(now.tv_sec) + 1e-9 * double(now.tv_nsec);
+}
+
+// The most memory that this program has held, in KiB.
+inline long peak_memory() {
+    long peak = 0;
+    char line[256];
+    FILE *status = fopen("/proc/self/status", "r");
+    while (status != nullptr && fgets(line, sizeof line, status) != nullptr)
+        if (strncmp(line, "VmHWM:", 6) == 0) peak = atol(line + 6);
+    if (status != nullptr) fclose(status);
+    return peak;
+}
+
+// Runs `measure` for about so many seconds and prints its figures and its best times.
+template <class Measure> int report(double patience, Measure measure) {
+    double best_wall = 1e300;
+    double start = seconds(CLOCK_MONOTONIC), cpu = seconds(CLOCK_PROCESS_CPUTIME_ID);
+    Totals totals;
+    int runs = 0;
+    do {
+        double wall = seconds(CLOCK_MONOTONIC);
+        totals = measure();
+        wall = seconds(CLOCK_MONOTONIC) - wall;
+        if (wall < best_wall) best_wall = wall;
+        runs++;
+    } while (seconds(CLOCK_MONOTONIC) - start < patience);
+    cpu = (seconds(CLOCK_PROCESS_CPUTIME_ID) - cpu) / runs;
+    printf("%llu %llu %llu %llu %.9f %.9f %ld %d\n", (unsigned long long)totals.volume, (unsigned long long)totals.area,
+           (unsigned long long)totals.edge, (unsigned long long)totals.corners, best_wall, cpu, peak_memory(), runs);
+    return 0;
+}
+
+#endif

@@ -1,0 +1,58 @@
+// Ours: one call of heqdanu.h, timed: `ours FILE SECONDS [CALL]`, CALL being measure (unless said), list, need, read or
+// write. `need` is the measuring call with an empty work slice: the list's checks and the count of the index's entries.
+#include "../include/heqdanu.h"
+#include "common.hpp"
+
+#include <cstring>
+#include <string>
+
+static uint64_t answer[HEQDANU_ANSWER];
+
+static Totals answered(uint8_t written, uint64_t expected = HEQDANU_ACCEPTED) {
+    if (written != 1 || answer[0] != expected) {
+        fprintf(stderr, "refused %llu %llu\n", (unsigned long long)answer[0], (unsigned long long)answer[1]);
+        exit(1);
+    }
+    Totals totals;
+    totals.volume = answer[2];
+    totals.area = answer[3];
+    totals.edge = answer[4];
+    totals.corners = answer[5];
+    return totals;
+}
+
+int main(int count, char **arguments) {
+    List list = read_list(arguments[1]);
+    std::vector<uint8_t> file = read_bytes(arguments[1]);
+    double patience = atof(arguments[2]);
+    std::string call = count > 3 ? arguments[3] : "measure";
+    const uint16_t *coords = list.coords.data();
+    size_t ncoords = list.coords.size();
+    auto measure = [&](uint32_t *work, size_t nwork) {
+        return heqdanu_measure(list.field, list.edge, list.grid, coords, ncoords, work, nwork, answer, HEQDANU_ANSWER);
+    };
+    uint32_t none = 0;
+    answered(measure(&none, 0), HEQDANU_WORK_SHORT);
+    std::vector<uint32_t> work(answer[1]);
+    if (call == "need")
+        return report(patience, [&] { return answered(measure(&none, 0), HEQDANU_WORK_SHORT); });
+    if (call == "measure") return report(patience, [&] { return answered(measure(work.data(), work.size())); });
+    if (call == "list") {
+        std::vector<uint8_t> listing(HEQDANU_RECORD * answered(measure(work.data(), work.size())).corners + 1);
+        return report(patience, [&] {
+            return answered(heqdanu_list(list.field, list.edge, list.grid, coords, ncoords, work.data(), work.size(),
+                                         listing.data(), listing.size(), answer, HEQDANU_ANSWER));
+        });
+    }
+    if (call == "read") {
+        std::vector<uint16_t> places(12288);
+        return report(patience, [&] {
+            return answered(heqdanu_read(file.data(), file.size(), places.data(), places.size(), answer, HEQDANU_ANSWER));
+        });
+    }
+    std::vector<uint8_t> bytes(28680);
+    return report(patience, [&] {
+        return answered(heqdanu_write(list.field, list.edge, list.grid, coords, ncoords, bytes.data(), bytes.size(),
+                                      answer, HEQDANU_ANSWER));
+    });
+}

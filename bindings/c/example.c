@@ -1,0 +1,65 @@
+/* Two overlapping cubes, measured, listed, written as a shot file and read back.
+ *
+ *     cc example.c -I../../include ../../target/staticlib/libcapi.a -o example
+ */
+#include "heqdanu.h"
+
+#include <inttypes.h>
+#include <stdio.h>
+#include <stdlib.h>
+
+/* Ends the program unless the call wrote its answer and accepted. */
+static void expect(const char *call, uint8_t written, const uint64_t *answer)
+{
+    if (!written) {
+        printf("%s: the answer slice is too short\n", call);
+        exit(1);
+    }
+    if (answer[0] != HEQDANU_ACCEPTED) {
+        printf("%s: refused %" PRIu64 " %" PRIu64 "\n", call, answer[0], answer[1]);
+        exit(1);
+    }
+}
+
+int main(void)
+{
+    const uint16_t coords[] = {0, 0, 0, 1, 1, 1};
+    const uint16_t field = 8, edge = 2, grid = 2;
+    uint64_t answer[HEQDANU_ANSWER];
+    uint32_t none[1];
+
+    /* A work slice that is too short tells how many entries are needed. */
+    heqdanu_measure(field, edge, grid, coords, 6, none, 0, answer, HEQDANU_ANSWER);
+    size_t nwork = answer[1];
+    printf("work entries needed %zu\n", nwork);
+    uint32_t *work = calloc(nwork, sizeof *work);
+    if (work == NULL)
+        return 1;
+
+    expect("measure", heqdanu_measure(field, edge, grid, coords, 6, work, nwork, answer, HEQDANU_ANSWER), answer);
+    printf("volume %" PRIu64 "\narea %" PRIu64 "\nedge %" PRIu64 "\ncorners %" PRIu64 "\n", answer[2], answer[3],
+           answer[4], answer[5]);
+
+    uint8_t listing[20 * HEQDANU_RECORD];
+    expect("list",
+           heqdanu_list(field, edge, grid, coords, 6, work, nwork, listing, sizeof listing, answer, HEQDANU_ANSWER),
+           answer);
+    printf("first corner (%d, %d, %d), pattern %d\n", listing[0] + 256 * listing[1], listing[2] + 256 * listing[3],
+           listing[4] + 256 * listing[5], listing[6]);
+
+    uint8_t file[32];
+    expect("write", heqdanu_write(field, edge, grid, coords, 6, file, sizeof file, answer, HEQDANU_WRITE_ANSWER),
+           answer);
+    size_t length = answer[2];
+    printf("shot file of %zu bytes:", length);
+    for (size_t i = 0; i < length; i++)
+        printf(" %02x", file[i]);
+    printf("\n");
+
+    uint16_t back[12];
+    expect("read", heqdanu_read(file, length, back, 12, answer, HEQDANU_ANSWER), answer);
+    printf("read back: field %" PRIu64 ", edge %" PRIu64 ", grid %" PRIu64 ", %" PRIu64 " shots\n", answer[2],
+           answer[3], answer[4], answer[5]);
+    free(work);
+    return 0;
+}

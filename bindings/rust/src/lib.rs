@@ -1,0 +1,247 @@
+//! Cube-shot quotes: volume, area, edge length and corner points of a union of equal axis-aligned cubes on a
+//! whole-number lattice, and the shot files that hold such lists.
+//!
+//! The work is done by the proved library `libcapi.a`; this crate turns its calls into safe functions. [`measure`],
+//! [`list`], [`recount`], [`read`] and [`write`] use buffers that the caller lends and allocate nothing; [`quote`],
+//! [`corners`], [`from_file`] and [`to_file`] allocate what they need.
+//!
+//! ```
+//! use heqdanu::{quote, List, Totals};
+//!
+//! let list = List { field: 8, edge: 2, grid: 2, coords: &[0, 0, 0, 1, 1, 1] };
+//! assert_eq!(quote(&list), Ok(Totals { volume: 15, area: 42, edge: 48, corners: 20 }));
+//! ```
+
+#![warn(missing_docs)]
+
+pub mod raw;
+mod refusal;
+
+pub use refusal::{Reason, Refusal};
+
+/// The most numbers that the coordinates of a list may have: 4,096 shots.
+pub const MOST_COORDS: usize = 12_288;
+/// The bytes of the longest file that [`write`] makes.
+pub const LONGEST_FILE: usize = 28_679;
+/// The bytes of a listing's record.
+pub const RECORD: usize = 7;
+
+/// A list: field side, shot edge, grid size, and the shots' lower corners x, y, z one after another. Any numbers may
+/// stand here; the calls say what is wrong with them.
+#[derive(Clone, Copy, Debug, PartialEq, Eq)]
+pub struct List<'a> {
+    /// The field side, 1 to 1,024.
+    pub field: u16,
+    /// The shot edge, 1 to the field side.
+    pub edge: u16,
+    /// The grid size, 1 to 64, which divides the field side.
+    pub grid: u16,
+    /// Three coordinates a shot.
+    pub coords: &'a [u16],
+}
+
+/// What a list measures.
+#[derive(Clone, Copy, Debug, PartialEq, Eq)]
+pub struct Totals {
+    /// Covered unit cells.
+    pub volume: u64,
+    /// Unit squares with one of their two cells covered.
+    pub area: u64,
+    /// Unit edges by the four cells about them.
+    pub edge: u64,
+    /// Lattice points that carry a weight.
+    pub corners: u64,
+}
+
+/// What a shot file's header says, and how many shots follow it.
+#[derive(Clone, Copy, Debug, PartialEq, Eq)]
+pub struct Header {
+    /// The field side.
+    pub field: u16,
+    /// The shot edge.
+    pub edge: u16,
+    /// The grid size.
+    pub grid: u16,
+    /// The number of shots.
+    pub shots: usize,
+}
+
+/// A corner point: its place and the pattern of the eight cells about it (bit 4a+2b+c for the cell above, 1, or below,
+/// 0, the point on x, y and z).
+#[derive(Clone, Copy, Debug, PartialEq, Eq, PartialOrd, Ord)]
+pub struct Corner {
+    /// The place on x.
+    pub x: u16,
+    /// The place on y.
+    pub y: u16,
+    /// The place on z.
+    pub z: u16,
+    /// The covered cells about the point.
+    pub pattern: u8,
+}
+
+/// Measures a list. Success leaves the grid index in the first entries of `work`; nothing else changes.
+pub fn measure(list: &List, work: &mut [u32]) -> Result<Totals, Refusal> {
+    let mut answer = [0; 6];
+    // SAFETY: each pointer comes from a slice with the length beside it, and no two of them overlap.
+    let written = unsafe {
+        raw::heqdanu_measure(
+            list.field,
+            list.edge,
+            list.grid,
+            list.coords.as_ptr(),
+            list.coords.len(),
+            work.as_mut_ptr(),
+            work.len(),
+            answer.as_mut_ptr(),
+            answer.len(),
+        )
+    };
+    totals(written, answer)
+}
+
+/// Measures a list and stores its corner points, [`RECORD`] bytes each, in the first bytes of `listing`. Success and
+/// [`Reason::ListingShort`] leave the grid index in the first entries of `work`; nothing else changes.
+pub fn list(list: &List, work: &mut [u32], listing: &mut [u8]) -> Result<Totals, Refusal> {
+    let mut answer = [0; 6];
+    // SAFETY: each pointer comes from a slice with the length beside it, and no two of them overlap.
+    let written = unsafe {
+        raw::heqdanu_list(
+            list.field,
+            list.edge,
+            list.grid,
+            list.coords.as_ptr(),
+            list.coords.len(),
+            work.as_mut_ptr(),
+            work.len(),
+            listing.as_mut_ptr(),
+            listing.len(),
+            answer.as_mut_ptr(),
+            answer.len(),
+        )
+    };
+    totals(written, answer)
+}
+
+/// Measures a list once more, cell by cell: slow, for fields up to a few hundred. The same promises as [`measure`].
+pub fn recount(list: &List, work: &mut [u32]) -> Result<Totals, Refusal> {
+    let mut answer = [0; 6];
+    // SAFETY: each pointer comes from a slice with the length beside it, and no two of them overlap.
+    let written = unsafe {
+        raw::heqdanu_recount(
+            list.field,
+            list.edge,
+            list.grid,
+            list.coords.as_ptr(),
+            list.coords.len(),
+            work.as_mut_ptr(),
+            work.len(),
+            answer.as_mut_ptr(),
+            answer.len(),
+        )
+    };
+    totals(written, answer)
+}
+
+/// Reads a shot file. Success stores the shots in the first places of `coords`; nothing else changes. Ranges are not
+/// tested here.
+pub fn read(bytes: &[u8], coords: &mut [u16]) -> Result<Header, Refusal> {
+    let mut answer = [0; 6];
+    // SAFETY: each pointer comes from a slice with the length beside it, and no two of them overlap.
+    let written = unsafe {
+        raw::heqdanu_read(
+            bytes.as_ptr(),
+            bytes.len(),
+            coords.as_mut_ptr(),
+            coords.len(),
+            answer.as_mut_ptr(),
+            answer.len(),
+        )
+    };
+    let [field, edge, grid, shots] = numbers(written, answer)?;
+    Ok(Header { field: field as u16, edge: edge as u16, grid: grid as u16, shots: shots as usize })
+}
+
+/// Writes the shortest shot file of a list into the first places of `bytes` and gives its length. A refusal changes
+/// nothing.
+pub fn write(list: &List, bytes: &mut [u8]) -> Result<usize, Refusal> {
+    let mut answer = [0; 3];
+    // SAFETY: each pointer comes from a slice with the length beside it, and no two of them overlap.
+    let written = unsafe {
+        raw::heqdanu_write(
+            list.field,
+            list.edge,
+            list.grid,
+            list.coords.as_ptr(),
+            list.coords.len(),
+            bytes.as_mut_ptr(),
+            bytes.len(),
+            answer.as_mut_ptr(),
+            answer.len(),
+        )
+    };
+    let [number, detail, length] = answer;
+    let [length, ..] = numbers(written, [number, detail, length, 0, 0, 0])?;
+    Ok(length as usize)
+}
+
+/// The work entries that a list needs.
+pub fn work_needed(list: &List) -> Result<usize, Refusal> {
+    match measure(list, &mut []) {
+        Err(Refusal { reason: Reason::WorkShort, detail }) => Ok(detail as usize),
+        Err(refusal) => Err(refusal),
+        Ok(_) => unreachable!("an index has at least two entries"),
+    }
+}
+
+/// Measures a list with a work slice of its own.
+pub fn quote(list: &List) -> Result<Totals, Refusal> {
+    measure(list, &mut vec![0; work_needed(list)?])
+}
+
+/// The corner points of a list, rising by x, then y, then z.
+pub fn corners(list: &List) -> Result<Vec<Corner>, Refusal> {
+    let mut work = vec![0; work_needed(list)?];
+    let mut listing = vec![0; RECORD * measure(list, &mut work)?.corners as usize];
+    self::list(list, &mut work, &mut listing)?;
+    Ok(records(&listing).collect())
+}
+
+/// The records of a listing; a remainder shorter than a record is left out.
+pub fn records(listing: &[u8]) -> impl Iterator<Item = Corner> + '_ {
+    listing.chunks_exact(RECORD).map(|record| {
+        let number = |place: usize| u16::from_le_bytes([record[place], record[place + 1]]);
+        Corner { x: number(0), y: number(2), z: number(4), pattern: record[6] }
+    })
+}
+
+/// What a shot file holds: its header and its shots' coordinates.
+pub fn from_file(bytes: &[u8]) -> Result<(Header, Vec<u16>), Refusal> {
+    let mut coords = vec![0; MOST_COORDS];
+    let header = read(bytes, &mut coords)?;
+    coords.truncate(3 * header.shots);
+    Ok((header, coords))
+}
+
+/// The shortest shot file of a list.
+pub fn to_file(list: &List) -> Result<Vec<u8>, Refusal> {
+    let mut bytes = vec![0; LONGEST_FILE];
+    let length = write(list, &mut bytes)?;
+    bytes.truncate(length);
+    Ok(bytes)
+}
+
+/// The four numbers of an accepted call.
+fn numbers(written: u8, answer: [u64; 6]) -> Result<[u64; 4], Refusal> {
+    assert_eq!(written, 1, "the library found the answer slice too short");
+    let [number, detail, numbers @ ..] = answer;
+    match Refusal::of(number, detail) {
+        Some(refusal) => Err(refusal),
+        None => Ok(numbers),
+    }
+}
+
+fn totals(written: u8, answer: [u64; 6]) -> Result<Totals, Refusal> {
+    let [volume, area, edge, corners] = numbers(written, answer)?;
+    Ok(Totals { volume, area, edge, corners })
+}

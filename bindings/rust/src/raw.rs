@@ -1,0 +1,63 @@
+//! The calls as the archive has them. `include/heqdanu.h` says what each does with its buffers.
+
+#[allow(missing_docs)]
+extern "C" {
+    pub fn heqdanu_measure(
+        field: u16,
+        edge: u16,
+        grid: u16,
+        coords: *const u16,
+        ncoords: usize,
+        work: *mut u32,
+        nwork: usize,
+        answer: *mut u64,
+        nanswer: usize,
+    ) -> u8;
+
+    pub fn heqdanu_list(
+        field: u16,
+        edge: u16,
+        grid: u16,
+        coords: *const u16,
+        ncoords: usize,
+        work: *mut u32,
+        nwork: usize,
+        listing: *mut u8,
+        nlisting: usize,
+        answer: *mut u64,
+        nanswer: usize,
+    ) -> u8;
+
+    pub fn heqdanu_recount(
+        field: u16,
+        edge: u16,
+        grid: u16,
+        coords: *const u16,
+        ncoords: usize,
+        work: *mut u32,
+        nwork: usize,
+        answer: *mut u64,
+        nanswer: usize,
+    ) -> u8;
+
+    pub fn heqdanu_read(
+        bytes: *const u8,
+        nbytes: usize,
+        coords: *mut u16,
+        ncoords: usize,
+        answer: *mut u64,
+        nanswer: usize,
+    ) -> u8;
+
+    pub fn heqdanu_write(
+        field: u16,
+        edge: u16,
+        grid: u16,
+        coords: *const u16,
+        ncoords: usize,
+        bytes: *mut u8,
+        nbytes: usize,
+        answer: *mut u64,
+        nanswer: usize,
+    ) -> u8;
+}

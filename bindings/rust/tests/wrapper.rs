@@ -1,0 +1,80 @@
+//! The wrapper on the request's examples: totals, corners, files, and each refusal that a caller can meet.
+
+use heqdanu::{
+    corners, from_file, list, measure, quote, read, recount, to_file, work_needed, write, Corner, Header, List, Reason,
+    Refusal, Totals,
+};
+
+const TWO: List = List { field: 8, edge: 2, grid: 2, coords: &[0, 0, 0, 1, 1, 1] };
+const TWO_TOTALS: Totals = Totals { volume: 15, area: 42, edge: 48, corners: 20 };
+const TWO_FILE: [u8; 15] = [7, 8, 0, 2, 0, 2, 0, 0, 7, 1, 0, 1, 0, 1, 0];
+
+fn refused<T>(reason: Reason, detail: u64) -> Result<T, Refusal> {
+    Err(Refusal { reason, detail })
+}
+
+#[test]
+fn totals_and_corners() {
+    assert_eq!(quote(&TWO), Ok(TWO_TOTALS));
+    assert_eq!(recount(&TWO, &mut [0; 11]), Ok(TWO_TOTALS));
+    let corners = corners(&TWO).unwrap();
+    assert_eq!(corners.len(), 20);
+    assert_eq!(corners[0], Corner { x: 0, y: 0, z: 0, pattern: 128 });
+    assert_eq!(corners[19], Corner { x: 3, y: 3, z: 3, pattern: 1 });
+    assert!(corners.windows(2).all(|pair| (pair[0].x, pair[0].y, pair[0].z) < (pair[1].x, pair[1].y, pair[1].z)));
+}
+
+#[test]
+fn the_empty_list_measures_zero() {
+    let none = List { coords: &[], ..TWO };
+    assert_eq!(quote(&none), Ok(Totals { volume: 0, area: 0, edge: 0, corners: 0 }));
+    assert_eq!(corners(&none), Ok(vec![]));
+    assert_eq!(to_file(&none).unwrap(), [7, 8, 0, 2, 0, 2, 0]);
+}
+
+#[test]
+fn files() {
+    assert_eq!(to_file(&TWO).unwrap(), TWO_FILE);
+    let header = Header { field: 8, edge: 2, grid: 2, shots: 2 };
+    assert_eq!(from_file(&TWO_FILE), Ok((header, vec![0, 0, 0, 1, 1, 1])));
+    let mut coords = [9; 8];
+    assert_eq!(read(&TWO_FILE, &mut coords), Ok(header));
+    assert_eq!(coords, [0, 0, 0, 1, 1, 1, 9, 9]);
+}
+
+#[test]
+fn the_index_stays_in_the_work_slice() {
+    let one = List { coords: &[1, 1, 1], ..TWO };
+    let mut work = [5; 11];
+    assert_eq!(measure(&one, &mut work).unwrap().volume, 8);
+    assert_eq!(work, [0, 1, 1, 1, 1, 1, 1, 1, 1, 0, 5]);
+    let (mut work, mut listing) = ([5; 11], [9; 55]);
+    assert_eq!(list(&one, &mut work, &mut listing), refused(Reason::ListingShort, 8));
+    assert_eq!((work, listing), ([0, 1, 1, 1, 1, 1, 1, 1, 1, 0, 5], [9; 55]));
+}
+
+#[test]
+fn refusals() {
+    assert_eq!(quote(&List { coords: &[1, 2], ..TWO }), refused(Reason::NotThrees, 0));
+    assert_eq!(quote(&List { coords: &[0; 12_291], ..TWO }), refused(Reason::TooManyShots, 0));
+    assert_eq!(quote(&List { field: 1025, ..TWO }), refused(Reason::Field, 0));
+    assert_eq!(quote(&List { edge: 9, ..TWO }), refused(Reason::Edge, 0));
+    assert_eq!(quote(&List { grid: 3, ..TWO }), refused(Reason::Grid, 0));
+    assert_eq!(quote(&List { coords: &[6, 6, 6, 7, 6, 6], ..TWO }), refused(Reason::Outside, 1));
+    assert_eq!(measure(&List { coords: &[2, 2, 2], ..TWO }, &mut [0; 16]), refused(Reason::WorkShort, 17));
+    assert_eq!(work_needed(&TWO), Ok(11));
+    assert_eq!(write(&TWO, &mut [0; 14]), refused(Reason::BytesShort, 15));
+    assert_eq!(read(&[0, 0], &mut [0; 2]), refused(Reason::NoPlaces, 1));
+    assert_eq!(read(&[0, 8], &mut [0; 3]), refused(Reason::UnknownBit, 1));
+    assert_eq!(read(&[], &mut []), refused(Reason::CutFile, 0));
+    assert_eq!(read(&[0; 4098], &mut [0; 20_000]), refused(Reason::TooManyShots, 4097));
+}
+
+#[test]
+fn a_refusal_in_words() {
+    let refusal = Refusal { reason: Reason::WorkShort, detail: 17 };
+    assert_eq!(refusal.to_string(), "the work slice is too short, the entries needed being 17");
+    assert_eq!(refusal.reason.number(), 10);
+    let refusal = Refusal { reason: Reason::Grid, detail: 0 };
+    assert!(refusal.to_string().ends_with("does not divide the field side"));
+}

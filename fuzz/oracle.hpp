@@ -1,0 +1,272 @@
+// A compact brute-force reading of the request in C++, for small fields: the fuzz target's second opinion.
+//
+// Cells are bytes in a box with a margin of one uncovered cell; every lattice point looks at its eight cells; every grid
+// cell asks every shot. It shares no code with the proved crates nor with the Rust oracle.
+#ifndef HEQDANU_FUZZ_ORACLE_HPP
+#define HEQDANU_FUZZ_ORACLE_HPP
+
+#include <algorithm>
+#include <cstddef>
+#include <cstdint>
+#include <initializer_list>
+#include <vector>
+
+namespace oracle {
+
+struct List {
+    uint16_t field, edge, grid;
+    const uint16_t *coords;
+    size_t ncoords;
+
+    size_t shots() const { return ncoords / 3; }
+    int at(size_t shot, int axis) const { return coords[3 * shot + axis]; }
+};
+
+// Number 0: nothing refuses.
+struct Refusal {
+    uint64_t number, detail;
+};
+
+// Refusals 1, 2, 6, 7, 8, 9, in this order.
+inline Refusal check(const List &list) {
+    if (list.ncoords % 3 != 0) return {1, 0};
+    if (list.shots() > 4096) return {2, 0};
+    if (list.field < 1 || list.field > 1024) return {6, 0};
+    if (list.edge < 1 || list.edge > list.field) return {7, 0};
+    if (list.grid < 1 || list.grid > 64 || list.field % list.grid != 0) return {8, 0};
+    for (size_t shot = 0; shot < list.shots(); shot++)
+        for (int axis = 0; axis < 3; axis++)
+            if (list.at(shot, axis) + int(list.edge) > int(list.field)) return {9, shot};
+    return {0, 0};
+}
+
+// Whether the closed interval g of an axis and the closed extent of a cube share a point.
+inline bool touches(const List &list, int g, int low) {
+    int width = list.field / list.grid;
+    return std::max(g * width, low) <= std::min((g + 1) * width, low + int(list.edge));
+}
+
+inline uint64_t need(const List &list) {
+    uint64_t grid = list.grid, pairs = 0;
+    for (size_t shot = 0; shot < list.shots(); shot++) {
+        uint64_t cells = 1;
+        for (int axis = 0; axis < 3; axis++) {
+            uint64_t touched = 0;
+            for (int g = 0; g < int(grid); g++) touched += touches(list, g, list.at(shot, axis));
+            cells *= touched;
+        }
+        pairs += cells;
+    }
+    return grid * grid * grid + 1 + pairs;
+}
+
+inline std::vector<uint32_t> index(const List &list) {
+    int grid = list.grid;
+    std::vector<uint32_t> starts, runs;
+    for (int gx = 0; gx < grid; gx++) {
+        std::vector<uint32_t> slab;
+        for (size_t shot = 0; shot < list.shots(); shot++)
+            if (touches(list, gx, list.at(shot, 0))) slab.push_back(uint32_t(shot));
+        for (int gy = 0; gy < grid; gy++)
+            for (int gz = 0; gz < grid; gz++) {
+                starts.push_back(uint32_t(runs.size()));
+                for (uint32_t shot : slab)
+                    if (touches(list, gy, list.at(shot, 1)) && touches(list, gz, list.at(shot, 2))) runs.push_back(shot);
+            }
+    }
+    starts.push_back(uint32_t(runs.size()));
+    starts.insert(starts.end(), runs.begin(), runs.end());
+    return starts;
+}
+
+// Covered cells in the box about the shots, with a margin.
+struct Room {
+    int low[3] = {0, 0, 0}, side[3] = {0, 0, 0};
+    std::vector<uint8_t> cells;
+
+    explicit Room(const List &list) {
+        for (int axis = 0; axis < 3 && list.shots() > 0; axis++) {
+            int first = list.at(0, axis), last = first;
+            for (size_t shot = 0; shot < list.shots(); shot++) {
+                first = std::min(first, list.at(shot, axis));
+                last = std::max(last, list.at(shot, axis));
+            }
+            low[axis] = first;
+            side[axis] = last + list.edge - first;
+        }
+        cells.assign(size_t(side[0] + 2) * (side[1] + 2) * (side[2] + 2), 0);
+        for (size_t shot = 0; shot < list.shots(); shot++)
+            for (int i = 0; i < list.edge; i++)
+                for (int j = 0; j < list.edge; j++) {
+                    uint8_t *row = &at(list.at(shot, 0) - low[0] + i, list.at(shot, 1) - low[1] + j,
+                                       list.at(shot, 2) - low[2]);
+                    std::fill(row, row + list.edge, uint8_t(1));
+                }
+    }
+
+    // A cell by its place in the box; the margin is at -1 and at the side.
+    uint8_t &at(int i, int j, int k) {
+        return cells[(size_t(i + 1) * (side[1] + 2) + size_t(j + 1)) * (side[2] + 2) + size_t(k + 1)];
+    }
+};
+
+// The count of a unit edge; a and d share only the edge, and so do b and c.
+inline int edge_count(int a, int b, int c, int d) {
+    int ones = a + b + c + d;
+    if (ones == 1 || ones == 3) return 1;
+    return ones == 2 && a == d ? 2 : 0;
+}
+
+struct Weights {
+    int w = 0, a[3] = {0, 0, 0}, e[3] = {0, 0, 0};
+
+    explicit Weights(uint8_t pattern) {
+        int shift[3] = {2, 1, 0};
+        auto bit = [&](int x, int y, int z) { return pattern >> (4 * x + 2 * y + z) & 1; };
+        for (int x = 0; x < 2; x++)
+            for (int y = 0; y < 2; y++)
+                for (int z = 0; z < 2; z++) w += bit(x, y, z) * ((x + y + z) % 2 == 0 ? 1 : -1);
+        for (int axis = 0; axis < 3; axis++) {
+            int along = shift[axis], p = shift[(axis + 1) % 3], q = shift[(axis + 2) % 3];
+            auto cell = [&](int up, int b, int c) { return pattern >> ((up << along) + (b << p) + (c << q)) & 1; };
+            for (int b = 0; b < 2; b++)
+                for (int c = 0; c < 2; c++)
+                    if (cell(0, b, c) != cell(1, b, c)) a[axis] += b == c ? 1 : -1;
+            e[axis] = edge_count(cell(0, 0, 0), cell(0, 0, 1), cell(0, 1, 0), cell(0, 1, 1)) -
+                      edge_count(cell(1, 0, 0), cell(1, 0, 1), cell(1, 1, 0), cell(1, 1, 1));
+        }
+    }
+
+    bool corner() const { return w || a[0] || a[1] || a[2] || e[0] || e[1] || e[2]; }
+};
+
+struct Measured {
+    uint64_t volume = 0, area = 0, edge = 0, corners = 0;
+    std::vector<uint8_t> listing;
+};
+
+// The corner table: whether a pattern carries a weight.
+inline const std::vector<uint8_t> &corner_table() {
+    static const std::vector<uint8_t> table = [] {
+        std::vector<uint8_t> made;
+        for (int pattern = 0; pattern < 256; pattern++) made.push_back(Weights(uint8_t(pattern)).corner());
+        return made;
+    }();
+    return table;
+}
+
+// Adds what belongs to a lattice point: the cell above it on all axes, the squares and unit edges that start there, and
+// the point itself if it is a corner.
+inline void count_point(const int *point, uint8_t pattern, Measured &result) {
+    auto cell = [&](int bit) { return pattern >> bit & 1; };
+    result.volume += uint64_t(cell(7));
+    result.area += uint64_t((cell(7) != cell(3)) + (cell(7) != cell(5)) + (cell(7) != cell(6)));
+    result.edge += uint64_t(edge_count(cell(1), cell(3), cell(5), cell(7)) + edge_count(cell(2), cell(3), cell(6), cell(7)) +
+                            edge_count(cell(4), cell(5), cell(6), cell(7)));
+    if (!corner_table()[pattern]) return;
+    result.corners++;
+    for (int axis = 0; axis < 3; axis++) {
+        result.listing.push_back(uint8_t(point[axis] & 255));
+        result.listing.push_back(uint8_t(point[axis] >> 8));
+    }
+    result.listing.push_back(pattern);
+}
+
+// Counts an accepted list. Along z the four cells above a point are the four below the next one.
+inline Measured measured(const List &list) {
+    Measured result;
+    Room room(list);
+    for (int x = 0; x <= room.side[0]; x++)
+        for (int y = 0; y <= room.side[1]; y++) {
+            const uint8_t *rows[4];
+            for (int row = 0; row < 4; row++) rows[row] = &room.at(x - 1 + (row >> 1), y - 1 + (row & 1), -1);
+            unsigned pattern = 0;
+            for (int z = 0; z <= room.side[2]; z++) {
+                pattern = pattern >> 1 & 0x55;
+                for (int row = 0; row < 4; row++) pattern |= unsigned(rows[row][z + 1]) << (2 * row + 1);
+                int point[3] = {x + room.low[0], y + room.low[1], z + room.low[2]};
+                if (pattern != 0) count_point(point, uint8_t(pattern), result);
+            }
+        }
+    return result;
+}
+
+// The totals of a listing's bytes.
+inline Measured sums(const uint8_t *listing, size_t corners) {
+    int64_t volume = 0, area = 0, edge = 0;
+    for (size_t record = 0; record < corners; record++) {
+        const uint8_t *bytes = listing + 7 * record;
+        int64_t x = bytes[0] | bytes[1] << 8, y = bytes[2] | bytes[3] << 8, z = bytes[4] | bytes[5] << 8;
+        Weights weights(bytes[6]);
+        volume += x * y * z * weights.w;
+        area += y * z * weights.a[0] + x * z * weights.a[1] + x * y * weights.a[2];
+        edge += x * weights.e[0] + y * weights.e[1] + z * weights.e[2];
+    }
+    Measured result;
+    result.volume = uint64_t(volume);
+    result.area = uint64_t(area);
+    result.edge = uint64_t(edge);
+    result.corners = corners;
+    return result;
+}
+
+// What a shot file holds, or why it is refused.
+struct File {
+    Refusal refusal = {0, 0};
+    uint16_t header[3] = {1024, 16, 8};
+    std::vector<uint16_t> coords;
+};
+
+inline File read(const uint8_t *bytes, size_t nbytes, size_t places) {
+    File file;
+    uint16_t previous[3] = {0, 0, 0};
+    size_t offset = 0, shots = 0;
+    for (bool header = true; header || offset < nbytes; header = false) {
+        size_t map_at = offset;
+        auto refuse = [&](uint64_t number) {
+            File refused;
+            refused.refusal = {number, map_at};
+            return refused;
+        };
+        if (!header && shots == 4096) return refuse(2);
+        if (!header && places < 3 * (shots + 1)) return refuse(3);
+        if (offset >= nbytes) return refuse(5);
+        uint8_t map = bytes[offset++];
+        if (map > 7) return refuse(4);
+        uint16_t *values = header ? file.header : previous;
+        for (int bit = 0; bit < 3; bit++) {
+            if (!(map >> bit & 1)) continue;
+            if (nbytes - offset < 2) return refuse(5);
+            values[bit] = uint16_t(bytes[offset] | bytes[offset + 1] << 8);
+            offset += 2;
+        }
+        if (header) continue;
+        file.coords.insert(file.coords.end(), previous, previous + 3);
+        shots++;
+    }
+    return file;
+}
+
+// The shortest file of a list.
+inline std::vector<uint8_t> write(const List &list) {
+    std::vector<uint8_t> bytes;
+    auto put = [&](const uint16_t *values, const uint16_t *absent) {
+        size_t map = bytes.size();
+        bytes.push_back(0);
+        for (int bit = 0; bit < 3; bit++) {
+            if (values[bit] == absent[bit]) continue;
+            bytes[map] = uint8_t(bytes[map] | 1 << bit);
+            bytes.push_back(uint8_t(values[bit] & 255));
+            bytes.push_back(uint8_t(values[bit] >> 8));
+        }
+    };
+    const uint16_t header[3] = {list.field, list.edge, list.grid}, absent[3] = {1024, 16, 8}, zero[3] = {0, 0, 0};
+    put(header, absent);
+    for (size_t shot = 0; shot < list.shots(); shot++)
+        put(list.coords + 3 * shot, shot == 0 ? zero : list.coords + 3 * (shot - 1));
+    return bytes;
+}
+
+}  // namespace oracle
+
+#endif

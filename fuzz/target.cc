@@ -1,0 +1,274 @@
+// The fuzz target: calls of heqdanu.h on any bytes, held to a brute-force oracle.
+//
+// The input's first six bytes choose the buffers' lengths and how the list is made; the rest is a shot file. The file is
+// read; the list that it holds, as it is or squeezed into a small field, goes through measure, recount, list and write.
+// Answers and every place of every buffer must be the oracle's. Lists whose cells are too many to count here are held
+// to what the calls say of each other: a listing's sums give the totals, and what is written reads back.
+//
+// The archive carries no sanitizer, so each lent buffer ends where an unmapped page begins, and the bytes before it are
+// looked at afterwards. The address and undefined-behaviour sanitizers watch this file and the oracle.
+#include "../include/heqdanu.h"
+#include "oracle.hpp"
+
+#include <sys/mman.h>
+#include <unistd.h>
+
+#include <cstdio>
+#include <cstdlib>
+#include <cstring>
+
+namespace {
+
+const size_t MOST_ENTRIES = size_t(1) << 20;
+const size_t MOST_LISTING = size_t(1) << 22;
+const size_t MOST_CELLS = 20000;
+const int RECOUNT_FIELD = 24;
+
+const uint8_t *input;
+size_t input_length;
+
+[[noreturn]] void fail(const char *call, const char *what) {
+    fprintf(stderr, "fault: %s: %s\nshot file:", call, what);
+    for (size_t at = 6; at < input_length; at++) fprintf(stderr, " %02x", input[at]);
+    fprintf(stderr, "\nchosen by:");
+    for (size_t at = 0; at < 6 && at < input_length; at++) fprintf(stderr, " %02x", input[at]);
+    fprintf(stderr, "\n");
+    abort();
+}
+
+void expect(bool holds, const char *call, const char *what) {
+    if (!holds) fail(call, what);
+}
+
+// A lent buffer that ends at an unmapped page, with a copy for what the oracle expects.
+template <class T> class Lent {
+    static const size_t BEFORE = 64;
+    uint8_t *end;
+    size_t capacity;
+
+  public:
+    T *places = nullptr;
+    size_t length = 0;
+    std::vector<T> expected;
+
+    explicit Lent(size_t most) {
+        size_t page = size_t(sysconf(_SC_PAGESIZE));
+        capacity = (most * sizeof(T) + BEFORE + page - 1) / page * page;
+        void *mapped = mmap(nullptr, capacity + page, PROT_READ | PROT_WRITE, MAP_PRIVATE | MAP_ANONYMOUS, -1, 0);
+        if (mapped == MAP_FAILED) abort();
+        end = static_cast<uint8_t *>(mapped) + capacity;
+        if (mprotect(end, page, PROT_NONE) != 0) abort();
+    }
+
+    // Lends so many places, as many as there are, with junk in them.
+    void lend(size_t wanted, uint8_t junk) {
+        length = std::min(wanted, (capacity - BEFORE) / sizeof(T));
+        places = reinterpret_cast<T *>(end - length * sizeof(T));
+        memset(end - length * sizeof(T) - BEFORE, junk, length * sizeof(T) + BEFORE);
+        expected.assign(places, places + length);
+    }
+
+    // Compares with what the oracle expects; the bytes before the buffer must still be alike.
+    void check(const char *call, const char *what) const {
+        const uint8_t *start = reinterpret_cast<const uint8_t *>(places);
+        bool before = std::all_of(start - BEFORE, start, [&](uint8_t byte) { return byte == *(start - BEFORE); });
+        expect(before, call, "bytes before a buffer changed");
+        expect(std::equal(expected.begin(), expected.end(), places), call, what);
+    }
+
+    void store(const std::vector<T> &values) { std::copy(values.begin(), values.end(), expected.begin()); }
+};
+
+// Buffers are mapped once.
+struct Buffers {
+    Lent<uint16_t> coords{40000};
+    Lent<uint32_t> work{MOST_ENTRIES};
+    Lent<uint8_t> listing{MOST_LISTING};
+    Lent<uint8_t> bytes{40000};
+    Lent<uint64_t> answer{32};
+};
+
+Buffers &buffers() {
+    static Buffers all;
+    return all;
+}
+
+// A length about what is needed: short by some, exact, or longer.
+size_t about(uint64_t need, uint8_t choice) {
+    int64_t more = choice < 64 ? -int64_t(choice % 16) : int64_t(choice % 32);
+    return size_t(std::max<int64_t>(0, int64_t(std::min<uint64_t>(need, 1u << 30)) + (choice < 16 ? 0 : more)));
+}
+
+// Stores the expected answer where it has room, and says whether it has.
+bool expect_answer(size_t places, oracle::Refusal refusal, std::initializer_list<uint64_t> numbers) {
+    std::vector<uint64_t> &answer = buffers().answer.expected;
+    if (answer.size() < places) return false;
+    std::fill(answer.begin(), answer.begin() + long(places), 0);
+    answer[0] = refusal.number;
+    answer[1] = refusal.detail;
+    if (refusal.number == 0) std::copy(numbers.begin(), numbers.end(), answer.begin() + 2);
+    return true;
+}
+
+size_t answer_places(uint8_t choice) { return choice < 200 ? 6 : choice % 10; }
+
+// Reads the file with the library, holds it to the oracle, and gives what the file holds.
+oracle::File read(const uint8_t *file, size_t length, const uint8_t *choice) {
+    Buffers &lent = buffers();
+    size_t places = choice[0] < 128 ? 3 * length : choice[0] % 64;
+    lent.bytes.lend(length, 0);
+    if (length > 0) memcpy(lent.bytes.places, file, lent.bytes.length);
+    lent.bytes.expected.assign(lent.bytes.places, lent.bytes.places + lent.bytes.length);
+    lent.coords.lend(places, choice[5]);
+    lent.answer.lend(answer_places(choice[4]), choice[5]);
+    uint8_t written = heqdanu_read(lent.bytes.places, lent.bytes.length, lent.coords.places, lent.coords.length,
+                                   lent.answer.places, lent.answer.length);
+    oracle::File held = oracle::read(lent.bytes.places, lent.bytes.length, lent.coords.length);
+    bool room = expect_answer(6, held.refusal, {held.header[0], held.header[1], held.header[2], held.coords.size() / 3});
+    if (room && held.refusal.number == 0) lent.coords.store(held.coords);
+    expect(written == room, "read", "says wrongly whether it answered");
+    lent.answer.check("read", "the answer differs");
+    lent.coords.check("read", "the coordinates differ");
+    lent.bytes.check("read", "the file changed");
+    return held;
+}
+
+// What the calls on one list are expected to say and store.
+struct Expected {
+    oracle::Refusal refusal = {0, 0};
+    uint64_t need = 0;
+    bool counted = false;
+    oracle::Measured measured;
+};
+
+Expected expect_list(const oracle::List &list) {
+    Expected expected;
+    expected.refusal = oracle::check(list);
+    if (expected.refusal.number != 0) return expected;
+    expected.need = oracle::need(list);
+    uint64_t cells = 1;
+    for (int axis = 0; axis < 3 && list.shots() > 0; axis++) {
+        int low = 65535, high = 0;
+        for (size_t shot = 0; shot < list.shots(); shot++) {
+            low = std::min(low, list.at(shot, axis));
+            high = std::max(high, list.at(shot, axis));
+        }
+        cells *= uint64_t(high - low + list.edge);
+    }
+    expected.counted = cells <= MOST_CELLS;
+    if (expected.counted) expected.measured = oracle::measured(list);
+    return expected;
+}
+
+typedef uint8_t (*Measure)(uint16_t, uint16_t, uint16_t, const uint16_t *, size_t, uint32_t *, size_t, uint64_t *, size_t);
+
+// Refusal 10 on top of the list's own.
+oracle::Refusal with_work(const Expected &expected, size_t nwork) {
+    if (expected.refusal.number == 0 && nwork < expected.need) return {10, expected.need};
+    return expected.refusal;
+}
+
+// Takes the totals of a list that is too large to count here from the measuring call's answer.
+void take_uncounted(Expected &expected) {
+    const Lent<uint64_t> &answer = buffers().answer;
+    if (expected.counted || answer.length < 6 || answer.places[0] != 0) return;
+    expected.measured.volume = answer.places[2];
+    expected.measured.area = answer.places[3];
+    expected.measured.edge = answer.places[4];
+    expected.measured.corners = answer.places[5];
+}
+
+void measure(const char *call, Measure library, const oracle::List &list, Expected &expected, const uint8_t *choice) {
+    Buffers &lent = buffers();
+    lent.work.lend(about(expected.need, choice[1]), choice[5]);
+    lent.answer.lend(answer_places(choice[4]), choice[5]);
+    uint8_t written = library(list.field, list.edge, list.grid, list.coords, list.ncoords, lent.work.places,
+                              lent.work.length, lent.answer.places, lent.answer.length);
+    take_uncounted(expected);
+    oracle::Refusal refusal = with_work(expected, lent.work.length);
+    const oracle::Measured &totals = expected.measured;
+    bool room = expect_answer(6, refusal, {totals.volume, totals.area, totals.edge, totals.corners});
+    if (room && refusal.number == 0) lent.work.store(oracle::index(list));
+    expect(written == room, call, "says wrongly whether it answered");
+    lent.answer.check(call, "the answer differs");
+    lent.work.check(call, "the index differs");
+}
+
+void list_corners(const oracle::List &list, Expected &expected, const uint8_t *choice) {
+    Buffers &lent = buffers();
+    lent.work.lend(about(expected.need, choice[1]), choice[5]);
+    lent.listing.lend(about(7 * expected.measured.corners, choice[2]), choice[5]);
+    lent.answer.lend(answer_places(choice[4]), choice[5]);
+    uint8_t written = heqdanu_list(list.field, list.edge, list.grid, list.coords, list.ncoords, lent.work.places,
+                                   lent.work.length, lent.listing.places, lent.listing.length, lent.answer.places,
+                                   lent.answer.length);
+    const oracle::Measured &totals = expected.measured;
+    oracle::Refusal refusal = with_work(expected, lent.work.length);
+    bool indexed = refusal.number == 0;
+    if (indexed && lent.listing.length < 7 * totals.corners) refusal = {11, totals.corners};
+    bool room = expect_answer(6, refusal, {totals.volume, totals.area, totals.edge, totals.corners});
+    if (room && indexed) lent.work.store(oracle::index(list));
+    if (room && refusal.number == 0 && !expected.counted) {
+        oracle::Measured sums = oracle::sums(lent.listing.places, totals.corners);
+        expect(sums.volume == totals.volume && sums.area == totals.area && sums.edge == totals.edge, "list",
+               "the listing's sums are not the totals");
+        lent.listing.store({lent.listing.places, lent.listing.places + 7 * totals.corners});
+    }
+    if (room && refusal.number == 0 && expected.counted) lent.listing.store(totals.listing);
+    expect(written == room, "list", "says wrongly whether it answered");
+    lent.answer.check("list", "the answer differs");
+    lent.work.check("list", "the index differs");
+    lent.listing.check("list", "the listing differs");
+}
+
+void write(const oracle::List &list, const uint8_t *choice) {
+    Buffers &lent = buffers();
+    oracle::Refusal refusal = oracle::check(list);
+    std::vector<uint8_t> file = refusal.number == 0 ? oracle::write(list) : std::vector<uint8_t>(9);
+    lent.bytes.lend(about(file.size(), choice[3]), choice[5]);
+    lent.answer.lend(answer_places(choice[4]), choice[5]);
+    uint8_t written = heqdanu_write(list.field, list.edge, list.grid, list.coords, list.ncoords, lent.bytes.places,
+                                    lent.bytes.length, lent.answer.places, lent.answer.length);
+    if (refusal.number == 0 && lent.bytes.length < file.size()) refusal = {12, file.size()};
+    bool room = expect_answer(3, refusal, {file.size()});
+    if (room && refusal.number == 0) lent.bytes.store(file);
+    expect(written == room, "write", "says wrongly whether it answered");
+    lent.answer.check("write", "the answer differs");
+    lent.bytes.check("write", "the bytes differ");
+}
+
+// Squeezes a list into a small field, so that the calls accept it.
+void squeeze(uint16_t *header, std::vector<uint16_t> &coords) {
+    header[0] = uint16_t(header[0] % 20 + 1);
+    header[1] = uint16_t(header[1] % header[0] % 6 + 1);
+    if (header[1] > header[0]) header[1] = header[0];
+    header[2] = uint16_t(header[2] % header[0] + 1);
+    while (header[0] % header[2] != 0) header[2]--;
+    for (uint16_t &c : coords) c = uint16_t(c % (header[0] - header[1] + 1));
+}
+
+}  // namespace
+
+extern "C" int LLVMFuzzerTestOneInput(const uint8_t *data, size_t size) {
+    if (size < 6 || size > 36000) return 0;
+    input = data;
+    input_length = size;
+    oracle::File file = read(data + 6, size - 6, data);
+    std::vector<uint16_t> coords = file.coords;
+    if (data[5] & 1) squeeze(file.header, coords);
+    if ((data[5] & 6) == 6 && !coords.empty()) coords.pop_back();
+    oracle::List list = {file.header[0], file.header[1], file.header[2], coords.data(), coords.size()};
+    uint16_t none = 0;
+    if (coords.empty()) list.coords = &none;
+    Expected expected = expect_list(list);
+    // The stand-in is slow on large fields.
+    static const bool quick = getenv("HEQDANU_TESTS") != nullptr && strcmp(getenv("HEQDANU_TESTS"), "quick") == 0;
+    if (quick && expected.refusal.number == 0 && !expected.counted) return 0;
+    if (expected.need > 4 * MOST_ENTRIES && data[1] % 8 != 0) return 0;
+    measure("measure", heqdanu_measure, list, expected, data);
+    if (list.field <= RECOUNT_FIELD || expected.refusal.number != 0)
+        measure("recount", heqdanu_recount, list, expected, data);
+    list_corners(list, expected, data);
+    write(list, data);
+    return 0;
+}

@@ -1,0 +1,136 @@
+/* heqdanu.h: cube-shot quotes for C and C++.
+ *
+ * The calls measure a union of equal axis-aligned cubes ("shots") on a whole-number lattice, list its corner points,
+ * and read and write shot files. They live in target/staticlib/libcapi.a, which `rt staticlib capi` proves and writes:
+ *
+ *     cc program.c -Iinclude target/staticlib/libcapi.a -o program
+ *
+ * A LIST is five arguments: field side, shot edge, grid size, and the shots' lower corners x, y, z one after another
+ * in `coords`, `ncoords` numbers in all. It is accepted where
+ *
+ *     field    is 1 to 1,024
+ *     edge     is 1 to field
+ *     grid     is 1 to 64 and divides field
+ *     ncoords  is a multiple of 3, at most 12,288 (4,096 shots; none is fine, repeats are fine)
+ *     each coordinate plus edge is at most field.
+ *
+ * BUFFERS are lent for the call: a pointer, then the number of elements. A pointer may not be null, even with 0
+ * elements; it is aligned for its element; buffers that a call writes overlap no other buffer. Nothing else is asked of
+ * the arguments: every value of every number and every content of every buffer has a defined answer. No call
+ * allocates memory, keeps a pointer, or touches a place outside the buffers. Calls from several threads are fine as
+ * long as they share no buffer that one of them writes.
+ *
+ * ANSWERS go to `answer`, at least HEQDANU_ANSWER (or HEQDANU_WRITE_ANSWER) places of 64 bits:
+ *
+ *     answer[0]   0 if the call accepted, else the number of the refusal (below)
+ *     answer[1]   the refusal's detail, 0 if accepted
+ *     answer[2..] the call's numbers, all 0 if refused
+ *
+ * Places of `answer` past these keep their values. A call returns 1 when it wrote the answer. It returns 0 when
+ * `answer` is too short; then it changed no place of any buffer.
+ */
+#ifndef HEQDANU_H
+#define HEQDANU_H
+
+#include <stddef.h>
+#include <stdint.h>
+
+#ifdef __cplusplus
+extern "C" {
+#endif
+
+/* Why a call refuses, with the detail that goes with it. A call gives the first of its refusals, in this order, whose
+ * condition holds; the reader takes the file record by record, and the first faulty record decides. */
+enum {
+    HEQDANU_ACCEPTED = 0,
+    HEQDANU_NOT_THREES = 1,       /* ncoords is not a multiple of 3; 0 */
+    HEQDANU_TOO_MANY_SHOTS = 2,   /* more than 4,096 shots; 0, for the reader the offset of the 4,097th shot's map */
+    HEQDANU_NO_PLACES = 3,        /* no three places left in coords for the shot that begins; its map's offset */
+    HEQDANU_UNKNOWN_BIT = 4,      /* a map has a bit above bit 2; the map's offset */
+    HEQDANU_CUT_FILE = 5,         /* the file ends inside a record, or is empty; that record's map's offset, 0 if empty */
+    HEQDANU_FIELD = 6,            /* field is out of range; 0 */
+    HEQDANU_EDGE = 7,             /* edge is out of range; 0 */
+    HEQDANU_GRID = 8,             /* grid is out of range or does not divide field; 0 */
+    HEQDANU_OUTSIDE = 9,          /* a shot leaves the field; the first such shot, counted from 0 */
+    HEQDANU_WORK_SHORT = 10,      /* the work slice is too short; the entries needed */
+    HEQDANU_LISTING_SHORT = 11,   /* the listing is shorter than 7 times the corner count; the corners */
+    HEQDANU_BYTES_SHORT = 12      /* the byte buffer is shorter than the file; the bytes needed */
+};
+
+/* Places of `answer` that the calls need: all calls but heqdanu_write, and heqdanu_write. */
+#define HEQDANU_ANSWER 6
+#define HEQDANU_WRITE_ANSWER 3
+
+/* Bytes of a listing's record: x, y, z in 16 bits each, least byte first, then the pattern byte. */
+#define HEQDANU_RECORD 7
+
+/* Measures a list.
+ *
+ * answer: number, detail, volume (covered unit cells), area (unit squares with one of their two cells covered), edge
+ * length (unit edges: 1 where one or three of the four cells about it are covered, 2 where two that share only the
+ * edge are), corner count (lattice points that carry a weight).
+ *
+ * `work` takes the grid index. It needs grid*grid*grid + 1 entries and one for each pair of a grid cell and a shot that
+ * touches it; call with any shorter slice to learn the need from refusal 10.
+ *
+ * Refusals: 1, 2, 6, 7, 8, 9, 10.
+ * After success `work` holds the index in its first entries: grid*grid*grid + 1 starting places of the cells' runs,
+ * counted from the first run entry, then the runs, the shots' numbers rising within each; later entries keep their
+ * values. After a refusal `work` is as it was.
+ */
+uint8_t heqdanu_measure(uint16_t field, uint16_t edge, uint16_t grid, const uint16_t *coords, size_t ncoords,
+                        uint32_t *work, size_t nwork, uint64_t *answer, size_t nanswer);
+
+/* Measures a list and lists its corner points.
+ *
+ * answer: as heqdanu_measure.
+ *
+ * `listing` takes HEQDANU_RECORD bytes a corner, rising by x, then y, then z. Bit 4a+2b+c of the pattern is set if the
+ * cell there is covered; a is 1 for the cell above the point on x and 0 for the one below, b and c likewise on y, z.
+ *
+ * Refusals: 1, 2, 6, 7, 8, 9, 10, 11.
+ * After success `work` is as after heqdanu_measure; `listing` holds the records in its first bytes, later bytes keep
+ * their values. After refusal 11 `work` holds the finished index and `listing` is as it was. After any other refusal
+ * both are as they were.
+ */
+uint8_t heqdanu_list(uint16_t field, uint16_t edge, uint16_t grid, const uint16_t *coords, size_t ncoords,
+                     uint32_t *work, size_t nwork, uint8_t *listing, size_t nlisting, uint64_t *answer,
+                     size_t nanswer);
+
+/* Measures a list once more, cell by cell: the slow second opinion for a disputed quote, for fields up to a few
+ * hundred. Same arguments, answer, refusals and buffers as heqdanu_measure. */
+uint8_t heqdanu_recount(uint16_t field, uint16_t edge, uint16_t grid, const uint16_t *coords, size_t ncoords,
+                        uint32_t *work, size_t nwork, uint64_t *answer, size_t nanswer);
+
+/* Reads a shot file.
+ *
+ * answer: number, detail, field, edge, grid, number of shots. The ranges of these and of the coordinates are not
+ * tested; the calls that take the list do that.
+ *
+ * `coords` takes three numbers a shot; 12,288 places are enough for every file.
+ *
+ * Refusals: 2, 3, 4, 5, in this order on one record.
+ * After success `coords` holds the shots in its first places, later places keep their values. After a refusal `coords`
+ * is as it was.
+ */
+uint8_t heqdanu_read(const uint8_t *bytes, size_t nbytes, uint16_t *coords, size_t ncoords, uint64_t *answer,
+                     size_t nanswer);
+
+/* Writes the shortest shot file of a list.
+ *
+ * answer: number, detail, length of the file in bytes (HEQDANU_WRITE_ANSWER places).
+ *
+ * `bytes` takes the file; 28,679 bytes are enough for every list.
+ *
+ * Refusals: 1, 2, 6, 7, 8, 9, 12.
+ * After success `bytes` holds the file in its first bytes, later bytes keep their values. After a refusal `bytes` is as
+ * it was.
+ */
+uint8_t heqdanu_write(uint16_t field, uint16_t edge, uint16_t grid, const uint16_t *coords, size_t ncoords,
+                      uint8_t *bytes, size_t nbytes, uint64_t *answer, size_t nanswer);
+
+#ifdef __cplusplus
+}
+#endif
+
+#endif

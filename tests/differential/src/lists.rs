@@ -1,0 +1,214 @@
+//! Cases for the calls that take a list: measure, recount, list and write.
+
+use crate::lent::Lent;
+use crate::smallest::Case;
+use crate::{hex, same_answer};
+use heqdanu::raw;
+use oracle::calls::{self, Calls};
+use oracle::inputs::{Length, Random};
+use oracle::list::List;
+use oracle::{grid, shotfile};
+
+/// The largest field that the recount is tried on, since it looks at every cell.
+const RECOUNT_FIELD: u16 = 32;
+
+/// A list, the lengths of the buffers, and the seed of the junk in them.
+#[derive(Clone)]
+pub struct ListCase {
+    pub list: List,
+    pub work: Length,
+    pub listing: Length,
+    pub bytes: Length,
+    pub answer: Length,
+    pub seed: u64,
+}
+
+impl ListCase {
+    /// A case with this list; the lengths are mostly enough, often exact, now and then short.
+    pub fn any(random: &mut Random, list: List) -> ListCase {
+        ListCase {
+            list,
+            work: Length::any(random),
+            listing: Length::any(random),
+            bytes: Length::any(random),
+            answer: if random.once_in(20) { Length::any(random) } else { Length::About(0) },
+            seed: random.number(),
+        }
+    }
+
+    /// A case with this list and enough room in every buffer.
+    pub fn roomy(random: &mut Random, list: List) -> ListCase {
+        let more = Length::About(5);
+        ListCase { list, work: more, listing: more, bytes: more, answer: Length::About(2), seed: random.number() }
+    }
+
+    /// The work entries and listing bytes that the list needs; 0 where it is refused before they count.
+    fn needs(&self, calls: &Calls) -> (usize, usize) {
+        match self.list.check() {
+            Ok(()) => (grid::need(&self.list), calls.measured().listing.len()),
+            Err(_) => (0, 0),
+        }
+    }
+
+    fn measure(&self, calls: &Calls, work: usize, recount: bool) -> Result<(), String> {
+        let call = if recount { "recount" } else { "measure" };
+        let mut random = Random::new(self.seed);
+        let mut work = Lent::new(&mut random, work);
+        let mut answer = Lent::<u64>::new(&mut random, self.answer.places(6));
+        let (mut our_work, mut our_answer) = (work.clone(), answer.clone());
+        let library = if recount { raw::heqdanu_recount } else { raw::heqdanu_measure };
+        let List { field, edge, grid, coords } = &self.list;
+        let (w, a) = (our_work.slice(), our_answer.slice());
+        // SAFETY: each pointer comes from a slice with the length beside it, and no two of them overlap.
+        let written = unsafe {
+            library(
+                *field,
+                *edge,
+                *grid,
+                coords.as_ptr(),
+                coords.len(),
+                w.as_mut_ptr(),
+                w.len(),
+                a.as_mut_ptr(),
+                a.len(),
+            )
+        };
+        let expected = expect(answer.slice(), || calls.measure(work.slice()));
+        same_answer(call, &[written.into()], &[expected])?;
+        same_answer(call, our_answer.slice(), answer.slice())?;
+        our_work.same_as(&work, call, "work")
+    }
+
+    fn list(&self, calls: &Calls, work: usize, listing: usize) -> Result<(), String> {
+        let mut random = Random::new(self.seed);
+        let mut work = Lent::new(&mut random, work);
+        let mut listing = Lent::new(&mut random, listing);
+        let mut answer = Lent::<u64>::new(&mut random, self.answer.places(6));
+        let (mut our_work, mut our_listing, mut our_answer) = (work.clone(), listing.clone(), answer.clone());
+        let List { field, edge, grid, coords } = &self.list;
+        let (w, l, a) = (our_work.slice(), our_listing.slice(), our_answer.slice());
+        // SAFETY: each pointer comes from a slice with the length beside it, and no two of them overlap.
+        let written = unsafe {
+            raw::heqdanu_list(
+                *field,
+                *edge,
+                *grid,
+                coords.as_ptr(),
+                coords.len(),
+                w.as_mut_ptr(),
+                w.len(),
+                l.as_mut_ptr(),
+                l.len(),
+                a.as_mut_ptr(),
+                a.len(),
+            )
+        };
+        let expected = expect(answer.slice(), || calls.list(work.slice(), listing.slice()));
+        same_answer("list", &[written.into()], &[expected])?;
+        same_answer("list", our_answer.slice(), answer.slice())?;
+        our_work.same_as(&work, "list", "work")?;
+        our_listing.same_as(&listing, "list", "listing")
+    }
+
+    fn write(&self) -> Result<(), String> {
+        let mut random = Random::new(self.seed);
+        let mut bytes = Lent::new(&mut random, self.bytes.places(shotfile::shortest(&self.list).len()));
+        let mut answer = Lent::<u64>::new(&mut random, self.answer.places(3));
+        let (mut our_bytes, mut our_answer) = (bytes.clone(), answer.clone());
+        let List { field, edge, grid, coords } = &self.list;
+        let (b, a) = (our_bytes.slice(), our_answer.slice());
+        // SAFETY: each pointer comes from a slice with the length beside it, and no two of them overlap.
+        let written = unsafe {
+            raw::heqdanu_write(
+                *field,
+                *edge,
+                *grid,
+                coords.as_ptr(),
+                coords.len(),
+                b.as_mut_ptr(),
+                b.len(),
+                a.as_mut_ptr(),
+                a.len(),
+            )
+        };
+        let expected = expect(answer.slice(), || calls::write(&self.list, bytes.slice()));
+        same_answer("write", &[written.into()], &[expected])?;
+        same_answer("write", our_answer.slice(), answer.slice())?;
+        our_bytes.same_as(&bytes, "write", "byte")
+    }
+}
+
+/// Stores the oracle's answer where it has room; else nothing is called, as nothing may change.
+pub fn expect<const N: usize>(answer: &mut [u64], call: impl FnOnce() -> [u64; N]) -> u64 {
+    if answer.len() < N {
+        return 0;
+    }
+    answer[..N].copy_from_slice(&call());
+    1
+}
+
+impl Case for ListCase {
+    fn run(&self) -> Result<(), String> {
+        let calls = Calls::on(&self.list);
+        let (work, listing) = self.needs(&calls);
+        let (work, listing) = (self.work.places(work), self.listing.places(listing));
+        self.measure(&calls, work, false)?;
+        self.list(&calls, work, listing)?;
+        if self.list.field <= RECOUNT_FIELD || self.list.check().is_err() {
+            self.measure(&calls, work, true)?;
+        }
+        self.write()
+    }
+
+    fn describe(&self) -> String {
+        let List { field, edge, grid, coords } = &self.list;
+        let beyond = &coords[coords.len() / 3 * 3..];
+        format!(
+            "field {field}, edge {edge}, grid {grid}, {} coordinates; work {:?}, listing {:?}, bytes {:?}, answer {:?}\n\
+             shot file: {}{}",
+            coords.len(),
+            self.work,
+            self.listing,
+            self.bytes,
+            self.answer,
+            hex(&shotfile::shortest(&self.list)),
+            if beyond.is_empty() { String::new() } else { format!("\nand the coordinates {beyond:?} after its shots") }
+        )
+    }
+
+    fn smaller(&self) -> Vec<ListCase> {
+        let mut cases = Vec::new();
+        let mut add = |list: List| cases.push(ListCase { list, ..self.clone() });
+        let list = &self.list;
+        let shots = list.coords.len() / 3;
+        let mut part = shots;
+        while part > 0 {
+            for start in (0..shots).step_by(part).take(200) {
+                let mut coords = list.coords.clone();
+                coords.drain(3 * start..3 * (start + part).min(shots));
+                add(List { coords, ..list.clone() });
+            }
+            part /= 2;
+        }
+        for field in [list.field / 2, list.field.saturating_sub(1)] {
+            add(List { field, ..list.clone() });
+        }
+        for edge in [list.edge / 2, list.edge.saturating_sub(1)] {
+            add(List { edge, ..list.clone() });
+        }
+        for grid in [1, list.grid / 2, list.grid.saturating_sub(1)] {
+            add(List { grid, ..list.clone() });
+        }
+        if shots <= 16 {
+            for place in 0..list.coords.len() {
+                for value in [0, list.coords[place] / 2, list.coords[place].saturating_sub(1)] {
+                    let mut coords = list.coords.clone();
+                    coords[place] = value;
+                    add(List { coords, ..list.clone() });
+                }
+            }
+        }
+        cases.retain(|case| case.list != *list);
+        cases
+    }
+}

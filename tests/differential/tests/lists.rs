@@ -1,0 +1,100 @@
+//! Random and damaged lists: measure, recount, list and write against the oracle.
+//!
+//! HEQDANU_TESTS=quick leaves out the fields of 1,024.
+
+use differential::hold;
+use differential::lists::ListCase;
+use oracle::inputs::{accepted, accepted_with, coarsen, damaged, Length, Random, Size};
+use oracle::list::List;
+
+/// Holds so many accepted lists of a size, with buffers of all lengths.
+fn hold_accepted(seed: u64, lists: usize, size: Size, entries: usize) {
+    let mut random = Random::new(seed);
+    for _ in 0..lists {
+        let mut list = accepted(&mut random, size);
+        coarsen(&mut list, entries);
+        hold(ListCase::any(&mut random, list));
+    }
+}
+
+#[test]
+fn tiny_lists() {
+    hold_accepted(11, 30_000, Size { field: 7, shots: 9 }, 5_000);
+}
+
+#[test]
+fn small_lists() {
+    hold_accepted(12, 8_000, Size { field: 32, shots: 50 }, 20_000);
+}
+
+#[test]
+fn lists_of_some_hundred_shots() {
+    hold_accepted(13, 400, Size { field: 160, shots: 400 }, 200_000);
+}
+
+#[test]
+fn fields_about_a_word() {
+    let mut random = Random::new(14);
+    for field in [63, 64, 65, 127, 128, 129, 192, 255, 256, 257] {
+        for edge in [1, 2, 3, 16, 31, 32, 62, 63] {
+            let mut list = accepted_with(&mut random, field, edge, 120);
+            coarsen(&mut list, 300_000);
+            hold(ListCase::any(&mut random, list));
+        }
+    }
+}
+
+#[test]
+fn damaged_lists() {
+    let mut random = Random::new(15);
+    for _ in 0..15_000 {
+        let mut list = damaged(&mut random, Size { field: 20, shots: 12 });
+        if list.check().is_ok() {
+            coarsen(&mut list, 20_000);
+        }
+        hold(ListCase::any(&mut random, list));
+    }
+}
+
+#[test]
+fn short_answers_change_nothing() {
+    let mut random = Random::new(16);
+    for places in 0..8 {
+        for _ in 0..50 {
+            let mut list = accepted(&mut random, Size { field: 9, shots: 6 });
+            coarsen(&mut list, 3_000);
+            let case = ListCase::roomy(&mut random, list);
+            hold(ListCase { answer: Length::Fixed(places), ..case });
+        }
+    }
+}
+
+/// Full lists on the largest field: spread, clustered, touching, on one plane, repeated.
+#[test]
+fn fields_of_1024() {
+    if std::env::var("HEQDANU_TESTS").is_ok_and(|tests| tests == "quick") {
+        return;
+    }
+    let mut random = Random::new(17);
+    let spread = |random: &mut Random, edge: usize| -> Vec<u16> {
+        (0..12_288).map(|_| random.within(0, 1024 - edge) as u16).collect()
+    };
+    for (edge, grid) in [(1, 8), (1, 64), (8, 16), (16, 1), (16, 8), (16, 64), (128, 16), (512, 8), (1000, 4)] {
+        let coords = spread(&mut random, edge as usize);
+        hold(ListCase::roomy(&mut random, List { field: 1024, edge, grid, coords }));
+    }
+    let clustered = (0..12_288).map(|_| 700 + random.within(0, 90) as u16).collect();
+    hold(ListCase::roomy(&mut random, List { field: 1024, edge: 8, grid: 32, coords: clustered }));
+    let touching = (0..4096u16).flat_map(|n| [n / 256, n / 16 % 16, n % 16].map(|c| 64 * c)).collect();
+    hold(ListCase::roomy(&mut random, List { field: 1024, edge: 64, grid: 16, coords: touching }));
+    let mut plane = spread(&mut random, 512);
+    plane.chunks_mut(3).for_each(|shot| shot[2] = 0);
+    hold(ListCase::roomy(&mut random, List { field: 1024, edge: 512, grid: 8, coords: plane }));
+    hold(ListCase::roomy(&mut random, List { field: 1024, edge: 1024, grid: 8, coords: vec![0; 12_288] }));
+    for field in [1023, 1022, 1020, 960, 521] {
+        let edge = random.within(1, 40);
+        let mut list = accepted_with(&mut random, field, edge, 2000);
+        coarsen(&mut list, 2_000_000);
+        hold(ListCase::any(&mut random, list));
+    }
+}

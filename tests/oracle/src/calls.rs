@@ -1,0 +1,123 @@
+//! The calls with lent buffers, as a caller sees them: an answer, and every buffer's state afterwards.
+
+use crate::cells::Cells;
+use crate::list::{refusal, List, Refusal};
+use crate::{corners, grid, shotfile, totals};
+use std::cell::OnceCell;
+
+/// A call's answer: refusal number (0 if accepted), detail, then the call's numbers (all 0 if refused).
+pub type Answer<const N: usize> = [u64; N];
+
+fn refused<const N: usize>(refusal: Refusal) -> Answer<N> {
+    let mut answer = [0; N];
+    answer[0] = refusal.number;
+    answer[1] = refusal.detail;
+    answer
+}
+
+/// An accepted list's numbers: volume, area, edge length and corner count, with the listing beside them.
+pub struct Measured {
+    pub numbers: [u64; 4],
+    pub listing: Vec<u8>,
+}
+
+/// Counts an accepted list. The corner sums must give the totals again.
+pub fn measured(list: &List) -> Measured {
+    let cells = Cells::of(list);
+    let totals = totals::count(&cells);
+    let corners = corners::corners(&cells);
+    let listing = corners::listing(&corners);
+    assert_eq!(totals, corners::sums(&listing), "cell counts and corner sums differ for {list:?}");
+    Measured { numbers: [totals.volume, totals.area, totals.edge, corners.len() as u64], listing }
+}
+
+/// The calls on one list, which is counted once for all of them.
+pub struct Calls<'a> {
+    list: &'a List,
+    measured: OnceCell<Measured>,
+}
+
+impl<'a> Calls<'a> {
+    pub fn on(list: &'a List) -> Calls<'a> {
+        Calls { list, measured: OnceCell::new() }
+    }
+
+    /// The list's numbers and its listing; only for a list that `check` accepts.
+    pub fn measured(&self) -> &Measured {
+        self.measured.get_or_init(|| measured(self.list))
+    }
+
+    /// The measuring call; success leaves the index in the work slice.
+    pub fn measure(&self, work: &mut [u32]) -> Answer<6> {
+        match self.check_with(work) {
+            Err(refusal) => refused(refusal),
+            Ok(()) => self.accept(work),
+        }
+    }
+
+    /// The listing call; refusal 11 leaves the index in the work slice and the listing buffer as it was.
+    pub fn list(&self, work: &mut [u32], listing: &mut [u8]) -> Answer<6> {
+        if let Err(refusal) = self.check_with(work) {
+            return refused(refusal);
+        }
+        let answer = self.accept(work);
+        let records = &self.measured().listing;
+        if listing.len() < records.len() {
+            return refused(refusal(11, records.len() / 7));
+        }
+        listing[..records.len()].copy_from_slice(records);
+        answer
+    }
+
+    /// Refusals 1, 2, 6 to 9 and 10.
+    fn check_with(&self, work: &[u32]) -> Result<(), Refusal> {
+        self.list.check()?;
+        let need = grid::need(self.list);
+        if work.len() < need {
+            return Err(refusal(10, need));
+        }
+        Ok(())
+    }
+
+    fn accept(&self, work: &mut [u32]) -> Answer<6> {
+        let index = grid::index(self.list);
+        work[..index.len()].copy_from_slice(&index);
+        let [volume, area, edge, corners] = self.measured().numbers;
+        [0, 0, volume, area, edge, corners]
+    }
+}
+
+/// The measuring call on a list.
+pub fn measure(list: &List, work: &mut [u32]) -> Answer<6> {
+    Calls::on(list).measure(work)
+}
+
+/// The listing call on a list.
+pub fn list(list: &List, work: &mut [u32], listing: &mut [u8]) -> Answer<6> {
+    Calls::on(list).list(work, listing)
+}
+
+/// The reader; a refusal stores nothing.
+pub fn read(file: &[u8], coords: &mut [u16]) -> Answer<6> {
+    match shotfile::read(file, coords.len()) {
+        Err(refusal) => refused(refusal),
+        Ok(list) => {
+            coords[..list.coords.len()].copy_from_slice(&list.coords);
+            let shots = list.coords.len() as u64 / 3;
+            [0, 0, list.field.into(), list.edge.into(), list.grid.into(), shots]
+        }
+    }
+}
+
+/// The writer; a refusal stores nothing.
+pub fn write(list: &List, bytes: &mut [u8]) -> Answer<3> {
+    if let Err(refusal) = list.check() {
+        return refused(refusal);
+    }
+    let file = shotfile::shortest(list);
+    if bytes.len() < file.len() {
+        return refused(refusal(12, file.len()));
+    }
+    bytes[..file.len()].copy_from_slice(&file);
+    [0, 0, file.len() as u64]
+}

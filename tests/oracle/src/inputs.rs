@@ -1,0 +1,246 @@
+//! Random and damaged inputs from a seed: lists, shot files, and the sizes of lent buffers.
+//!
+//! The same seed gives the same inputs on every machine.
+
+use crate::list::{List, MOST_SHOTS};
+use crate::{grid, shotfile};
+
+/// A small generator of random numbers (splitmix64).
+#[derive(Clone)]
+pub struct Random(u64);
+
+impl Random {
+    pub fn new(seed: u64) -> Random {
+        Random(seed)
+    }
+
+    pub fn number(&mut self) -> u64 {
+        self.0 = self.0.wrapping_add(0x9e37_79b9_7f4a_7c15);
+        let mut z = self.0;
+        z = (z ^ z >> 30).wrapping_mul(0xbf58_476d_1ce4_e5b9);
+        z = (z ^ z >> 27).wrapping_mul(0x94d0_49bb_1331_11eb);
+        z ^ z >> 31
+    }
+
+    /// A number from `low` to `high`, both included.
+    pub fn within(&mut self, low: usize, high: usize) -> usize {
+        low + (self.number() % (high - low + 1) as u64) as usize
+    }
+
+    /// True once in `n` times.
+    pub fn once_in(&mut self, n: usize) -> bool {
+        self.within(1, n) == 1
+    }
+
+    /// One of the given values.
+    pub fn one_of<T: Clone>(&mut self, values: &[T]) -> T {
+        values[self.within(0, values.len() - 1)].clone()
+    }
+}
+
+/// How large a list's field and shot count may be.
+#[derive(Clone, Copy, Debug)]
+pub struct Size {
+    pub field: usize,
+    pub shots: usize,
+}
+
+/// A list within the size that every call accepts, given room.
+pub fn accepted(random: &mut Random, size: Size) -> List {
+    let field = random.within(1, size.field);
+    let edge = match random.within(0, 4) {
+        0 => 1,
+        1 => random.within(1, field),
+        2 => field - random.within(0, field.min(3) - 1),
+        _ => random.within(1, field.div_ceil(3)),
+    };
+    accepted_with(random, field, edge, size.shots)
+}
+
+/// A list with the given field and edge that every call accepts, given room.
+pub fn accepted_with(random: &mut Random, field: usize, edge: usize, most_shots: usize) -> List {
+    let grids: Vec<usize> = (1..=field.min(64)).filter(|g| field.is_multiple_of(*g)).collect();
+    let grid = random.one_of(&grids);
+    let shots = if random.once_in(40) { 0 } else { random.within(1, most_shots) };
+    let coords = coords(random, field, edge, grid, shots);
+    List { field: field as u16, edge: edge as u16, grid: grid as u16, coords }
+}
+
+/// Coordinates of shots that stay in the field: spread, in one cluster, in steps of the edge (so that cubes touch), on
+/// grid planes, or as repeats of earlier shots.
+fn coords(random: &mut Random, field: usize, edge: usize, grid: usize, shots: usize) -> Vec<u16> {
+    let top = field - edge;
+    let style = random.within(0, 5);
+    let reach = random.within(0, 2 * edge).min(top);
+    let base = [0; 3].map(|_| random.within(0, top - reach));
+    let mut coords: Vec<u16> = Vec::with_capacity(3 * shots);
+    for shot in 0..shots {
+        if shot > 0 && (style == 4 || random.once_in(16)) && random.once_in(2) {
+            let earlier = 3 * random.within(0, shot - 1);
+            coords.extend_from_within(earlier..earlier + 3);
+            continue;
+        }
+        for low in base {
+            let coordinate = match style {
+                0 => random.within(0, top),
+                1 => low + random.within(0, reach),
+                2 => (low % edge + edge * random.within(0, 3)).min(top),
+                3 => (field / grid * random.within(0, grid)).saturating_sub(edge * random.within(0, 1)).min(top),
+                4 => random.one_of(&[0, top, top / 2, low]),
+                _ => (low + edge * random.within(0, 1) + random.within(0, 1)).min(top),
+            };
+            coords.push(coordinate as u16);
+        }
+    }
+    coords
+}
+
+/// A list with one or a few faults, so that some call refuses it by 1, 2, 6, 7, 8 or 9, mostly.
+pub fn damaged(random: &mut Random, size: Size) -> List {
+    let mut list = accepted(random, size);
+    for _ in 0..random.within(1, 2) {
+        match random.within(0, 6) {
+            0 => list.field = random.one_of(&[0, 1025, 1026, 2048, 32768, 65535]),
+            1 => list.edge = random.one_of(&[0, list.field.wrapping_add(1), 1025, 65535]),
+            2 => list.grid = random.one_of(&[0, 65, 64, 3, 7, 65535, list.grid.wrapping_add(1)]),
+            3 => drop(list.coords.pop()),
+            4 => list.coords.push(random.number() as u16),
+            5 => leave_field(random, &mut list),
+            _ => too_many(random, &mut list),
+        }
+    }
+    list
+}
+
+/// Moves a coordinate so that its cube ends past the field, by little or so far that 16 bits would wrap.
+fn leave_field(random: &mut Random, list: &mut List) {
+    if list.coords.is_empty() {
+        list.coords = vec![0; 3];
+    }
+    for _ in 0..random.within(1, 3) {
+        let place = random.within(0, list.coords.len() - 1);
+        let room = list.field.wrapping_sub(list.edge);
+        list.coords[place] =
+            random.one_of(&[room.wrapping_add(1), list.field, 65535, 0u16.wrapping_sub(list.edge), 32768]);
+    }
+}
+
+/// Repeats shots until the count is at, or just past, the most that is allowed.
+fn too_many(random: &mut Random, list: &mut List) {
+    if !random.once_in(8) {
+        return;
+    }
+    let numbers = 3 * MOST_SHOTS + random.one_of(&[0, 1, 2, 3, 4, 6, 300]);
+    if list.coords.is_empty() {
+        list.coords.push(0);
+    }
+    let kept = list.coords.clone();
+    list.coords = kept.into_iter().cycle().take(numbers).collect();
+}
+
+/// A shot file of the list in which some fields stand although their absence would mean the same.
+pub fn longer_file(random: &mut Random, list: &List) -> Vec<u8> {
+    let mut file = Vec::new();
+    let mut put = |values: [u16; 3], absent: [u16; 3]| {
+        let map = file.len();
+        file.push(0);
+        for bit in 0..3 {
+            if values[bit] != absent[bit] || random.once_in(3) {
+                file[map] |= 1 << bit;
+                file.extend(values[bit].to_le_bytes());
+            }
+        }
+    };
+    put([list.field, list.edge, list.grid], shotfile::ABSENT);
+    let mut previous = [0; 3];
+    for shot in list.coords.chunks_exact(3) {
+        put([shot[0], shot[1], shot[2]], previous);
+        previous = [shot[0], shot[1], shot[2]];
+    }
+    file
+}
+
+/// A shot file: whole, cut, with flipped bits, with more bytes after it, or random bytes.
+pub fn file(random: &mut Random, size: Size) -> Vec<u8> {
+    let list = if random.once_in(4) { damaged(random, size) } else { accepted(random, size) };
+    let mut file = if random.once_in(2) { shotfile::shortest(&list) } else { longer_file(random, &list) };
+    match random.within(0, 9) {
+        0 => file.truncate(random.within(0, file.len())),
+        1 => flip(random, &mut file, 1),
+        2 => flip(random, &mut file, 8),
+        3 => file.extend((0..random.within(1, 9)).map(|_| random.number() as u8 & 7).collect::<Vec<u8>>()),
+        4 => file = (0..random.within(0, 60)).map(|_| random.number() as u8).collect(),
+        5 => file = (0..random.within(0, 60)).map(|_| random.number() as u8 & 7).collect(),
+        _ => {}
+    }
+    file
+}
+
+/// A file about the largest number of shots, to meet refusal 2 and the end of the bytes that the quoting program reads.
+pub fn crowded_file(random: &mut Random) -> Vec<u8> {
+    let map = random.one_of(&[0u8, 1, 4, 7]);
+    let shots = MOST_SHOTS + random.within(0, 3) - 1;
+    let mut file = vec![7];
+    for value in [64u16, 2, random.one_of(&[1, 2, 4])] {
+        file.extend(value.to_le_bytes());
+    }
+    for _ in 0..shots {
+        file.push(map);
+        for _ in 0..map.count_ones() {
+            file.extend((random.within(0, 62) as u16).to_le_bytes());
+        }
+    }
+    match random.within(0, 5) {
+        0 => file.push(random.number() as u8),
+        1 => file.truncate(file.len() - 1),
+        2 => flip(random, &mut file, 1),
+        3 => file.extend([0, 255, 1]),
+        _ => {}
+    }
+    file
+}
+
+fn flip(random: &mut Random, file: &mut [u8], most: usize) {
+    if file.is_empty() {
+        return;
+    }
+    for _ in 0..random.within(1, most) {
+        let place = random.within(0, file.len() - 1);
+        file[place] ^= 1 << random.within(0, 7);
+    }
+}
+
+/// Makes the grid of an accepted list coarser until its index needs at most `entries`, as far as that goes.
+pub fn coarsen(list: &mut List, entries: usize) {
+    while list.grid > 1 && grid::need(list) > entries {
+        list.grid = (1..list.grid).rev().find(|g| list.field.is_multiple_of(*g)).unwrap_or(1);
+    }
+}
+
+/// The length of a lent buffer: so many places more or fewer than the call needs, or a number of its own.
+#[derive(Clone, Copy, Debug, PartialEq, Eq)]
+pub enum Length {
+    About(i64),
+    Fixed(usize),
+}
+
+impl Length {
+    /// The length where a call needs so many places.
+    pub fn places(self, need: usize) -> usize {
+        match self {
+            Length::About(more) => (need as i64 + more).max(0) as usize,
+            Length::Fixed(places) => places,
+        }
+    }
+
+    /// Mostly enough, often exact, now and then short.
+    pub fn any(random: &mut Random) -> Length {
+        match random.within(0, 11) {
+            0 => Length::About(-1),
+            1 => Length::About(-(random.within(1, 9) as i64)),
+            2 => Length::Fixed(random.within(0, 20)),
+            3..=6 => Length::About(0),
+            _ => Length::About(random.within(1, 30) as i64),
+        }
+    }
+}

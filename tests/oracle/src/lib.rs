@@ -1,0 +1,26 @@
+//! A second implementation of cube-shot quotes, to hold the proved one to.
+//!
+//! It is written from the request's words and shares no code with the proved crates. It prefers the plain way: cells
+//! are painted into a bit set, every lattice point is looked at, the grid index is filled shot by shot.
+//!
+//! - [`list`]: a list of shots and the refusals that depend on it alone
+//! - [`cells`]: the covered cells as a bit set
+//! - [`totals`]: volume, area and edge length counted over cells
+//! - [`corners`]: patterns, the seven weights, the listing, the corner sums
+//! - [`grid`]: the grid index
+//! - [`shotfile`]: the reader and the writer
+//! - [`calls`]: measure, list, read and write with lent buffers, as a caller sees them
+//! - [`quote`]: the quoting program
+//! - [`literal`]: the definitions once more, cell by cell and point by point, for small fields
+//! - [`inputs`]: random and damaged inputs, from a seed
+
+pub mod calls;
+pub mod cells;
+pub mod corners;
+pub mod grid;
+pub mod inputs;
+pub mod list;
+pub mod literal;
+pub mod quote;
+pub mod shotfile;
+pub mod totals;

@@ -1,0 +1,92 @@
+//! The jobs whose totals the request gives.
+
+use oracle::calls::{self, Calls};
+use oracle::list::List;
+use oracle::quote::quote;
+
+fn job(field: u16, edge: u16, grid: u16, shots: &[[u16; 3]]) -> List {
+    List { field, edge, grid, coords: shots.concat() }
+}
+
+/// A job's edge, its shots, and its volume, area, edge length and corners.
+type Known<'a> = (u16, &'a [[u16; 3]], [u64; 4]);
+
+/// The measuring call's answer with plenty of room; the listing call must give the same.
+fn measure(list: &List) -> [u64; 6] {
+    let calls = Calls::on(list);
+    let answer = calls.measure(&mut vec![0; 2_000_000]);
+    assert_eq!(answer, calls.list(&mut vec![0; 2_000_000], &mut vec![0; 70_000]));
+    answer
+}
+
+#[test]
+fn the_table_of_known_totals() {
+    let mut about = Vec::new();
+    for x in 0..3 {
+        for y in 0..3 {
+            for z in 0..3 {
+                if [x, y, z] != [1, 1, 1] {
+                    about.push([x, y, z]);
+                }
+            }
+        }
+    }
+    for grid in [1, 2, 4, 8] {
+        let known: [Known; 8] = [
+            (2, &[], [0, 0, 0, 0]),
+            (2, &[[1, 1, 1]], [8, 24, 24, 8]),
+            (2, &[[1, 1, 1], [1, 1, 1]], [8, 24, 24, 8]),
+            (2, &[[0, 0, 0], [2, 0, 0]], [16, 40, 32, 8]),
+            (2, &[[0, 0, 0], [2, 2, 0]], [16, 48, 48, 14]),
+            (2, &[[0, 0, 0], [2, 2, 2]], [16, 48, 48, 15]),
+            (2, &[[0, 0, 0], [1, 1, 1]], [15, 42, 48, 20]),
+            (1, &about, [26, 60, 48, 16]),
+        ];
+        for (edge, shots, [volume, area, length, corners]) in known {
+            assert_eq!(measure(&job(8, edge, grid, shots)), [0, 0, volume, area, length, corners], "{shots:?}");
+        }
+    }
+}
+
+#[test]
+fn the_whole_field_as_one_shot() {
+    for shots in [1, 2, 4096] {
+        let list = job(1024, 1024, 1, &vec![[0; 3]; shots]);
+        assert_eq!(measure(&list), [0, 0, 1_073_741_824, 6_291_456, 12_288, 8]);
+    }
+}
+
+#[test]
+fn the_edges_of_the_ranges() {
+    let number = |list: &List| measure(list)[..2].to_vec();
+    assert_eq!(number(&job(8, 2, 2, &[[6, 6, 6]])), [0, 0]);
+    assert_eq!(number(&job(8, 2, 2, &[[7, 6, 6]])), [9, 0]);
+    assert_eq!(number(&job(8, 8, 2, &[[0, 0, 0]])), [0, 0]);
+    assert_eq!(number(&job(8, 9, 2, &[[0, 0, 0]])), [7, 0]);
+    assert_eq!(number(&job(8, 2, 3, &[])), [8, 0]);
+}
+
+#[test]
+fn the_entries_that_an_index_needs() {
+    for (shot, need) in [([1; 3], 10), ([2; 3], 17), ([3; 3], 17)] {
+        let list = job(8, 2, 2, &[shot]);
+        let mut work = vec![77; need - 1];
+        assert_eq!(calls::measure(&list, &mut work), [10, need as u64, 0, 0, 0, 0]);
+        assert_eq!(work, vec![77; need - 1]);
+        let mut work = vec![77; need + 1];
+        assert_eq!(calls::measure(&list, &mut work)[0], 0);
+        assert_eq!(work[need], 77);
+    }
+}
+
+#[test]
+fn the_quoting_program_s_example() {
+    let file = [7, 8, 0, 2, 0, 2, 0, 0, 7, 1, 0, 1, 0, 1, 0];
+    assert_eq!(quote(&file), "volume 15\narea 42\nedge 48\ncorners 20\n");
+    assert_eq!(quote(&[]), "refused 5 0\n");
+    assert_eq!(quote(b"VOX "), "refused 4 0\n");
+    assert_eq!(quote(&[0]), "volume 0\narea 0\nedge 0\ncorners 0\n");
+    assert_eq!(quote(&[0, 0]), "volume 4096\narea 1536\nedge 192\ncorners 8\n");
+    assert_eq!(quote(&[1, 8, 0]), "refused 7 0\n");
+    assert_eq!(quote(&[4, 64, 0]), "refused 10 262145\n");
+}

@@ -1,0 +1,121 @@
+//! Refusals: their order, their details, and what they leave in the buffers.
+
+use oracle::list::List;
+use oracle::{calls, grid, shotfile};
+
+fn list(field: u16, edge: u16, grid: u16, coords: &[u16]) -> List {
+    List { field, edge, grid, coords: coords.to_vec() }
+}
+
+fn measure(list: &List) -> [u64; 6] {
+    calls::measure(list, &mut vec![0; 300_000])
+}
+
+#[test]
+fn one_comes_before_two() {
+    assert_eq!(measure(&list(0, 0, 0, &vec![0; 12_289])), [1, 0, 0, 0, 0, 0]);
+    assert_eq!(measure(&list(0, 0, 0, &vec![0; 12_291])), [2, 0, 0, 0, 0, 0]);
+    assert_eq!(measure(&list(0, 0, 0, &vec![0; 12_288])), [6, 0, 0, 0, 0, 0]);
+}
+
+#[test]
+fn ranges_of_field_edge_and_grid() {
+    let number = |field, edge, grid| measure(&list(field, edge, grid, &[]))[0];
+    assert_eq!([number(0, 1, 1), number(1025, 1, 1), number(65535, 0, 0)], [6, 6, 6]);
+    assert_eq!([number(8, 0, 1), number(8, 9, 1), number(8, 16, 0)], [7, 7, 7]);
+    assert_eq!([number(8, 1, 0), number(8, 1, 3), number(8, 1, 16), number(650, 1, 65)], [8, 8, 8, 8]);
+    assert_eq!([number(1, 1, 1), number(64, 1, 64), number(1024, 1024, 1)], [0, 0, 0]);
+    assert_eq!([number(1, 2, 1), number(1, 1, 2)], [7, 8]);
+}
+
+#[test]
+fn a_shot_that_leaves_the_field() {
+    assert_eq!(measure(&list(1024, 16, 8, &[0, 0, 0, 0, 65_520, 0, 1009, 0, 0])), [9, 1, 0, 0, 0, 0]);
+    assert_eq!(measure(&list(1024, 16, 8, &[1008, 1008, 1008]))[0], 0);
+    assert_eq!(calls::measure(&list(8, 2, 2, &[7, 0, 0]), &mut []), [9, 0, 0, 0, 0, 0]);
+}
+
+#[test]
+fn ten_changes_nothing_and_counts_first() {
+    let shots = list(8, 2, 2, &[1, 1, 1, 2, 2, 2]);
+    let mut work = vec![5; 17];
+    assert_eq!(calls::measure(&shots, &mut work), [10, 18, 0, 0, 0, 0]);
+    assert_eq!(work, vec![5; 17]);
+    assert_eq!(calls::measure(&list(8, 2, 2, &[]), &mut [0; 8]), [10, 9, 0, 0, 0, 0]);
+}
+
+#[test]
+fn eleven_leaves_the_finished_index_and_the_listing_as_lent() {
+    let one = list(8, 2, 2, &[1, 1, 1]);
+    let mut work = vec![5; 11];
+    let mut listing = vec![9; 55];
+    assert_eq!(calls::list(&one, &mut work, &mut listing), [11, 8, 0, 0, 0, 0]);
+    assert_eq!(work, [0, 1, 1, 1, 1, 1, 1, 1, 1, 0, 5]);
+    assert_eq!(listing, vec![9; 55]);
+    let mut listing = vec![9; 57];
+    assert_eq!(calls::list(&one, &mut work, &mut listing), [0, 0, 8, 24, 24, 8]);
+    assert_eq!(listing[..14], [1, 0, 1, 0, 1, 0, 128, 1, 0, 1, 0, 3, 0, 64]);
+    assert_eq!(listing[56], 9);
+}
+
+#[test]
+fn twelve_gives_the_bytes_needed() {
+    let two = list(8, 2, 2, &[0, 0, 0, 1, 1, 1]);
+    let mut bytes = vec![9; 15];
+    assert_eq!(calls::write(&two, &mut bytes[..14]), [12, 15, 0]);
+    assert_eq!(bytes, vec![9; 15]);
+    assert_eq!(calls::write(&two, &mut bytes), [0, 0, 15]);
+    assert_eq!(bytes, [7, 8, 0, 2, 0, 2, 0, 0, 7, 1, 0, 1, 0, 1, 0]);
+    assert_eq!(calls::write(&list(8, 2, 3, &[9, 9, 9]), &mut []), [8, 0, 0]);
+    assert_eq!(calls::write(&list(8, 2, 2, &[6, 7, 0]), &mut []), [9, 0, 0]);
+}
+
+#[test]
+fn the_largest_need_fits_32_bits() {
+    let all = list(1024, 1024, 64, &vec![0; 12_288]);
+    assert_eq!(grid::need(&all), 1_074_003_969);
+}
+
+#[test]
+fn the_reader_s_first_faulty_record_decides() {
+    let read = |file: &[u8], places: usize| {
+        let mut coords = vec![7; places];
+        let answer = calls::read(file, &mut coords);
+        if answer[0] != 0 {
+            assert_eq!(coords, vec![7; places]);
+            assert_eq!(answer[2..], [0; 4]);
+        }
+        (answer[0], answer[1])
+    };
+    assert_eq!(read(&[], 3), (5, 0));
+    assert_eq!(read(&[8], 3), (4, 0));
+    assert_eq!(read(&[1], 3), (5, 0));
+    assert_eq!(read(&[1, 8], 3), (5, 0));
+    assert_eq!(read(&[9], 3), (4, 0));
+    assert_eq!(read(&[0, 1, 8], 3), (5, 1));
+    assert_eq!(read(&[0, 0, 6, 0, 0, 0], 6), (5, 2));
+    assert_eq!(read(&[0, 8], 2), (3, 1));
+    assert_eq!(read(&[0, 8], 3), (4, 1));
+    assert_eq!(read(&[0, 0, 0], 5), (3, 2));
+    assert_eq!(read(&[0, 0, 255], 5), (3, 2));
+    assert_eq!(read(&[0, 0, 0], 7), (0, 0));
+    let mut crowded = vec![0; 4097];
+    assert_eq!(read(&crowded, 12_288), (0, 0));
+    crowded.push(255);
+    assert_eq!(read(&crowded, 12_288), (2, 4097));
+    assert_eq!(read(&crowded, 12_287), (3, 4096));
+    crowded[4000] = 16;
+    assert_eq!(read(&crowded, 20_000), (4, 4000));
+}
+
+#[test]
+fn absent_fields_repeat_axis_by_axis() {
+    let mut coords = vec![7; 16];
+    let file = [0, 5, 1, 0, 2, 0, 2, 3, 0, 1, 0, 0, 0];
+    assert_eq!(calls::read(&file, &mut coords), [0, 0, 1024, 16, 8, 4]);
+    assert_eq!(coords, [1, 0, 2, 1, 3, 2, 0, 3, 2, 0, 3, 2, 7, 7, 7, 7]);
+    assert_eq!(calls::read(&[0], &mut coords), [0, 0, 1024, 16, 8, 0]);
+    let read = shotfile::read(&file, 12).unwrap();
+    assert_eq!(shotfile::shortest(&read), file);
+    assert_eq!(shotfile::shortest(&list(1024, 16, 8, &[0, 0, 0])), [0, 0]);
+}
