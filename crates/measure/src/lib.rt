@@ -10,7 +10,9 @@ ghost use Rattle.lattice.specs.Listing.{cornerCount, listing};
 ghost use Rattle.lattice.specs.CornerSums.{totalsOf};
 ghost use Rattle.job.specs.Job.{Valid};
 ghost use Rattle.grid.specs.Grid.{Holds};
-ghost use Rattle.measure.specs.Answers.{solid, measureChecked, measureAnswer, listAnswer, workAfter, listingAfter, shortListing};
+ghost use Rattle.measure.specs.Answers.{solid, shortListing, measureChecked, answerOf, onChecked, measureAnswer, listAnswer, workAfter, listingAfter};
+ghost use Rattle.job.specs.Checking.{andThen};
+ghost use Rattle.job.specs.declared.Checked.the-variants.{Accepted};
 use job::Checked;
 use job::Refusal;
 use lattice::sums::Totals;
@@ -36,4 +38,65 @@ fn indexed(field: u16, edge: u16, grid: u16, coords: &[u16], work: &mut [u32]) -
     }
     grid::index::build(field, edge, grid, coords, work);
     Checked::Accepted
+}
+
+// The totals of a valid list whose index stands in the work slice.
+fn count(field: u16, edge: u16, grid: u16, coords: &[u16], work: &[u32]) -> Totals
+    requires { ⌜ Valid field edge grid (now coords) × Holds field edge grid (now coords) (now work) ⌝ }
+    ensures { λ r. ⌜ r ≡ totalsOf field (solid edge (now (coords .entry))) ⌝ }
+{
+    let mut no_room = [0u8; 1];
+    let sums = sweep::sweep(field, edge, grid, coords, work, &mut no_room);
+    sums.totals()
+}
+
+// Puts the listing of a valid list whose index stands in the work slice into a buffer that has room for it.
+fn store(field: u16, edge: u16, grid: u16, coords: &[u16], work: &[u32], buffer: &mut [u8])
+    requires { ⌜ Valid field edge grid (now coords) × Holds field edge grid (now coords) (now work) ⌝ }
+    requires { ⌜ 7 * cornerCount field (solid edge (now coords)) ≤ length (now buffer) ⌝ }
+    ensures { λ _. ⌜ now (buffer .exit) ≡ listing field (solid edge (now (coords .entry))) ++ drop (7 * cornerCount field (solid edge (now (coords .entry)))) (now (buffer .entry)) ⌝ }
+{
+    sweep::sweep(field, edge, grid, coords, work, buffer);
+}
+
+// Counts the corners of a valid list whose index stands in the work slice, and lists them where the buffer has room.
+fn list_corners(field: u16, edge: u16, grid: u16, coords: &[u16], work: &[u32], buffer: &mut [u8]) -> Measured
+    requires { ⌜ Valid field edge grid (now coords) × Holds field edge grid (now coords) (now work) ⌝ }
+    ensures answer { λ r. ⌜ r ≡ answerOf (andThen Accepted (shortListing field (solid edge (now (coords .entry))) (length (now (buffer .entry))))) field (solid edge (now (coords .entry))) ⌝ }
+    ensures listing { λ _. ⌜ now (buffer .exit) ≡ onChecked (andThen Accepted (shortListing field (solid edge (now (coords .entry))) (length (now (buffer .entry))))) (now (buffer .entry)) (listing field (solid edge (now (coords .entry))) ++ drop (7 * cornerCount field (solid edge (now (coords .entry)))) (now (buffer .entry))) ⌝ }
+{
+    let totals = count(field, edge, grid, coords, work);
+    let corners = totals.corners;
+    if buffer.len() / 7 < corners {
+        return Measured::Refused(Refusal::ShortListing { corners: corners });
+    }
+    store(field, edge, grid, coords, work, buffer);
+    Measured::Quote(totals)
+}
+
+// Measures a list: gives its three totals and its corner count, and leaves its index in the work slice. Refusals 1, 2, 6, 7, 8, 9, 10, in this
+// order, change nothing.
+pub fn measure(field: u16, edge: u16, grid: u16, coords: &[u16], work: &mut [u32]) -> Measured
+    ensures answer { λ r. ⌜ r ≡ measureAnswer field edge grid (now (coords .entry)) (length (now (work .entry))) ⌝ }
+    ensures index { λ _. ⌜ now (work .exit) ≡ workAfter field edge grid (now (coords .entry)) (now (work .entry)) ⌝ }
+{
+    let checked = indexed(field, edge, grid, coords, work);
+    match checked {
+        Checked::Refused(refusal) => Measured::Refused(refusal),
+        Checked::Accepted => Measured::Quote(count(field, edge, grid, coords, work)),
+    }
+}
+
+// Measures a list and fills the front of the buffer with its corner listing. Refusals as in measuring, and then 11, which leaves the
+// finished index in the work slice and the buffer as lent.
+pub fn list(field: u16, edge: u16, grid: u16, coords: &[u16], work: &mut [u32], buffer: &mut [u8]) -> Measured
+    ensures answer { λ r. ⌜ r ≡ listAnswer field edge grid (now (coords .entry)) (length (now (work .entry))) (length (now (buffer .entry))) ⌝ }
+    ensures index { λ _. ⌜ now (work .exit) ≡ workAfter field edge grid (now (coords .entry)) (now (work .entry)) ⌝ }
+    ensures listing { λ _. ⌜ now (buffer .exit) ≡ listingAfter field edge grid (now (coords .entry)) (length (now (work .entry))) (now (buffer .entry)) ⌝ }
+{
+    let checked = indexed(field, edge, grid, coords, work);
+    match checked {
+        Checked::Refused(refusal) => Measured::Refused(refusal),
+        Checked::Accepted => list_corners(field, edge, grid, coords, work, buffer),
+    }
 }
