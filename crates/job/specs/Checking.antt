@@ -51,3 +51,8 @@ tests F E G coords =
 
 unfoldable pub checked : ℕ → ℕ → ℕ → List ℕ → Checked
 checked F E G coords = firstOf (tests F E G coords)
+
+-- one check more, where the earlier ones pass
+abbrev pub andThen : Checked → Test → Checked
+andThen Accepted t = cond (t .holds) (Refused (t .gives)) Accepted
+andThen (Refused r) t = Refused r

@@ -66,11 +66,13 @@ bitOf absent v = cond (eqb v absent) 0 1
 unfoldable pub fieldOf : ℕ → ℕ → List ℕ
 fieldOf absent v = cond (eqb v absent) [] (v % 256 ∷ v / 256 ∷ [])
 
+abbrev pub mapOf : Fields → Fields → ℕ
+mapOf absent f = bitOf (absent .first) (f .first) + 2 * bitOf (absent .second) (f .second) + 4 * bitOf (absent .third) (f .third)
+
 -- the shortest record that says these numbers
 unfoldable pub recordOf : Fields → Fields → List ℕ
 recordOf absent f =
-    (bitOf (absent .first) (f .first) + 2 * bitOf (absent .second) (f .second) + 4 * bitOf (absent .third) (f .third))
-    ∷ fieldOf (absent .first) (f .first) ++ (fieldOf (absent .second) (f .second) ++ fieldOf (absent .third) (f .third))
+    mapOf absent f ∷ (fieldOf (absent .first) (f .first) ++ (fieldOf (absent .second) (f .second) ++ fieldOf (absent .third) (f .third)))
 
 -- ---- the shortest form
 -- a field that stands though it says what its absence would mean

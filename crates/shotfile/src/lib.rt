@@ -4,9 +4,9 @@
 // Stands on `job`, whose refusals and checks it uses.
 pub mod record;
 pub mod reader;
-//pub mod writer;
+pub mod writer;
 
 pub use reader::read;
 pub use reader::ReadAnswer;
-//pub use writer::write;
-//pub use writer::WriteAnswer;
+pub use writer::write;
+pub use writer::WriteAnswer;
