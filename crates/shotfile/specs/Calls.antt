@@ -7,7 +7,10 @@ use lib.ListN.{length, drop}
 use Rattle.job.specs.declared.Refusal.the-variants.{ShortFile}
 use Rattle.job.specs.declared.Checked.{Checked}
 use Rattle.job.specs.declared.Checked.the-variants.{Accepted, Refused as Turned}
-use Rattle.job.specs.Checking.{checked}
+use Rattle.job.specs.declared.Refusal.{Refusal}
+use Rattle.job.specs.Checking.{Test, checked, andThen}
+use Rattle.shotfile.specs.declared.writer.WriteAnswer.{WriteAnswer}
+use Rattle.shotfile.specs.declared.writer.WriteAnswer.the-variants.{Written, Refused as Unwritten}
 use Rattle.shotfile.specs.declared.reader.Counted.{Counted}
 use Rattle.shotfile.specs.declared.reader.Counted.the-variants.{Shots, Refused as Uncounted}
 use Rattle.shotfile.specs.declared.reader.ReadAnswer.{ReadAnswer}
@@ -28,3 +31,22 @@ readAnswer (refused r) = Unread r
 abbrev pub readCoords : File → List ℕ → List ℕ
 readCoords (file f cs) before = cs ++ drop (length cs) before
 readCoords (refused r) before = before
+
+-- the checks of a list, and then whether the file is longer than the byte buffer
+abbrev pub writeChecked : ℕ → ℕ → ℕ → List ℕ → ℕ → Checked
+writeChecked F E G coords room =
+    andThen (checked F E G coords)
+    (record { holds = ltb room (length (fileOf F E G coords)); gives = ShortFile (length (fileOf F E G coords)) })
+
+-- the file's length, or the refusal
+abbrev pub onChecked : {A : Type 0} → Checked → (Refusal → A) → A → A
+onChecked Accepted none done = done
+onChecked (Turned r) none done = none r
+
+unfoldable pub writeAnswer : ℕ → ℕ → ℕ → List ℕ → ℕ → WriteAnswer
+writeAnswer F E G coords room = onChecked (writeChecked F E G coords room) Unwritten (Written (length (fileOf F E G coords)))
+
+-- the first places are the file, and the others keep their values, as all do after a refusal
+unfoldable pub writeBytes : ℕ → ℕ → ℕ → List ℕ → List ℕ → List ℕ
+writeBytes F E G coords before =
+    onChecked (writeChecked F E G coords (length before)) (λ r. before) (fileOf F E G coords ++ drop (length (fileOf F E G coords)) before)

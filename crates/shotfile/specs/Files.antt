@@ -1,9 +1,9 @@
 -- A shot file: the header's record, then a record a shot, up to the end of the bytes. Document 01, 'Shot file' and 'When a job is refused'.
 use mathlib.Core.Bool.{Bool, true, false, cond, _&&_}
 use mathlib.Core.List.{List, [], _∷_, _++_}
-use Prim.Native.Nat.{ℕ, zero, suc, _+_, _-_, _/_}
+use Prim.Native.Nat.{ℕ, zero, suc, _+_, _-_, _*_, _/_}
 use lib.Dec.{ltb}
-use lib.ListN.{length}
+use lib.ListN.{length, getD}
 use Rattle.job.specs.declared.Refusal.{Refusal}
 use Rattle.job.specs.declared.Refusal.the-variants.{TooManyShots, NoPlace}
 use Rattle.shotfile.specs.declared.record.Fields.{Fields}
@@ -87,6 +87,10 @@ shotRecords previous (x ∷ y ∷ []) = []
 shotRecords previous (x ∷ y ∷ z ∷ rest) =
     recordOf previous (record { first = x; second = y; third = z }) ++ shotRecords (record { first = x; second = y; third = z }) rest
 
+-- the coordinates of shot i, from 0
+abbrev pub coordsAt : List ℕ → ℕ → Fields
+coordsAt coords i = record { first = getD coords (3 * i) 0; second = getD coords (3 * i + 1) 0; third = getD coords (3 * i + 2) 0 }
+
 unfoldable pub fileOf : ℕ → ℕ → ℕ → List ℕ → List ℕ
 fileOf F E G coords = recordOf headerAbsent (record { first = F; second = E; third = G }) ++ shotRecords firstAbsent coords
 
@@ -96,9 +100,9 @@ tightFrom zero s c = true
 tightFrom (suc n) s c = tight s (c .at) (c .previous) && onShot (stepAt s c) true (tightFrom n s)
 
 -- a file is in its shortest form if no field of its header and of its shots says what its absence would mean
+abbrev pub tightRest : List ℕ → Taken → Bool
+tightRest s (Whole f end) = tightFrom (length s) s (firstShot end)
+tightRest s (Refused r) = false
+
 unfoldable pub shortest : List ℕ → Bool
-shortest s = tight s 0 headerAbsent && onRecord (recordAt s 0 headerAbsent)
-  where
-    onRecord : Taken → Bool
-    onRecord (Whole f end) = tightFrom (length s) s (firstShot end)
-    onRecord (Refused r) = false
+shortest s = tight s 0 headerAbsent && tightRest s (recordAt s 0 headerAbsent)

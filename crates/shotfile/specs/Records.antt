@@ -41,11 +41,11 @@ endAt m at = thirdAt m at + 2 * (m / 4)
 -- the numbers after the map m at a place
 unfoldable pub fieldsAt : List ℕ → ℕ → ℕ → Fields → Fields
 fieldsAt s m at absent =
-    record {
-      first = fieldAt s (at + 1) (m % 2) (absent .first);
-      second = fieldAt s (secondAt m at) (m / 2 % 2) (absent .second);
-      third = fieldAt s (thirdAt m at) (m / 4) (absent .third);
-    }
+    record
+      { first = fieldAt s (at + 1) (m % 2) (absent .first)
+      ; second = fieldAt s (secondAt m at) (m / 2 % 2) (absent .second)
+      ; third = fieldAt s (thirdAt m at) (m / 4) (absent .third)
+      }
 
 -- the record at a place: refusal 4 where another bit than the three stands, 5 where the file ends before its map or a field
 unfoldable pub recordAt : List ℕ → ℕ → Fields → Taken
@@ -66,11 +66,13 @@ bitOf absent v = cond (eqb v absent) 0 1
 unfoldable pub fieldOf : ℕ → ℕ → List ℕ
 fieldOf absent v = cond (eqb v absent) [] (v % 256 ∷ v / 256 ∷ [])
 
+abbrev pub mapOf : Fields → Fields → ℕ
+mapOf absent f = bitOf (absent .first) (f .first) + 2 * bitOf (absent .second) (f .second) + 4 * bitOf (absent .third) (f .third)
+
 -- the shortest record that says these numbers
 unfoldable pub recordOf : Fields → Fields → List ℕ
 recordOf absent f =
-    (bitOf (absent .first) (f .first) + 2 * bitOf (absent .second) (f .second) + 4 * bitOf (absent .third) (f .third))
-    ∷ fieldOf (absent .first) (f .first) ++ (fieldOf (absent .second) (f .second) ++ fieldOf (absent .third) (f .third))
+    mapOf absent f ∷ (fieldOf (absent .first) (f .first) ++ (fieldOf (absent .second) (f .second) ++ fieldOf (absent .third) (f .third)))
 
 -- ---- the shortest form
 -- a field that stands though it says what its absence would mean

@@ -1,15 +1,15 @@
 // One record of a shot file: a map byte, then the 16-bit fields whose bits stand in it, least byte first. Document 01, 'Shot file'.
 use job::Refusal;
 ghost use mathlib.Core.Path.{_≡_};
-ghost use Prim.Native.Nat.{_≤_, _+_, _*_};
+ghost use mathlib.Core.List.{[], _∷_};
+ghost use Prim.Native.Nat.{_≤_, _<_, _+_, _*_};
 ghost use lib.ListN.{length};
-ghost use Rattle.shotfile.specs.Records.{fieldAt, recordAt, headerAbsent, firstAbsent};
+ghost use Rattle.shotfile.specs.Records.{fieldAt, recordAt, headerAbsent, firstAbsent, bitOf, fieldOf, mapOf, recordOf};
+ghost use Rattle.shotfile.specs.Wrote.{Wrote};
 
 // What the header says where it leaves out the field side, the shot edge or the grid size.
 const FIELD: u16 = 1024;
-
 const EDGE: u16 = 16;
-
 const GRID: u16 = 8;
 
 // The three numbers of a record: F, E, G of the header, x, y, z of a shot.
@@ -96,8 +96,71 @@ pub fn take_record(bytes: &[u8], at: usize, absent: Fields) -> Taken
         second: field(bytes, second, b2, absent.second),
         third: field(bytes, third, b3, absent.third),
     };
-    Taken::Whole {
-        fields: fields,
-        end: end,
+    Taken::Whole { fields: fields, end: end }
+}
+
+// The bit of a field in the map: 0 where its absence says it.
+fn bit(absent: u16, value: u16) -> u8
+    ensures { λ r. ⌜ r ≡ bitOf absent value ⌝ }
+{
+    if value == absent {
+        return 0;
     }
+    1
+}
+
+// How many bytes a field takes.
+fn field_length(absent: u16, value: u16) -> usize
+    ensures { λ r. ⌜ r ≡ length (fieldOf absent value) ⌝ }
+{
+    if value == absent {
+        return 0;
+    }
+    2
+}
+
+// How many bytes the shortest record of these numbers takes.
+pub fn record_length(absent: Fields, fields: Fields) -> usize
+    ensures { λ r. ⌜ r ≡ length (recordOf absent fields) ⌝ }
+{
+    let first = field_length(absent.first, fields.first);
+    let second = field_length(absent.second, fields.second);
+    let third = field_length(absent.third, fields.third);
+    1 + first + second + third
+}
+
+// Writes a field at a place, unless its absence says it, and gives the place after it.
+fn put_field(bytes: &mut [u8], at: usize, absent: u16, value: u16) -> usize
+    requires { ⌜ at + length (fieldOf absent value) ≤ length (now bytes) ⌝ }
+    ensures { λ r. ⌜ Wrote (now (bytes .entry)) (now (bytes .exit)) at r (fieldOf absent value) ⌝ }
+{
+    if value == absent {
+        return at;
+    }
+    bytes[at] = (value % 256) as u8;
+    bytes[at + 1] = (value / 256) as u8;
+    at + 2
+}
+
+// Writes the map of a record at a place, and gives the place after it.
+fn put_map(bytes: &mut [u8], at: usize, absent: Fields, fields: Fields) -> usize
+    requires { ⌜ at < length (now bytes) ⌝ }
+    ensures { λ r. ⌜ Wrote (now (bytes .entry)) (now (bytes .exit)) at r (mapOf absent fields ∷ []) ⌝ }
+{
+    let b1 = bit(absent.first, fields.first);
+    let b2 = bit(absent.second, fields.second);
+    let b3 = bit(absent.third, fields.third);
+    bytes[at] = b1 + 2 * b2 + 4 * b3;
+    at + 1
+}
+
+// Writes the shortest record of these numbers at a place, and gives the place after it.
+pub fn put_record(bytes: &mut [u8], at: usize, absent: Fields, fields: Fields) -> usize
+    requires { ⌜ at + length (recordOf absent fields) ≤ length (now bytes) ⌝ }
+    ensures { λ r. ⌜ Wrote (now (bytes .entry)) (now (bytes .exit)) at r (recordOf absent fields) ⌝ }
+{
+    let first = put_map(bytes, at, absent, fields);
+    let second = put_field(bytes, first, absent.first, fields.first);
+    let third = put_field(bytes, second, absent.second, fields.second);
+    put_field(bytes, third, absent.third, fields.third)
 }

@@ -1,0 +1,98 @@
+// Writing a shot file in its shortest form. Document 01, 'Shot file' and 'When a job is refused'.
+use job::Checked;
+use job::Refusal;
+use crate::record::Fields;
+use crate::record::first_absent;
+use crate::record::header_absent;
+use crate::record::put_record;
+use crate::record::record_length;
+ghost use mathlib.Core.Path.{_≡_};
+ghost use mathlib.Core.List.{_++_};
+ghost use Prim.Native.Nat.{_≤_, _<_, _/_};
+ghost use lib.ListN.{length, drop};
+ghost use Rattle.shotfile.specs.Records.{firstAbsent};
+ghost use Rattle.shotfile.specs.Files.{coordsAt, shotRecords, fileOf};
+ghost use Rattle.shotfile.specs.Calls.{writeChecked, writeAnswer, writeBytes};
+
+pub enum WriteAnswer {
+    // How many bytes the file has.
+    Written { bytes: usize },
+    Refused(Refusal),
+}
+
+// The coordinates of a shot.
+fn shot_at(coords: &[u16], i: usize) -> Fields
+    requires { ⌜ i < length (now coords) / 3 ⌝ }
+    ensures { λ r. ⌜ r ≡ coordsAt (now (coords .entry)) i ⌝ }
+{
+    Fields {
+        first: coords[3 * i],
+        second: coords[3 * i + 1],
+        third: coords[3 * i + 2],
+    }
+}
+
+// How many bytes the records of the shots take.
+fn shots_length(coords: &[u16]) -> usize
+    requires { ⌜ length (now coords) / 3 ≤ 4096 ⌝ }
+    ensures { λ r. ⌜ r ≡ length (shotRecords firstAbsent (now (coords .entry))) ⌝ }
+{
+    let n = coords.len() / 3;
+    let mut previous = first_absent();
+    let mut total = 0;
+    let mut i = 0;
+    while i < n {
+        let shot = shot_at(coords, i);
+        total += record_length(previous, shot);
+        previous = shot;
+        i += 1;
+    }
+    total
+}
+
+// How many bytes the file of a list takes.
+fn file_length(field: u16, edge: u16, grid: u16, coords: &[u16]) -> usize
+    requires { ⌜ length (now coords) / 3 ≤ 4096 ⌝ }
+    ensures { λ r. ⌜ r ≡ length (fileOf field edge grid (now (coords .entry))) ⌝ }
+{
+    let absent = header_absent();
+    let settings = Fields { first: field, second: edge, third: grid };
+    record_length(absent, settings) + shots_length(coords)
+}
+
+// Writes the file of a list.
+fn put_file(bytes: &mut [u8], field: u16, edge: u16, grid: u16, coords: &[u16])
+    requires { ⌜ length (fileOf field edge grid (now coords)) ≤ length (now bytes) ⌝ }
+    ensures { λ _. ⌜ now (bytes .exit) ≡ fileOf field edge grid (now (coords .entry)) ++ drop (length (fileOf field edge grid (now (coords .entry)))) (now (bytes .entry)) ⌝ }
+{
+    let absent = header_absent();
+    let settings = Fields { first: field, second: edge, third: grid };
+    let mut at = put_record(bytes, 0, absent, settings);
+    let n = coords.len() / 3;
+    let mut previous = first_absent();
+    let mut i = 0;
+    while i < n {
+        let shot = shot_at(coords, i);
+        at = put_record(bytes, at, previous, shot);
+        previous = shot;
+        i += 1;
+    }
+}
+
+// Writes a list as the shortest file that says it, or says why not.
+pub fn write(field: u16, edge: u16, grid: u16, coords: &[u16], bytes: &mut [u8]) -> WriteAnswer
+    ensures answer { λ r. ⌜ r ≡ writeAnswer field edge grid (now (coords .entry)) (length (now (bytes .entry))) ⌝ }
+    ensures file { λ _. ⌜ now (bytes .exit) ≡ writeBytes field edge grid (now (coords .entry)) (now (bytes .entry)) ⌝ }
+{
+    match job::check(field, edge, grid, coords) {
+        Checked::Refused(refusal) => WriteAnswer::Refused(refusal),
+        Checked::Accepted => {
+            let needed = file_length(field, edge, grid, coords);
+            if bytes.len() < needed {
+                return WriteAnswer::Refused(Refusal::ShortFile { bytes: needed });
+            }
+            put_file(bytes, field, edge, grid, coords);
+            WriteAnswer::Written { bytes: needed }
+        }
+    }
+}
