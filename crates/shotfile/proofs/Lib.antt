@@ -9,3 +9,4 @@ pub mod Writing
 pub mod ReadBack
 pub mod WriteBack
 pub mod Shortest
+pub mod RoundTrip
