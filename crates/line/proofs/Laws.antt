@@ -15,7 +15,7 @@ use Rattle.lattice.specs.Shots.{Shot}
 use Rattle.lattice.specs.Listing.{Corner, join}
 use Rattle.lattice.specs.CornerSums.{Room}
 use Rattle.lattice.specs.declared.sums.CornerSums.{CornerSums}
-use Rattle.lattice.proofs.SumsLaws.{room-more}
+use Rattle.lattice.proofs.CornerSumLaws.{room-more}
 use Rattle.rows.specs.Runs.{runTo, shotsIn}
 use Rattle.rows.specs.Rows.{Ends}
 use Rattle.chains.specs.Chains.{Started}

@@ -11,7 +11,7 @@ use Rattle.lattice.specs.Pattern.{ofByte, corner}
 use Rattle.lattice.specs.Listing.{Corner, recordOf}
 use Rattle.lattice.specs.CornerSums.{added, Room}
 use Rattle.lattice.specs.declared.sums.CornerSums.{CornerSums}
-use Rattle.lattice.proofs.SumsLaws.{added-room, room-more}
+use Rattle.lattice.proofs.CornerSumLaws.{added-room, room-more}
 use Rattle.tally.specs.Found.{at, spot, stored, Found, state, meet, found}
 
 -- ---- the buffer

@@ -10,7 +10,7 @@ use borrow.Author.Tests.{lt-ltb}
 use Rattle.lattice.specs.Listing.{Corner, recordOf, bytes}
 use Rattle.lattice.specs.CornerSums.{sumsOf, added}
 use Rattle.lattice.specs.declared.sums.CornerSums.{CornerSums}
-use Rattle.lattice.proofs.SumsLaws.{sums-more}
+use Rattle.lattice.proofs.CornerSumLaws.{sums-more}
 use Rattle.tally.specs.Found.{stored, Found, state, meet, found}
 
 -- ---- the sums

@@ -8,7 +8,7 @@ use Rattle.lattice.specs.CornerSums.{Room}
 use Rattle.tally.specs.Found.{state, found}
 use Rattle.line.specs.Line.{lineFrom}
 use Rattle.line.proofs.Laws.{scan-none, scan-still, scan-more, room-own, room-point}
-use Rattle.lattice.proofs.SumsLaws.{room-more}
+use Rattle.lattice.proofs.CornerSumLaws.{room-more}
 use borrow.Author.Needs.{needs}
 use Rattle.line.proofs.scan.Statement.{statement}
 use Rattle.line.proofs.scan.Tie as tie

@@ -3,7 +3,7 @@ use Prim.Native.Nat.{_≤_, _-_, _+_, _*_}
 use native.Mathlib.Omega.{arith}
 use lib.ListN.{length}
 use Rattle.lattice.specs.CornerSums.{Room}
-use Rattle.lattice.proofs.SumsLaws.{room-more}
+use Rattle.lattice.proofs.CornerSumLaws.{room-more}
 use Rattle.rows.specs.Runs.{shotsIn}
 use Rattle.rows.specs.Rows.{Ends}
 use Rattle.tally.specs.Found.{state, found}
