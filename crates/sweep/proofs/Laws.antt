@@ -82,6 +82,10 @@ pub plane-skip : (n x : ℕ) (ts : List Shot) (t : CornerSums) (b : List ℕ) {k
 unfolding found
 plane-skip n x ts t b {k} h r = record { is = sym (ap (found (state t b)) (plane-bare n x ts h)); room = room-own t k 1050625 r }
 
+pub planes-none : (n : ℕ) (ts : List Shot) (f : Found) → f ≡ found f (planesTo n 0 ts)
+unfolding planesTo join found
+planes-none n ts f = refl
+
 planes-more : (n x : ℕ) (ts : List Shot) → planesTo n (x + 1) ts ≡ planesTo n x ts ++ planeOf n x ts
 unfolding planesTo join
 planes-more n x ts = rw (add-one x)
@@ -222,19 +226,55 @@ module _ (F E G : ℕ) (coords : List ℕ) (v : Valid F E G coords) where
 
   -- the next slab lies in the field
   pub next-within : (gx : ℕ) → gx < G → (gx + 1) * (F / G) ≤ F
-  next-within gx h = subst (λ n. (gx + 1) * (F / G) ≤ n) (width-times v) (mul-le-mul {gx + 1} {G} (omega arith) (le-refl (F / G)))
+  next-within gx h = subst (λ n. (gx + 1) * (F / G) ≤ n) (width-times v) (mul-le-mul (omega arith) (le-refl (F / G)))
 
 pub next-is : (gx w : ℕ) → (gx + 1) * w ≡ gx * w + w
 next-is gx w = rw (add-one gx) (suc-mul gx w)
 
 -- what the index's slab puts to the front
 pub front-is : {w w' : List ℕ} {n : ℕ} {xs : List ℕ} → Wrote w w' 0 n xs → take n w' ≡ xs
-front-is {w} {w'} {n} {xs} r = ap (take n) (r .is) ∙ take-at xs (drop n w) n (sym (r .next))
+front-is {w} {w'} {n} {xs} r = ap (take n) (r .is) ∙ take-at xs (drop n w) n (omega (arith, r .next))
+
+pub front-count : {w w' : List ℕ} {n : ℕ} {xs : List ℕ} → Wrote w w' 0 n xs → n ≡ length (take n w')
+front-count {w} {w'} {n} {xs} r = let e : n ≡ length xs = omega (arith, r .next) in e ∙ ap length (sym (front-is r))
+
+-- what the planes of a slab need
+module _ (F E G : ℕ) (coords : List ℕ) (v : Valid F E G coords) where
+  pub record Ready (from end : ℕ) (row run : List ℕ) : Type 0 where
+    pub in-run : InRun 1024 E coords run
+    pub few : length run ≤ 4096
+    pub marked : Marked x-axis (shotsIn E coords run) row
+    pub agree : Agree F from end (shotsIn E coords run) (shotsOf E coords)
+
+  pub ready : (gx from end : ℕ) → InSlab F G gx from end → {row : List ℕ} → MarkedList E coords (length coords / 3) row
+      → {w w' : List ℕ} {n : ℕ} → Wrote w w' 0 n (slabOf F E G coords gx) → Ready from end row (take n w')
+  ready gx from end s {row} m r = rw (front-is r) (record {
+    in-run = slab-in-run F E G coords v gx;
+    few = slab-few F E G coords v gx;
+    marked = marked-run E coords (slabOf F E G coords gx) row (length coords / 3) (slab-below F E G coords v gx) m;
+    agree = slab-agree F E G coords v gx from end s;
+  })
+
+  module _ (gx low : ℕ) (h : gx < G) (l : low ≡ gx * (F / G)) where
+    pub high-in : low + F / G ≤ F
+    high-in = omega (arith, l, next-is gx (F / G), next-within F E G coords v gx h)
+
+    pub next-low : low + F / G ≡ (gx + 1) * (F / G)
+    next-low = omega (arith, l, next-is gx (F / G))
+
+    pub in-slab : (from : ℕ) → low ≤ from → from ≤ low + 1 → InSlab F G gx from (low + F / G + 1)
+    in-slab from a b = record {
+      slab-in = h;
+      lower = omega (arith, l);
+      upper = omega (arith, next-low);
+      order = omega arith;
+      top = omega (arith, high-in);
+    }
 
 -- after the last slab all planes are done
-pub slabs-done : (F E G : ℕ) (coords : List ℕ) → Valid F E G coords → (gx low from : ℕ) → gx ≡ G → low ≡ gx * (F / G) → (0 < gx → from ≡ low + 1) → {t₀ : CornerSums} {b : List ℕ} {g : Found}
+pub slabs-done : (F E G : ℕ) (coords : List ℕ) → Valid F E G coords → (gx low from : ℕ) → gx ≡ G → low ≡ gx * (F / G) → (0 < gx → from ≡ low + 1) → {t₀ : CornerSums} (b : List ℕ) {g : Found}
     → t₀ ≡ sumsOf [] → g ≡ found (state t₀ b) (planesTo F from (shotsOf E coords)) → g ≡ found (state (sumsOf []) b) (corners F (cells (shotsOf E coords)))
-slabs-done F E G coords v gx low from a l d {t₀} {b} k e =
+slabs-done F E G coords v gx low from a l d {t₀} b k e =
     let w : G * (F / G) ≡ F = width-times v in
     let m : low ≡ F = l ∙ ap (λ g. g * (F / G)) a ∙ w in
     let n : from ≡ F + 1 = d (omega (arith, a, v .grid-least)) ∙ ap (λ x. x + 1) m in
