@@ -90,4 +90,3 @@ module _ (x y lo hi : ℕ) (ts : List Shot) (f : FramedAt x y lo hi ts) where
       inside : (z : ℕ) → z < hi + 1 → (t : Bool) → leb lo z ≡ t → cond t (turn x y z (getD four z 0) (getD four (z + 1) 0)) [] ≡ here (cells ts) x y z
       inside z m true e = turn-here x y ts lo (hi + 2) a b c d l g z (leb-true lo z e) (omega arith)
       inside z m false e = sym (here-out z (inl (leb-false lo z e)))
-

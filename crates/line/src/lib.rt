@@ -80,7 +80,15 @@ fn between(a: u8, b: u8) -> u8
 }
 
 // The points of a line from lo to hi, by the four cells at each place.
-fn scan(x: u16, y: u16, lo: usize, hi: usize, four: &[u8], t: CornerSums, buf: &mut [u8]) -> CornerSums
+fn scan(
+    x: u16,
+    y: u16,
+    lo: usize,
+    hi: usize,
+    four: &[u8],
+    t: CornerSums,
+    buf: &mut [u8],
+) -> CornerSums
     requires { ⌜ (x ≤ 1024) × (y ≤ 1024) × (lo ≤ hi) × (hi ≤ 1024) × Room t 1076889600 × (length (now four) ≡ 1026) × Bounded lo (hi + 2) 85 (now four) ⌝ }
     ensures { λ r. ⌜ state r (now (buf .exit)) ≡ found (state t (now (buf .entry))) (join (hi + 1) (lineFrom lo x y (now (four .entry)))) ⌝ }
     ensures { λ r. ⌜ Room r (t .corners + 1025) ⌝ }
@@ -96,7 +104,20 @@ fn scan(x: u16, y: u16, lo: usize, hi: usize, four: &[u8], t: CornerSums, buf: &
 
 // The corners of the line y of the plane x. `run` holds the shots that touch the plane, `faces` those with a face on it; the rows of the
 // layers below and above the plane go on to the next line.
-pub fn line(c: &[u16], e: usize, x: u16, y: u16, run: &[u16], faces: &[u16], heads: &[u16], links: &[u16], u0: &mut [u16], u1: &mut [u16], t: CornerSums, buf: &mut [u8]) -> CornerSums
+pub fn line(
+    c: &[u16],
+    e: usize,
+    x: u16,
+    y: u16,
+    run: &[u16],
+    faces: &[u16],
+    heads: &[u16],
+    links: &[u16],
+    u0: &mut [u16],
+    u1: &mut [u16],
+    t: CornerSums,
+    buf: &mut [u8],
+) -> CornerSums
     requires { ⌜ LineIn (now c) e x y (now run) (now faces) (now heads) (now links) (now u0) (now u1) t ⌝ }
     ensures { λ r. ⌜ LineOut x y (shotsIn e (now (c .entry)) (now (run .entry))) (now (u0 .exit)) (now (u1 .exit)) (state t (now (buf .entry))) (state r (now (buf .exit))) ⌝ }
 {

@@ -161,6 +161,6 @@ pub plane-near : (c : List ℕ) (e x : ℕ) (run near : List ℕ) (n : ℕ) → 
     → PlaneOut m x (shotsIn e c (take n near)) f g → PlaneOut m x (shotsIn e c run) f g
 plane-near c e x run near n h s m {f} r = record {
   is = r .is ∙ ap (found f) (plane-same m x (shotsIn e c (take n near)) (shotsIn e c run) (λ p q.
-    ap (any p) (selected-shots c e x false run near n h s) ∙ any-kept (wanted false x) p q (shotsIn e c run)));
+      ap (any p) (selected-shots c e x false run near n h s) ∙ any-kept (wanted false x) p q (shotsIn e c run)));
   room = r .room;
 }

@@ -40,7 +40,21 @@ fn mark_run(c: &[u16], e: usize, run: &[u16], row: &mut [u8])
 }
 
 // The line y, unless it is not marked and so has no corner.
-fn line_if(c: &[u16], e: usize, x: u16, y: u16, mark: u8, run: &[u16], faces: &[u16], heads: &[u16], links: &[u16], u0: &mut [u16], u1: &mut [u16], t: CornerSums, buf: &mut [u8]) -> CornerSums
+fn line_if(
+    c: &[u16],
+    e: usize,
+    x: u16,
+    y: u16,
+    mark: u8,
+    run: &[u16],
+    faces: &[u16],
+    heads: &[u16],
+    links: &[u16],
+    u0: &mut [u16],
+    u1: &mut [u16],
+    t: CornerSums,
+    buf: &mut [u8],
+) -> CornerSums
     requires { ⌜ LineIn (now c) e x y (now run) (now faces) (now heads) (now links) (now u0) (now u1) t × UnlessMarked mark y (shotsIn e (now c) (now run)) ⌝ }
     ensures { λ r. ⌜ LineOut x y (shotsIn e (now (c .entry)) (now (run .entry))) (now (u0 .exit)) (now (u1 .exit)) (state t (now (buf .entry))) (state r (now (buf .exit))) ⌝ }
 {
@@ -51,7 +65,19 @@ fn line_if(c: &[u16], e: usize, x: u16, y: u16, mark: u8, run: &[u16], faces: &[
 }
 
 // The lines of the plane x from 0 to the side of the field.
-fn lines(c: &[u16], e: usize, field: u16, x: u16, run: &[u16], faces: &[u16], heads: &[u16], links: &[u16], row: &[u8], t: CornerSums, buf: &mut [u8]) -> CornerSums
+fn lines(
+    c: &[u16],
+    e: usize,
+    field: u16,
+    x: u16,
+    run: &[u16],
+    faces: &[u16],
+    heads: &[u16],
+    links: &[u16],
+    row: &[u8],
+    t: CornerSums,
+    buf: &mut [u8],
+) -> CornerSums
     requires { ⌜ Prepared (now c) e x (now run) (now faces) (now heads) (now links) × Marked y-axis (shotsIn e (now c) (now run)) (now row) × (length (now row) ≡ 1026) × (field ≤ 1024) × Room t 1075840000 ⌝ }
     ensures { λ r. ⌜ PlaneOut field x (shotsIn e (now (c .entry)) (now (run .entry))) (state t (now (buf .entry))) (state r (now (buf .exit))) ⌝ }
 {
@@ -60,14 +86,38 @@ fn lines(c: &[u16], e: usize, field: u16, x: u16, run: &[u16], faces: &[u16], he
     let mut s = t;
     let mut y: u16 = 0;
     while y <= field {
-        s = line_if(c, e, x, y, row[y as usize], run, faces, heads, links, &mut u0, &mut u1, s, buf);
+        s = line_if(
+            c,
+            e,
+            x,
+            y,
+            row[y as usize],
+            run,
+            faces,
+            heads,
+            links,
+            &mut u0,
+            &mut u1,
+            s,
+            buf,
+        );
         y += 1;
     }
     s
 }
 
 // The corners of the plane x, from a run of which `faces` holds the shots with a face on the plane.
-fn plane(c: &[u16], e: usize, field: u16, x: u16, run: &[u16], faces: &[u16], links: &mut [u16], t: CornerSums, buf: &mut [u8]) -> CornerSums
+fn plane(
+    c: &[u16],
+    e: usize,
+    field: u16,
+    x: u16,
+    run: &[u16],
+    faces: &[u16],
+    links: &mut [u16],
+    t: CornerSums,
+    buf: &mut [u8],
+) -> CornerSums
     requires { ⌜ InRun 1024 e (now c) (now run) × Faces (now c) e x (now run) (now faces) × (length (now run) ≤ length (now links)) × (length (now run) ≤ 4096) × (x ≤ 1024) × (field ≤ 1024) × Room t 1075840000 ⌝ }
     ensures { λ r. ⌜ PlaneOut field x (shotsIn e (now (c .entry)) (now (run .entry))) (state t (now (buf .entry))) (state r (now (buf .exit))) ⌝ }
 {
@@ -79,7 +129,17 @@ fn plane(c: &[u16], e: usize, field: u16, x: u16, run: &[u16], faces: &[u16], li
 }
 
 // The same, where the faces are yet to be selected; nothing is looked at where there are none.
-fn plane_if(c: &[u16], e: usize, field: u16, x: u16, run: &[u16], faces: &mut [u16], links: &mut [u16], t: CornerSums, buf: &mut [u8]) -> CornerSums
+fn plane_if(
+    c: &[u16],
+    e: usize,
+    field: u16,
+    x: u16,
+    run: &[u16],
+    faces: &mut [u16],
+    links: &mut [u16],
+    t: CornerSums,
+    buf: &mut [u8],
+) -> CornerSums
     requires { ⌜ InRun 1024 e (now c) (now run) × (length (now run) ≤ length (now faces)) × (length (now run) ≤ length (now links)) × (length (now run) ≤ 4096) × (x ≤ 1024) × (field ≤ 1024) × Room t 1075840000 ⌝ }
     ensures { λ r. ⌜ PlaneOut field x (shotsIn e (now (c .entry)) (now (run .entry))) (state t (now (buf .entry))) (state r (now (buf .exit))) ⌝ }
 {
@@ -91,7 +151,18 @@ fn plane_if(c: &[u16], e: usize, field: u16, x: u16, run: &[u16], faces: &mut [u
 }
 
 // The corners of the plane x, from a run of shots.
-pub fn across(c: &[u16], e: usize, field: u16, x: u16, run: &[u16], near: &mut [u16], faces: &mut [u16], links: &mut [u16], t: CornerSums, buf: &mut [u8]) -> CornerSums
+pub fn across(
+    c: &[u16],
+    e: usize,
+    field: u16,
+    x: u16,
+    run: &[u16],
+    near: &mut [u16],
+    faces: &mut [u16],
+    links: &mut [u16],
+    t: CornerSums,
+    buf: &mut [u8],
+) -> CornerSums
     requires { ⌜ InRun 1024 e (now c) (now run) × (length (now run) ≤ 4096) × (length (now near) ≡ 4096) × (length (now faces) ≡ 4096) × (length (now links) ≡ 4096) × (x ≤ 1024) × (field ≤ 1024) × Room t 1075840000 ⌝ }
     ensures { λ r. ⌜ PlaneOut field x (shotsIn e (now (c .entry)) (now (run .entry))) (state t (now (buf .entry))) (state r (now (buf .exit))) ⌝ }
 {

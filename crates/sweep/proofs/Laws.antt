@@ -190,7 +190,7 @@ module _ (F E G : ℕ) (coords : List ℕ) (v : Valid F E G coords) where
     slab-below k h =
         let i : ℕ = getD (slabOf F E G coords gx) k 0 in
         let t : T (ltb i (shotCount coords) && touchesSlab (F / G) gx (shotAt E coords i))
-            = subst T (has-keep i (λ i. touchesSlab (F / G) gx (shotAt E coords i)) (shotCount coords)) (place-has (slabOf F E G coords gx) k h) in
+        = subst T (has-keep i (λ i. touchesSlab (F / G) gx (shotAt E coords i)) (shotCount coords)) (place-has (slabOf F E G coords gx) k h) in
         ltb→lt i (shotCount coords) (and-elim (ltb i (shotCount coords)) (touchesSlab (F / G) gx (shotAt E coords i)) t .0)
 
     pub slab-in-run : InRun 1024 E coords (slabOf F E G coords gx)
@@ -214,8 +214,10 @@ module _ (F E G : ℕ) (coords : List ℕ) (v : Valid F E G coords) where
             any-run E coords (slabOf F E G coords gx) f (length (slabOf F E G coords gx)) (p .0) (p .1) (subst (λ i. T (f (shotAt E coords i))) (sym (p .2)) (r .2))
 
     pub slab-agree : (from end : ℕ) → InSlab F G gx from end → Agree F from end (shotsIn E coords (slabOf F E G coords gx)) (shotsOf E coords)
-    slab-agree from end s = record { at = λ x a b. plane-same F x (shotsIn E coords (slabOf F E G coords gx)) (shotsOf E coords)
-      (slab-any x (omega (arith, s .lower)) (omega (arith, s .upper))) }
+    slab-agree from end s = record {
+      at = λ x a b. plane-same F x (shotsIn E coords (slabOf F E G coords gx)) (shotsOf E coords)
+          (slab-any x (omega (arith, s .lower)) (omega (arith, s .upper)));
+    }
 
     -- a slab without marks has no corner
     pub slab-skip : (from end : ℕ) → InSlab F G gx from end → {row : List ℕ} {t : Bool} → MarkedList E coords (length coords / 3) row → BlankIf t from end row → t ≡ true

@@ -61,7 +61,19 @@ fn is_blank(row: &[u8], from: usize, end: usize) -> bool
 }
 
 // The corners of the plane x, unless it is not marked and so has none.
-fn plane_if(c: &[u16], e: usize, field: u16, x: u16, row: &[u8], run: &[u16], near: &mut [u16], faces: &mut [u16], links: &mut [u16], t: CornerSums, buf: &mut [u8]) -> CornerSums
+fn plane_if(
+    c: &[u16],
+    e: usize,
+    field: u16,
+    x: u16,
+    row: &[u8],
+    run: &[u16],
+    near: &mut [u16],
+    faces: &mut [u16],
+    links: &mut [u16],
+    t: CornerSums,
+    buf: &mut [u8],
+) -> CornerSums
     requires { ⌜ InRun 1024 e (now c) (now run) × (length (now run) ≤ 4096) × (length (now near) ≡ 4096) × (length (now faces) ≡ 4096) × (length (now links) ≡ 4096) × (x ≤ 1024) × (field ≤ 1024) × Room t 1075840000 ⌝ }
     requires { ⌜ Marked x-axis (shotsIn e (now c) (now run)) (now row) × (length (now row) ≡ 1026) ⌝ }
     ensures { λ r. ⌜ PlaneOut field x (shotsIn e (now (c .entry)) (now (run .entry))) (state t (now (buf .entry))) (state r (now (buf .exit))) ⌝ }
@@ -73,7 +85,17 @@ fn plane_if(c: &[u16], e: usize, field: u16, x: u16, row: &[u8], run: &[u16], ne
 }
 
 // The planes from `from` up to `end`, from a run of shots that gives these planes the list's corners.
-fn planes(c: &[u16], e: usize, field: u16, from: u16, end: u16, row: &[u8], run: &[u16], t: CornerSums, buf: &mut [u8]) -> CornerSums
+fn planes(
+    c: &[u16],
+    e: usize,
+    field: u16,
+    from: u16,
+    end: u16,
+    row: &[u8],
+    run: &[u16],
+    t: CornerSums,
+    buf: &mut [u8],
+) -> CornerSums
     requires { ⌜ InRun 1024 e (now c) (now run) × (length (now run) ≤ 4096) × (from ≤ end) × (end ≤ 1025) × (field ≤ 1024) × Room t (from * 1050625) ⌝ }
     requires { ⌜ Marked x-axis (shotsIn e (now c) (now run)) (now row) × (length (now row) ≡ 1026) × Agree field from end (shotsIn e (now c) (now run)) (shotsOf e (now c)) ⌝ }
     ensures { λ r. ⌜ Swept field from end (shotsOf e (now (c .entry))) (state t (now (buf .entry))) (state r (now (buf .exit))) ⌝ }
@@ -84,14 +106,38 @@ fn planes(c: &[u16], e: usize, field: u16, from: u16, end: u16, row: &[u8], run:
     let mut s = t;
     let mut x = from;
     while x < end {
-        s = plane_if(c, e, field, x, row, run, &mut near, &mut faces, &mut links, s, buf);
+        s = plane_if(
+            c,
+            e,
+            field,
+            x,
+            row,
+            run,
+            &mut near,
+            &mut faces,
+            &mut links,
+            s,
+            buf,
+        );
         x += 1;
     }
     s
 }
 
 // The planes from `from` up to `end`, all of slab gx, from the index's runs of that slab; nothing is read where no plane is marked.
-fn slab(field: u16, edge: u16, grid: u16, coords: &[u16], work: &[u32], gx: u16, from: u16, end: u16, row: &[u8], t: CornerSums, buf: &mut [u8]) -> CornerSums
+fn slab(
+    field: u16,
+    edge: u16,
+    grid: u16,
+    coords: &[u16],
+    work: &[u32],
+    gx: u16,
+    from: u16,
+    end: u16,
+    row: &[u8],
+    t: CornerSums,
+    buf: &mut [u8],
+) -> CornerSums
     requires { ⌜ Valid field edge grid (now coords) × Holds field edge grid (now coords) (now work) × InSlab field grid gx from end × Room t (from * 1050625) ⌝ }
     requires { ⌜ MarkedList edge (now coords) (length (now coords) / 3) (now row) × (length (now row) ≡ 1026) ⌝ }
     ensures { λ r. ⌜ Swept field from end (shotsOf edge (now (coords .entry))) (state t (now (buf .entry))) (state r (now (buf .exit))) ⌝ }
@@ -101,11 +147,29 @@ fn slab(field: u16, edge: u16, grid: u16, coords: &[u16], work: &[u32], gx: u16,
     }
     let mut run = [0u16; 4096];
     let n = grid::runs::slab(field, edge, grid, coords, work, gx, &mut run);
-    planes(coords, edge as usize, field, from, end, row, &run[..n], t, buf)
+    planes(
+        coords,
+        edge as usize,
+        field,
+        from,
+        end,
+        row,
+        &run[..n],
+        t,
+        buf,
+    )
 }
 
 // The slabs one after the other: each has the planes up to its upper side.
-fn slabs(field: u16, edge: u16, grid: u16, coords: &[u16], work: &[u32], row: &[u8], buf: &mut [u8]) -> CornerSums
+fn slabs(
+    field: u16,
+    edge: u16,
+    grid: u16,
+    coords: &[u16],
+    work: &[u32],
+    row: &[u8],
+    buf: &mut [u8],
+) -> CornerSums
     requires { ⌜ Valid field edge grid (now coords) × Holds field edge grid (now coords) (now work) ⌝ }
     requires { ⌜ MarkedList edge (now coords) (length (now coords) / 3) (now row) × (length (now row) ≡ 1026) ⌝ }
     ensures { λ r. ⌜ state r (now (buf .exit)) ≡ found (state (sumsOf []) (now (buf .entry))) (corners field (cells (shotsOf edge (now (coords .entry))))) ⌝ }
@@ -117,7 +181,19 @@ fn slabs(field: u16, edge: u16, grid: u16, coords: &[u16], work: &[u32], row: &[
     let mut gx: u16 = 0;
     while gx < grid {
         let high = low + width;
-        t = slab(field, edge, grid, coords, work, gx, from, high + 1, row, t, buf);
+        t = slab(
+            field,
+            edge,
+            grid,
+            coords,
+            work,
+            gx,
+            from,
+            high + 1,
+            row,
+            t,
+            buf,
+        );
         from = high + 1;
         low = high;
         gx += 1;
@@ -126,7 +202,14 @@ fn slabs(field: u16, edge: u16, grid: u16, coords: &[u16], work: &[u32], row: &[
 }
 
 // The sums of all corners of a list's solid, and their records as far as the buffer has room; `work` holds the list's index.
-pub fn sweep(field: u16, edge: u16, grid: u16, coords: &[u16], work: &[u32], buf: &mut [u8]) -> CornerSums
+pub fn sweep(
+    field: u16,
+    edge: u16,
+    grid: u16,
+    coords: &[u16],
+    work: &[u32],
+    buf: &mut [u8],
+) -> CornerSums
     requires { ⌜ Valid field edge grid (now coords) × Holds field edge grid (now coords) (now work) ⌝ }
     ensures { λ r. ⌜ state r (now (buf .exit)) ≡ found (state (sumsOf []) (now (buf .entry))) (corners field (cells (shotsOf edge (now (coords .entry))))) ⌝ }
 {
