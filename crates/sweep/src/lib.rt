@@ -1,0 +1,219 @@
+// The plane sweep: the corners of the solid that a list covers, in rising order of x, y and z, with their sums, and their records as far
+// as a lent buffer has room. The planes of a slab of the grid take their shots from the index; planes on no face, and slabs without any
+// face, are passed over, so the cost does not depend on the field's volume. Stands on `plane` and `grid`.
+ghost use mathlib.Core.Path.{_≡_};
+ghost use Prim.Native.Nat.{_+_, _*_, _/_, _<_, _≤_};
+ghost use lib.ListN.{length};
+ghost use Rattle.lattice.specs.Shots.{cells};
+ghost use Rattle.lattice.specs.Listing.{corners};
+ghost use Rattle.lattice.specs.CornerSums.{Room, sumsOf};
+ghost use Rattle.lattice.proofs.PatternLaws.{x-axis};
+ghost use Rattle.job.specs.Job.{Valid, shotsOf, shotAt};
+ghost use Rattle.grid.specs.Grid.{Holds};
+ghost use Rattle.rows.specs.Runs.{InList, InRun, shotsIn};
+ghost use Rattle.marks.specs.Marks.{MarkedMore, Marked};
+ghost use Rattle.tally.specs.Found.{state, found};
+ghost use Rattle.plane.specs.Plane.{PlaneOut};
+ghost use Rattle.sweep.specs.Sweep.{AllIn, MarkedList, BlankIf, Agree, Swept, InSlab};
+ghost use mathlib.Core.List.{[]};
+use lattice::sums::CornerSums;
+
+fn wide(x: u16) -> usize
+    ensures { λ r. ⌜ r ≡ x ⌝ }
+{
+    x as usize
+}
+
+// Marks both faces of shot i across x.
+fn mark_shot(c: &[u16], e: usize, i: usize, row: &mut [u8])
+    requires { ⌜ InList 1024 e (now c) i × (length (now row) ≡ 1026) ⌝ }
+    ensures { λ _. ⌜ MarkedMore (shotAt e (now (c .entry)) i .x) e (now (row .entry)) (now (row .exit)) ⌝ }
+{
+    marks::mark(row, wide(c[3 * i]), e);
+}
+
+// Marks the faces across x of the shots of a list.
+fn mark_list(c: &[u16], e: usize, row: &mut [u8])
+    requires { ⌜ AllIn e (now c) × (length (now row) ≡ 1026) ⌝ }
+    ensures { λ _. ⌜ MarkedList e (now (c .entry)) (length (now (c .entry)) / 3) (now (row .exit)) ⌝ }
+{
+    let n = c.len() / 3;
+    let mut i = 0;
+    while i < n {
+        mark_shot(c, e, i, row);
+        i += 1;
+    }
+}
+
+// Whether no place from `from` up to `end` is marked.
+fn is_blank(row: &[u8], from: usize, end: usize) -> bool
+    requires { ⌜ (from ≤ end) × (end ≤ length (now row)) ⌝ }
+    ensures { λ r. ⌜ BlankIf r from end (now (row .entry)) ⌝ }
+{
+    let mut x = from;
+    while x < end {
+        if row[x] != 0 {
+            return false;
+        }
+        x += 1;
+    }
+    true
+}
+
+// The corners of the plane x, unless it is not marked and so has none.
+fn plane_if(
+    c: &[u16],
+    e: usize,
+    field: u16,
+    x: u16,
+    row: &[u8],
+    run: &[u16],
+    near: &mut [u16],
+    faces: &mut [u16],
+    links: &mut [u16],
+    t: CornerSums,
+    buf: &mut [u8],
+) -> CornerSums
+    requires { ⌜ InRun 1024 e (now c) (now run) × (length (now run) ≤ 4096) × (length (now near) ≡ 4096) × (length (now faces) ≡ 4096) × (length (now links) ≡ 4096) × (x ≤ 1024) × (field ≤ 1024) × Room t 1075840000 ⌝ }
+    requires { ⌜ Marked x-axis (shotsIn e (now c) (now run)) (now row) × (length (now row) ≡ 1026) ⌝ }
+    ensures { λ r. ⌜ PlaneOut field x (shotsIn e (now (c .entry)) (now (run .entry))) (state t (now (buf .entry))) (state r (now (buf .exit))) ⌝ }
+{
+    if row[x as usize] == 0 {
+        return t;
+    }
+    plane::across(c, e, field, x, run, near, faces, links, t, buf)
+}
+
+// The planes from `from` up to `end`, from a run of shots that gives these planes the list's corners.
+fn planes(
+    c: &[u16],
+    e: usize,
+    field: u16,
+    from: u16,
+    end: u16,
+    row: &[u8],
+    run: &[u16],
+    t: CornerSums,
+    buf: &mut [u8],
+) -> CornerSums
+    requires { ⌜ InRun 1024 e (now c) (now run) × (length (now run) ≤ 4096) × (from ≤ end) × (end ≤ 1025) × (field ≤ 1024) × Room t (from * 1050625) ⌝ }
+    requires { ⌜ Marked x-axis (shotsIn e (now c) (now run)) (now row) × (length (now row) ≡ 1026) × Agree field from end (shotsIn e (now c) (now run)) (shotsOf e (now c)) ⌝ }
+    ensures { λ r. ⌜ Swept field from end (shotsOf e (now (c .entry))) (state t (now (buf .entry))) (state r (now (buf .exit))) ⌝ }
+{
+    let mut near = [0u16; 4096];
+    let mut faces = [0u16; 4096];
+    let mut links = [0u16; 4096];
+    let mut s = t;
+    let mut x = from;
+    while x < end {
+        s = plane_if(
+            c,
+            e,
+            field,
+            x,
+            row,
+            run,
+            &mut near,
+            &mut faces,
+            &mut links,
+            s,
+            buf,
+        );
+        x += 1;
+    }
+    s
+}
+
+// The planes from `from` up to `end`, all of slab gx, from the index's runs of that slab; nothing is read where no plane is marked.
+fn slab(
+    field: u16,
+    edge: u16,
+    grid: u16,
+    coords: &[u16],
+    work: &[u32],
+    gx: u16,
+    from: u16,
+    end: u16,
+    row: &[u8],
+    t: CornerSums,
+    buf: &mut [u8],
+) -> CornerSums
+    requires { ⌜ Valid field edge grid (now coords) × Holds field edge grid (now coords) (now work) × InSlab field grid gx from end × Room t (from * 1050625) ⌝ }
+    requires { ⌜ MarkedList edge (now coords) (length (now coords) / 3) (now row) × (length (now row) ≡ 1026) ⌝ }
+    ensures { λ r. ⌜ Swept field from end (shotsOf edge (now (coords .entry))) (state t (now (buf .entry))) (state r (now (buf .exit))) ⌝ }
+{
+    if is_blank(row, from as usize, end as usize) {
+        return t;
+    }
+    let mut run = [0u16; 4096];
+    let n = grid::runs::slab(field, edge, grid, coords, work, gx, &mut run);
+    planes(
+        coords,
+        edge as usize,
+        field,
+        from,
+        end,
+        row,
+        &run[..n],
+        t,
+        buf,
+    )
+}
+
+// The slabs one after the other: each has the planes up to its upper side.
+fn slabs(
+    field: u16,
+    edge: u16,
+    grid: u16,
+    coords: &[u16],
+    work: &[u32],
+    row: &[u8],
+    buf: &mut [u8],
+) -> CornerSums
+    requires { ⌜ Valid field edge grid (now coords) × Holds field edge grid (now coords) (now work) ⌝ }
+    requires { ⌜ MarkedList edge (now coords) (length (now coords) / 3) (now row) × (length (now row) ≡ 1026) ⌝ }
+    ensures { λ r. ⌜ state r (now (buf .exit)) ≡ found (state (sumsOf []) (now (buf .entry))) (corners field (cells (shotsOf edge (now (coords .entry))))) ⌝ }
+{
+    let width = field / grid;
+    let mut t = CornerSums::new();
+    let mut from: u16 = 0;
+    let mut low: u16 = 0;
+    let mut gx: u16 = 0;
+    while gx < grid {
+        let high = low + width;
+        t = slab(
+            field,
+            edge,
+            grid,
+            coords,
+            work,
+            gx,
+            from,
+            high + 1,
+            row,
+            t,
+            buf,
+        );
+        from = high + 1;
+        low = high;
+        gx += 1;
+    }
+    t
+}
+
+// The sums of all corners of a list's solid, and their records as far as the buffer has room; `work` holds the list's index.
+pub fn sweep(
+    field: u16,
+    edge: u16,
+    grid: u16,
+    coords: &[u16],
+    work: &[u32],
+    buf: &mut [u8],
+) -> CornerSums
+    requires { ⌜ Valid field edge grid (now coords) × Holds field edge grid (now coords) (now work) ⌝ }
+    ensures { λ r. ⌜ state r (now (buf .exit)) ≡ found (state (sumsOf []) (now (buf .entry))) (corners field (cells (shotsOf edge (now (coords .entry))))) ⌝ }
+{
+    let mut row = [0u8; 1026];
+    mark_list(coords, edge as usize, &mut row);
+    slabs(field, edge, grid, coords, work, &row, buf)
+}
