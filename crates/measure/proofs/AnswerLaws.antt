@@ -129,3 +129,39 @@ module _ (n : ℕ) (s : Cells) (before : List ℕ) where
         → after ≡ onChecked (andThen Accepted (shortListing n s (length before))) before (listing n s ++ drop (7 * cornerCount n s) before)
     long-stored e =
         e ∙ ap (λ b. onChecked (cond b (Refused (ShortListing (cornerCount n s))) Accepted) before (listing n s ++ drop (7 * cornerCount n s) before)) (sym (le-ltb (length before) (7 * cornerCount n s) h))
+
+pub totals-corners : (n : ℕ) (s : Cells) {t : Totals} → t ≡ totalsOf n s → t .corners ≡ cornerCount n s
+unfolding totalsOf
+totals-corners n s e = ap (λ (t : Totals). t .corners) e
+
+-- ---- the answers of the calls
+module _ (F E G : ℕ) (coords : List ℕ) (entries : ℕ) where
+  module _ (r : Refusal) (e : Refused r ≡ measureChecked F E G coords entries) where
+    pub refused-answer : Unmeasured r ≡ measureAnswer F E G coords entries
+    unfolding measureAnswer
+    refused-answer = ap (λ c. answerOf c F (solid E coords)) e
+
+    pub refused-list : (room : ℕ) → Unmeasured r ≡ listAnswer F E G coords entries room
+    unfolding listAnswer listChecked
+    refused-list room = ap (λ c. answerOf (andThen c (shortListing F (solid E coords) room)) F (solid E coords)) e
+
+    pub refused-listing : (buffer : List ℕ) → buffer ≡ listingAfter F E G coords entries buffer
+    unfolding listingAfter listChecked
+    refused-listing buffer =
+        ap (λ c. onChecked (andThen c (shortListing F (solid E coords) (length buffer))) buffer (listing F (solid E coords) ++ drop (7 * cornerCount F (solid E coords)) buffer)) e
+
+  module _ (e : measureChecked F E G coords entries ≡ Accepted) where
+    pub accepted-answer : {t : Totals} → t ≡ totalsOf F (solid E coords) → Quote t ≡ measureAnswer F E G coords entries
+    unfolding measureAnswer
+    accepted-answer k = ap Quote k ∙ ap (λ c. answerOf c F (solid E coords)) (sym e)
+
+    pub accepted-list-answer : (room : ℕ) {a : Measured} → a ≡ answerOf (andThen Accepted (shortListing F (solid E coords) room)) F (solid E coords) → a ≡ listAnswer F E G coords entries room
+    unfolding listAnswer listChecked
+    accepted-list-answer room k = k ∙ ap (λ c. answerOf (andThen c (shortListing F (solid E coords) room)) F (solid E coords)) (sym e)
+
+    pub accepted-listing : (buffer : List ℕ) {after : List ℕ}
+        → after ≡ onChecked (andThen Accepted (shortListing F (solid E coords) (length buffer))) buffer (listing F (solid E coords) ++ drop (7 * cornerCount F (solid E coords)) buffer)
+        → after ≡ listingAfter F E G coords entries buffer
+    unfolding listingAfter listChecked
+    accepted-listing buffer k =
+        k ∙ ap (λ c. onChecked (andThen c (shortListing F (solid E coords) (length buffer))) buffer (listing F (solid E coords) ++ drop (7 * cornerCount F (solid E coords)) buffer)) (sym e)

@@ -1,0 +1,28 @@
+-- A sweep that stores nothing: its sums are the totals.
+use mathlib.Core.Path.{_≡_}
+use Rattle.lattice.specs.Listing.{corners}
+use Rattle.lattice.specs.CornerSums.{sumsOf}
+use Rattle.job.proofs.Conditions.{valid-within}
+use Rattle.measure.specs.Answers.{solid}
+use Rattle.measure.proofs.AnswerLaws.{swept-sums, swept-nonnegative, swept-totals}
+use borrow.Author.Needs.{needs}
+use Rattle.measure.proofs.count.Statement.{statement}
+use Rattle.measure.proofs.count.Tie as tie
+
+swept : (c : tie.After-sweep) → c .sweep .result ≡ sumsOf (corners (c .before .before .before .before .args .field) (solid (c .before .before .before .before .args .edge) (c .before .before .before .before .args .coords .now)))
+swept c = let s = c .before .before .before .before in swept-sums _ (s .args .field) (solid (s .args .edge) (s .args .coords .now)) (c .sweep .ensures)
+
+slice-aggregate-sweep : tie.Need-slice-aggregate-sweep
+slice-aggregate-sweep c = search needs
+
+sweep-requires : tie.Need-sweep-requires
+sweep-requires c κs = search needs
+
+totals-requires : tie.Need-totals-requires
+totals-requires c κs = let s = c .before .before .before .before .before in swept-nonnegative (s .args .field) (solid (s .args .edge) (s .args .coords .now)) (valid-within (s .pre .0)) (swept (c .before))
+
+returns : tie.Need-returns
+returns c = let s = c .before .before .before .before .before .before in swept-totals (s .args .field) (solid (s .args .edge) (s .args .coords .now)) (valid-within (s .pre .0)) (swept (c .before .before)) (c .totals .ensures)
+
+pub count-spec : {M : Type 1} → statement M
+count-spec = tie.close (tie.spec slice-aggregate-sweep sweep-requires totals-requires returns)
