@@ -47,7 +47,12 @@ fn print_refusal(refusal: Refusal) {
 
 fn print_read(answer: ReadAnswer) {
     match answer {
-        ReadAnswer::Read { field, edge, grid, shots } => {
+        ReadAnswer::Read {
+            field,
+            edge,
+            grid,
+            shots,
+        } => {
             io::write_all(1, b" read");
             print_number(field as u64);
             print_number(edge as u64);

@@ -5,9 +5,6 @@ use lib.ListN.{length}
 use borrow.Author.Needs.{needs}
 use Rattle.shotfile_checks.proofs.cuts.Statement.{statement}
 use Rattle.shotfile_checks.proofs.cuts.Tie as tie
-use Rattle.shotfile_checks.proofs.cuts.Reads as reads
-use Rattle.shotfile_checks.proofs.cuts.Lts as lts
-use Rattle.shotfile_checks.proofs.show_cut.Reads as show-cut-reads
 
 abbrev Inv-loop : tie.InvT-loop
 Inv-loop file cut₀ cut = (cut ≤ 15) × (length file ≡ 14)
@@ -15,31 +12,24 @@ Inv-loop file cut₀ cut = (cut ≤ 15) × (length file ≡ 14)
 abbrev μ-loop : tie.MeasureT-loop
 μ-loop file cut₀ cut = 15 - cut
 
--- src/main.rt:106:5
 loop-holds : tie.Need-loop-holds Inv-loop μ-loop
 loop-holds c = search needs
 
--- src/main.rt:107:18
 slice-aggregate-show-cut : tie.Need-slice-aggregate-show-cut Inv-loop μ-loop
 slice-aggregate-show-cut c = search needs
 
--- src/main.rt:107:9
 show-cut-requires : tie.Need-show-cut-requires Inv-loop μ-loop
 show-cut-requires c κs = search needs
 
--- src/main.rt:108:9
 add-cut : tie.Need-add-cut Inv-loop μ-loop
 add-cut c = search needs
 
--- src/main.rt:106:5
 loop-less : tie.Need-loop-less Inv-loop μ-loop
 loop-less c = search needs
 
--- src/main.rt:106:5
 loop-again : tie.Need-loop-again Inv-loop μ-loop
 loop-again c = search needs
 
--- src/main.rt:103:1
 returns : tie.Need-returns Inv-loop μ-loop
 returns c = search needs
 

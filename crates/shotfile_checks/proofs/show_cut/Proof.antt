@@ -4,27 +4,19 @@ use lib.Seq.{length-take-le}
 use borrow.Author.Needs.{needs}
 use Rattle.shotfile_checks.proofs.show_cut.Statement.{statement}
 use Rattle.shotfile_checks.proofs.show_cut.Tie as tie
-use Rattle.shotfile_checks.proofs.show_cut.Reads as reads
-use Rattle.shotfile_checks.proofs.show_cut.Lts as lts
-use Rattle.shotfile_checks.proofs.show_read.Reads as show-read-reads
 
--- src/main.rt:96:9
 returns : tie.Need-returns
 returns c = search needs
 
--- src/main.rt:99:15
 slice-aggregate-show-read : tie.Need-slice-aggregate-show-read
 slice-aggregate-show-read c = sym (length-take-le _ _ (c .before .if1 .left))
 
--- src/main.rt:99:30
 slice-aggregate-show-read-2 : tie.Need-slice-aggregate-show-read-2
 slice-aggregate-show-read-2 c = search needs
 
--- src/main.rt:99:5
 show-read-requires : tie.Need-show-read-requires
 show-read-requires c κs = search needs
 
--- src/main.rt:94:1
 returns-2 : tie.Need-returns-2
 returns-2 c = search needs
 
