@@ -1,7 +1,7 @@
 -- A lent slice that is filled from the front with a list: the list's first n elements, then what was there. Assumes nothing.
 use mathlib.Core.Path.{_≡_, refl, sym, ap, _∙_}
-use mathlib.Core.List.{List, [], _∷_, _++_, append-assoc, append-nil}
-use Prim.Native.Nat.{ℕ, zero, suc, _+_, _-_, _≤_, _<_}
+use mathlib.Core.List.{List, [], _∷_, _++_, append-assoc}
+use Prim.Native.Nat.{ℕ, suc, _+_, _-_, _≤_}
 use native.Mathlib.Omega.{arith}
 use lib.ListN.{length, take, drop, set, length-append, length-drop}
 use lib.Seq.{take-at, take-all, take-add, take-append-seam, drop-append-seam, drop-append-add, drop-drop, sets-eq, length-take-le}
@@ -69,10 +69,10 @@ module _ {A : Type 0} where
       pub fill-more : {then : List A} → then ≡ take n now ++ (xs ++ drop (n + length xs) now) → Filled all before then (n + length xs)
       fill-more {then} w =
           let t : take (n + length xs) all ≡ take n all ++ xs = take-add n (length xs) all ∙ ap (λ (l : List A). take n all ++ l) (ap (take (length xs)) e ∙ take-append-seam xs rest) in
-          record
-            { room = part-room
-            ; is = rw (w, t) (ap (λ (l : List A). take n l ++ (xs ++ drop (n + length xs) l)) (f .is) ∙ block (take n all) before xs n (length xs) (length-take-le n all (f .room)))
-            }
+          record {
+            room = part-room;
+            is = rw (w, t) (ap (λ (l : List A). take n l ++ (xs ++ drop (n + length xs) l)) (f .is) ∙ block (take n all) before xs n (length xs) (length-take-le n all (f .room)));
+          }
 
       pub rest-more : drop (n + length xs) all ≡ rest
       rest-more = rest-after

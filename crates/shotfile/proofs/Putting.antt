@@ -2,7 +2,7 @@
 use mathlib.Core.Path.{_≡_, refl, sym, ap, _∙_}
 use mathlib.Core.Bool.{Bool, true, false, cond}
 use mathlib.Core.List.{List, [], _∷_, _++_, append-assoc}
-use Prim.Native.Nat.{ℕ, suc, _+_, _*_, _/_, _%_, _≤_, _<_}
+use Prim.Native.Nat.{ℕ, _+_, _*_, _/_, _%_, _≤_, _<_}
 use native.Mathlib.Nat.{add-zero}
 use native.Mathlib.Numerals.{add-one}
 use native.Mathlib.Omega.{arith}
@@ -58,22 +58,24 @@ module _ (absent f : Fields) where
   pub record-size : length (recordOf absent f) ≡ 1 + length (fieldOf (absent .first) (f .first)) + length (fieldOf (absent .second) (f .second)) + length (fieldOf (absent .third) (f .third))
   unfolding recordOf
   record-size =
-      omega
-      (arith
-      , length-append (fieldOf (absent .first) (f .first)) (fieldOf (absent .second) (f .second) ++ fieldOf (absent .third) (f .third))
-      , length-append (fieldOf (absent .second) (f .second)) (fieldOf (absent .third) (f .third)))
+      omega (
+        arith,
+        length-append (fieldOf (absent .first) (f .first)) (fieldOf (absent .second) (f .second) ++ fieldOf (absent .third) (f .third)),
+        length-append (fieldOf (absent .second) (f .second)) (fieldOf (absent .third) (f .third)),
+      )
 
   pub record-most : length (recordOf absent f) ≤ 7
   record-most =
-      omega
-      (arith
-      , record-size
-      , field-size (absent .first) (f .first)
-      , bit-small (absent .first) (f .first)
-      , field-size (absent .second) (f .second)
-      , bit-small (absent .second) (f .second)
-      , field-size (absent .third) (f .third)
-      , bit-small (absent .third) (f .third))
+      omega (
+        arith,
+        record-size,
+        field-size (absent .first) (f .first),
+        bit-small (absent .first) (f .first),
+        field-size (absent .second) (f .second),
+        bit-small (absent .second) (f .second),
+        field-size (absent .third) (f .third),
+        bit-small (absent .third) (f .third),
+      )
 
 -- ---- writing
 pub wrote-none : (w : List ℕ) (at : ℕ) → at ≤ length w → Wrote w w at at []
@@ -90,11 +92,11 @@ module _ {w w' : List ℕ} {at r : ℕ} {xs : List ℕ} (a : Wrote w w' at r xs)
   wrote-then {w''} {r'} {ys} b =
       let e : w' ≡ (take at w ++ xs) ++ drop r w = a .is ∙ sym (append-assoc (take at w) xs (drop r w)) in
       let f : w'' ≡ ((take at w ++ xs) ++ ys) ++ drop r' w = rw (b .is, b .next-is, e) (block (take at w ++ xs) w ys r (length ys) front) in
-      record
-        { next-is = omega (arith, a .next-is, b .next-is, length-append xs ys)
-        ; room = omega (arith, b .room, wrote-length)
-        ; is = f ∙ simp append-assoc
-        }
+      record {
+        next-is = omega (arith, a .next-is, b .next-is, length-append xs ys);
+        room = omega (arith, b .room, wrote-length);
+        is = f ∙ simp append-assoc;
+      }
 
 module _ (w : List ℕ) (at : ℕ) where
   pub put-absent : (absent v : ℕ) → v ≡ absent → at + length (fieldOf absent v) ≤ length w → Wrote w w at at (fieldOf absent v)

@@ -1,9 +1,8 @@
 -- Reading the shortest form gives the numbers that it was made of: field by field, record by record, and the whole file. Assumes nothing.
-use mathlib.Core.Path.{_≡_, refl, sym, ap, subst, _∙_}
-use mathlib.Core.Bool.{Bool, true, false, cond}
-use mathlib.Core.List.{List, [], _∷_, _++_, append-assoc, append-nil}
+use mathlib.Core.Path.{_≡_, refl, sym, ap, _∙_}
+use mathlib.Core.Bool.{Bool, true, false}
+use mathlib.Core.List.{List, [], _∷_, _++_, append-assoc}
 use Prim.Native.Nat.{ℕ, zero, suc, _+_, _-_, _*_, _/_, _%_, _≤_, _<_}
-use native.Mathlib.Nat.{add-zero}
 use native.Mathlib.Omega.{arith}
 use lib.Dec.{eqb}
 use lib.ListN.{length, getD, length-append}
@@ -14,10 +13,10 @@ use Rattle.shotfile.specs.declared.record.Taken.the-variants.{Whole}
 use Rattle.shotfile.specs.declared.reader.Cursor.{Cursor}
 use Rattle.shotfile.specs.declared.reader.Step.the-variants.{Shot}
 use Rattle.shotfile.specs.Records.{headerAbsent, firstAbsent, fieldAt, recordAt, bitOf, fieldOf, mapOf, recordOf}
-use Rattle.shotfile.specs.Files.{stepAt, Rest, shots, withShot, onStep, shotsFrom, File, file, withSettings, firstShot, onHeader, fileIn, shotRecords, fileOf}
+use Rattle.shotfile.specs.Files.{stepAt, shots, withShot, onStep, shotsFrom, file, withSettings, firstShot, onHeader, fileIn, shotRecords, fileOf}
 use Rattle.shotfile.proofs.Taking.{field-absent, field-there, taken-whole}
 use Rattle.shotfile.proofs.Steps.{step-on, shots-end, shots-on}
-use Rattle.shotfile.proofs.Putting.{bit-absent, bit-there, bit-small, field-none, field-some, field-size, record-size}
+use Rattle.shotfile.proofs.Putting.{bit-absent, bit-there, bit-small, field-some, field-size, record-size}
 
 -- the numbers are of 16 bits
 abbrev pub Small : List ℕ → Type 0
@@ -162,7 +161,7 @@ module _ (s : List ℕ) where
       let f : Fields = record { first = x; second = y; third = z } in
       one-shot left places pre (shotRecords f rest) p f e (record { first-small = small .0; second-small = small .1 .0; third-small = small .1 .1 .0 }) (omega arith)
       ∙ ap (withShot f)
-        (shots-read left (places - 3) (pre ++ recordOf p f) f rest (e ∙ sym (append-assoc pre (recordOf p f) (shotRecords f rest))) (omega arith) (omega arith) (omega arith) (small .1 .1 .1))
+      (shots-read left (places - 3) (pre ++ recordOf p f) f rest (e ∙ sym (append-assoc pre (recordOf p f) (shotRecords f rest))) (omega arith) (omega arith) (omega arith) (small .1 .1 .1))
 
 -- the whole file
 pub file-read : (F E G : ℕ) (coords : List ℕ) (places : ℕ) → SmallFields (record { first = F; second = E; third = G }) → Small coords

@@ -67,6 +67,7 @@ module _ (s before : List ℕ) where
           → (Read (f .first) (f .second) (f .third) n ≡ readAnswer (fileIn (length before) s)) × (after ≡ readCoords (fileIn (length before) s) before)
       read-stored {n} {after} e w =
           let k = counted s (length before) (record { at = end; previous = p }) e in
-          let is : fileIn (length before) s ≡ file f (k .coords) = headed (k .rest) in
-          (ap (Read (f .first) (f .second) (f .third)) (k .count) ∙ sym (ap readAnswer is)
-          , w ∙ (ap (λ (l : List ℕ). l ++ drop (length l) before) (k .next) ∙ sym (ap (λ (f : File). readCoords f before) is)))
+          let is : fileIn (length before) s ≡ file f (k .coords) = headed (k .rest) in (
+            ap (Read (f .first) (f .second) (f .third)) (k .count) ∙ sym (ap readAnswer is),
+            w ∙ (ap (λ (l : List ℕ). l ++ drop (length l) before) (k .next) ∙ sym (ap (λ (f : File). readCoords f before) is)),
+          )

@@ -3,15 +3,15 @@
 -- (b) A file in its shortest form is written back, byte for byte, from what was read.
 -- (c) The shortest form is shortest: no file with the same list and settings has fewer bytes.
 -- Each is stated of the definitions, and (a) and (b) once more of the answers and the slices of the calls `write` and `read`.
-use mathlib.Core.Path.{_≡_, refl, sym, ap, subst, _∙_}
-use mathlib.Core.Bool.{Bool, true, false, cond}
+use mathlib.Core.Path.{_≡_, refl, sym, ap, _∙_}
+use mathlib.Core.Bool.{Bool, true, false}
 use mathlib.Core.List.{List, [], _∷_, _++_}
-use Prim.Native.Nat.{ℕ, _+_, _*_, _/_, _%_, _≤_, _<_}
+use Prim.Native.Nat.{ℕ, _*_, _/_, _%_, _≤_}
 use native.Mathlib.Omega.{arith}
 use lib.Dec.{T, ltb}
 use lib.ListN.{length, take, drop}
-use lib.Seq.{take-at, length-take-le}
-use borrow.Author.Tests.{ltb-false, le-ltb}
+use lib.Seq.{take-at}
+use borrow.Author.Tests.{ltb-false}
 use Rattle.job.specs.declared.Refusal.{Refusal}
 use Rattle.job.specs.declared.Refusal.the-variants.{ShortFile}
 use Rattle.job.specs.declared.Checked.{Checked}
@@ -21,15 +21,14 @@ use Rattle.job.specs.Checking.{checked, andThen}
 use Rattle.job.proofs.Conditions.{accepted-valid}
 use Rattle.lattice.specs.Shots.{AllInField}
 use Rattle.shotfile.specs.declared.record.Fields.{Fields}
-use Rattle.shotfile.specs.declared.reader.ReadAnswer.the-variants.{Read, Refused as Unread}
-use Rattle.shotfile.specs.declared.writer.WriteAnswer.{WriteAnswer}
+use Rattle.shotfile.specs.declared.reader.ReadAnswer.the-variants.{Read}
 use Rattle.shotfile.specs.declared.writer.WriteAnswer.the-variants.{Written, Refused as Unwritten}
 use Rattle.shotfile.specs.Files.{File, file, refused, fileIn, fileOf, shortest}
-use Rattle.shotfile.specs.Calls.{readAnswer, readCoords, onChecked, writeChecked, writeAnswer, writeBytes}
+use Rattle.shotfile.specs.Calls.{readAnswer, readCoords, onChecked, writeAnswer, writeBytes}
 use Rattle.shotfile.proofs.ShotsRead.{reads-threes}
-use Rattle.shotfile.proofs.ReadBack.{Small, SmallFields, file-read}
+use Rattle.shotfile.proofs.ReadBack.{Small, file-read}
 use Rattle.shotfile.proofs.WriteBack.{Bytes}
-use Rattle.shotfile.proofs.Shortest.{FileParts, file-parts, file-least, file-same}
+use Rattle.shotfile.proofs.Shortest.{file-parts, file-least, file-same}
 use Rattle.shotfile.proofs.Writing.{write-done}
 
 abbrev settings : ℕ → ℕ → ℕ → Fields
@@ -87,11 +86,11 @@ accepts F E G coords before {n} e = go (checked F E G coords) refl (ltb (length 
     go Accepted q true l e = apart e
     go Accepted q false l e =
         let m : length (fileOf F E G coords) ≡ n = cc in
-        record
-          { valid = accepted-valid F E G coords .0 q
-          ; long = sym m
-          ; leaves = sym (write-done F E G coords before (sym q) refl (ltb-false (length before) (length (fileOf F E G coords)) l) refl .1) ∙ ap (λ (k : ℕ). fileOf F E G coords ++ drop k before) m
-          }
+        record {
+          valid = accepted-valid F E G coords .0 q;
+          long = sym m;
+          leaves = sym (write-done F E G coords before (sym q) refl (ltb-false (length before) (length (fileOf F E G coords)) l) refl .1) ∙ ap (λ (k : ℕ). fileOf F E G coords ++ drop k before) m;
+        }
 
 -- (a) where `write` answers that it wrote n bytes, `read` of these n bytes, with places enough, answers the settings and the number of
 -- shots, and stores the coordinates; the other places keep their values
@@ -128,11 +127,11 @@ accepted-file s places F E G n e = go (fileIn (length places) s) refl e
         let p₃ : f .third ≡ G = cc in
         let m : length cs / 3 ≡ n = cc in
         let long : length cs ≡ 3 * n = omega (arith, m, reads-threes (file-parts s (length places) q .rest)) in
-        record
-          { coords = cs
-          ; is = q ∙ rw (← p₁, ← p₂, ← p₃)
-          ; stored = ap (λ (k : File). take (3 * n) (readCoords k places)) q ∙ take-at cs (drop (length cs) places) (3 * n) long
-          }
+        record {
+          coords = cs;
+          is = q ∙ rw (← p₁, ← p₂, ← p₃);
+          stored = ap (λ (k : File). take (3 * n) (readCoords k places)) q ∙ take-at cs (drop (length cs) places) (3 * n) long;
+        }
 
 -- (b) where `read` accepts a file in its shortest form, and the list is valid, `write` of what was read, with room enough, answers the
 -- file's length and writes the file's bytes; the other places keep their values

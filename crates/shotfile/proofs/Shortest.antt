@@ -1,8 +1,8 @@
 -- The shortest form is shortest, and a file in its shortest form is what its list is written as. Assumes nothing.
 use mathlib.Core.Path.{_≡_, refl, sym, ap, subst, _∙_}
-use mathlib.Core.Bool.{Bool, true, false, _&&_}
-use mathlib.Core.List.{List, [], _∷_, _++_}
-use Prim.Native.Nat.{ℕ, zero, suc, _+_, _-_, _/_, _≤_, _<_}
+use mathlib.Core.Bool.{true}
+use mathlib.Core.List.{List, _++_}
+use Prim.Native.Nat.{ℕ, zero, suc, _+_, _-_, _/_, _≤_}
 use native.Mathlib.Omega.{arith}
 use lib.Dec.{T}
 use lib.ListN.{length, drop, length-append, drop-of-length-le}
@@ -15,10 +15,10 @@ use Rattle.shotfile.specs.declared.reader.Cursor.{Cursor}
 use Rattle.shotfile.specs.declared.reader.Step.{Step}
 use Rattle.shotfile.specs.declared.reader.Step.the-variants.{Shot}
 use Rattle.shotfile.specs.Records.{headerAbsent, recordAt, recordOf, tight}
-use Rattle.shotfile.specs.Files.{stepAt, Rest, shots, faulty, shotsFrom, File, file, refused, withSettings, firstShot, onHeader, fileIn, onShot, shotRecords, fileOf, tightFrom, tightRest, shortest}
+use Rattle.shotfile.specs.Files.{stepAt, Rest, shots, faulty, shotsFrom, file, refused, withSettings, firstShot, onHeader, fileIn, onShot, shotRecords, fileOf, tightFrom, tightRest, shortest}
 use Rattle.shotfile.proofs.Steps.{step-on}
 use Rattle.shotfile.proofs.ShotsRead.{Reads, done, shot, reads}
-use Rattle.shotfile.proofs.WriteBack.{Bytes, Parts, parts, record-least, record-same}
+use Rattle.shotfile.proofs.WriteBack.{Bytes, parts, record-least, record-same}
 
 -- ---- a file that was read, taken apart
 pub record FileParts (s : List ℕ) (places : ℕ) (f : Fields) (cs : List ℕ) : Type 0 where

@@ -1,9 +1,9 @@
 -- Storing the coordinates of the next n shots, one shot a turn. Assumes nothing.
-use mathlib.Core.Path.{_≡_, refl, sym, ap, _∙_}
+use mathlib.Core.Path.{_≡_, sym, ap, _∙_}
 use mathlib.Core.List.{List, [], _∷_, _++_}
-use Prim.Native.Nat.{ℕ, zero, suc, _+_, _-_, _*_, _≤_, _<_}
+use Prim.Native.Nat.{ℕ, suc, _+_, _-_, _*_, _≤_, _<_}
 use native.Mathlib.Omega.{arith}
-use lib.ListN.{length, take, drop}
+use lib.ListN.{take, drop}
 use Rattle.job.specs.declared.Refusal.{Refusal}
 use Rattle.shotfile.specs.declared.record.Fields.{Fields}
 use Rattle.shotfile.specs.declared.reader.Cursor.{Cursor}

@@ -1,5 +1,5 @@
 -- The ways to take one record. Assumes nothing.
-use mathlib.Core.Path.{_≡_, refl, sym, ap, _∙_}
+use mathlib.Core.Path.{_≡_}
 use mathlib.Core.List.{List}
 use Prim.Native.Nat.{ℕ, _+_, _*_, _/_, _%_, _≤_, _<_}
 use native.Mathlib.Omega.{arith}
@@ -7,9 +7,8 @@ use lib.ListN.{length, getD}
 use borrow.Author.Tests.{le-ltb, lt-ltb, le-leb, lt-leb, eq-eqb, ne-eqb}
 use Rattle.job.specs.declared.Refusal.the-variants.{UnknownBit, CutShort}
 use Rattle.shotfile.specs.declared.record.Fields.{Fields}
-use Rattle.shotfile.specs.declared.record.Taken.{Taken}
 use Rattle.shotfile.specs.declared.record.Taken.the-variants.{Whole, Refused}
-use Rattle.shotfile.specs.Records.{wordAt, fieldAt, secondAt, thirdAt, endAt, fieldsAt, recordAt}
+use Rattle.shotfile.specs.Records.{wordAt, fieldAt, endAt, fieldsAt, recordAt}
 
 module _ (s : List ℕ) (at b absent : ℕ) where
   pub field-absent : b ≡ 0 → absent ≡ fieldAt s at b absent
@@ -42,13 +41,14 @@ module _ (s : List ℕ) (at : ℕ) (absent : Fields) where
           → Whole (record { first = x; second = y; third = z }) (at + 1 + 2 * b₁ + 2 * b₂ + 2 * b₃) ≡ recordAt s at absent
       unfolding recordAt fieldsAt
       taken-whole l hx hy hz =
-          simp
-          (lt-ltb at (length s) h
-          , lt-ltb (getD s at 0) 8 m
-          , le-leb (endAt (getD s at 0) at) (length s) (omega arith)
-          , hx
-          , hy
-          , hz
-          , e₁
-          , e₂
-          , e₃)
+          simp (
+            lt-ltb at (length s) h,
+            lt-ltb (getD s at 0) 8 m,
+            le-leb (endAt (getD s at 0) at) (length s) (omega arith),
+            hx,
+            hy,
+            hz,
+            e₁,
+            e₂,
+            e₃,
+          )

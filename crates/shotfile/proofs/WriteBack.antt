@@ -1,20 +1,19 @@
 -- What the records of a file say, taken apart: a record is never shorter than the shortest one that says the same, and a record with
 -- no needless field is that one, byte for byte. Assumes nothing.
-use mathlib.Core.Path.{_≡_, refl, sym, ap, ap₂, subst, _∙_}
-use mathlib.Core.Bool.{Bool, true, false, cond, not, _&&_, false≢true}
-use mathlib.Core.List.{List, [], _∷_, _++_, append-assoc}
-use Prim.Native.Nat.{ℕ, zero, suc, _+_, _-_, _*_, _/_, _%_, _≤_, _<_}
+use mathlib.Core.Path.{_≡_, refl, sym, ap, ap₂, _∙_}
+use mathlib.Core.Bool.{Bool, true, false, cond, not, false≢true}
+use mathlib.Core.List.{List, _∷_, _++_, append-assoc}
+use Prim.Native.Nat.{ℕ, suc, _+_, _*_, _/_, _%_, _≤_, _<_}
 use native.Mathlib.Numerals.{add-one}
 use native.Mathlib.Omega.{arith}
 use lib.Dec.{T, ltb, leb, eqb}
-use lib.ListN.{length, getD, drop, length-append, length-drop, drop-of-length-le}
-use lib.Seq.{drop-cons, getD-drop}
+use lib.ListN.{length, getD, drop}
+use lib.Seq.{drop-cons}
 use borrow.Author.Tests.{ltb-true, leb-true, eqb-true, eqb-false, eq-eqb, ne-eqb}
 use Rattle.job.specs.declared.Refusal.{Refusal}
 use Rattle.job.specs.declared.Refusal.the-variants.{UnknownBit, CutShort}
 use Rattle.lattice.proofs.Cases.{and-left, and-right}
 use Rattle.shotfile.specs.declared.record.Fields.{Fields}
-use Rattle.shotfile.specs.declared.record.Taken.{Taken}
 use Rattle.shotfile.specs.declared.record.Taken.the-variants.{Whole, Refused}
 use Rattle.shotfile.specs.Records.{wordAt, fieldAt, secondAt, thirdAt, endAt, fieldsAt, recordAt, bitOf, fieldOf, mapOf, recordOf, needless, tight}
 use Rattle.shotfile.proofs.Taking.{field-absent, field-there}
@@ -48,13 +47,13 @@ parts s at absent {f} {end} e = go (ltb at (length s)) refl (ltb (getD s at 0) 8
     go true p true q true r e =
         let k : endAt (getD s at 0) at ≡ end = cc in
         let j : fieldsAt s (getD s at 0) at absent ≡ f = cc in
-        record
-          { inside = ltb-true at (length s) p
-          ; known = ltb-true (getD s at 0) 8 q
-          ; end-is = sym k
-          ; room = omega (arith, k, leb-true (endAt (getD s at 0) at) (length s) r)
-          ; is = sym j
-          }
+        record {
+          inside = ltb-true at (length s) p;
+          known = ltb-true (getD s at 0) 8 q;
+          end-is = sym k;
+          room = omega (arith, k, leb-true (endAt (getD s at 0) at) (length s) r);
+          is = sym j;
+        }
 
 -- ---- a field
 module _ (s : List ℕ) (at b absent : ℕ) (bit : b ≤ 1) where
@@ -119,16 +118,17 @@ module _ (s : List ℕ) (at : ℕ) (absent f : Fields) (end : ℕ) (p : Parts s 
   unfolding fieldsAt
   record-least =
       rw (p .is)
-      (omega
-      (arith
-      , p .end-is
-      , record-size absent (fieldsAt s (getD s at 0) at absent)
-      , field-size (absent .first) (fieldAt s (at + 1) (getD s at 0 % 2) (absent .first))
-      , field-size (absent .second) (fieldAt s (secondAt (getD s at 0) at) (getD s at 0 / 2 % 2) (absent .second))
-      , field-size (absent .third) (fieldAt s (thirdAt (getD s at 0) at) (getD s at 0 / 4) (absent .third))
-      , bit-least s (at + 1) (getD s at 0 % 2) (absent .first) (bits .0)
-      , bit-least s (secondAt (getD s at 0) at) (getD s at 0 / 2 % 2) (absent .second) (bits .1)
-      , bit-least s (thirdAt (getD s at 0) at) (getD s at 0 / 4) (absent .third) (bits .2)))
+      (omega (
+        arith,
+        p .end-is,
+        record-size absent (fieldsAt s (getD s at 0) at absent),
+        field-size (absent .first) (fieldAt s (at + 1) (getD s at 0 % 2) (absent .first)),
+        field-size (absent .second) (fieldAt s (secondAt (getD s at 0) at) (getD s at 0 / 2 % 2) (absent .second)),
+        field-size (absent .third) (fieldAt s (thirdAt (getD s at 0) at) (getD s at 0 / 4) (absent .third)),
+        bit-least s (at + 1) (getD s at 0 % 2) (absent .first) (bits .0),
+        bit-least s (secondAt (getD s at 0) at) (getD s at 0 / 2 % 2) (absent .second) (bits .1),
+        bit-least s (thirdAt (getD s at 0) at) (getD s at 0 / 4) (absent .third) (bits .2),
+      ))
 
   -- with no needless field it is the shortest record
   pub record-same : Bytes s → T (tight s at absent) → drop at s ≡ recordOf absent f ++ drop end s

@@ -1,15 +1,14 @@
 -- The records of a list's shots, one by one: how long they are and how they are written. Assumes nothing.
 use mathlib.Core.Path.{_≡_, refl, sym, ap, subst, _∙_}
 use mathlib.Core.List.{List, [], _∷_, _++_}
-use Prim.Native.Nat.{ℕ, zero, suc, _+_, _*_, _/_, _≤_, _<_}
+use Prim.Native.Nat.{ℕ, suc, _+_, _*_, _/_, _≤_, _<_}
 use native.Mathlib.Omega.{arith}
-use lib.ListN.{length, take, drop, length-append, length-drop}
+use lib.ListN.{length, drop, length-append, length-drop}
 use lib.Seq.{drop-cons, drop-append-seam}
 use borrow.Author.Tests.{lt-ltb, le-ltb}
 use Rattle.job.specs.declared.Refusal.{Refusal}
 use Rattle.job.specs.declared.Refusal.the-variants.{ShortFile}
 use Rattle.job.specs.declared.Checked.the-variants.{Accepted, Refused as Turned}
-use Rattle.job.specs.Job.{Valid}
 use Rattle.job.specs.Checking.{checked}
 use Rattle.job.proofs.Conditions.{accepted-valid}
 use Rattle.shotfile.specs.declared.record.Fields.{Fields}
@@ -18,7 +17,7 @@ use Rattle.shotfile.specs.Calls.{writeAnswer, writeBytes}
 use Rattle.shotfile.specs.Records.{headerAbsent, firstAbsent, recordOf}
 use Rattle.shotfile.specs.Files.{coordsAt, shotRecords, fileOf}
 use Rattle.shotfile.specs.Wrote.{Wrote}
-use Rattle.shotfile.proofs.Fill.{Filled, fill-none, fill-more, rest-more, filled-all, filled-again, filled-over}
+use Rattle.shotfile.proofs.Fill.{Filled, fill-none, fill-more, rest-more}
 use Rattle.shotfile.proofs.Putting.{record-most}
 
 pub records-most : (p : Fields) (coords : List ℕ) → length (shotRecords p coords) ≤ 7 * (length coords / 3)

@@ -1,5 +1,4 @@
 -- What the calls `read` and `write` answer, and what they leave in the lent slices. Document 01, 'When a job is refused'.
-use mathlib.Core.Bool.{Bool, true, false, cond}
 use mathlib.Core.List.{List, _++_}
 use Prim.Native.Nat.{ℕ, _/_}
 use lib.Dec.{ltb}
@@ -8,14 +7,14 @@ use Rattle.job.specs.declared.Refusal.the-variants.{ShortFile}
 use Rattle.job.specs.declared.Checked.{Checked}
 use Rattle.job.specs.declared.Checked.the-variants.{Accepted, Refused as Turned}
 use Rattle.job.specs.declared.Refusal.{Refusal}
-use Rattle.job.specs.Checking.{Test, checked, andThen}
+use Rattle.job.specs.Checking.{checked, andThen}
 use Rattle.shotfile.specs.declared.writer.WriteAnswer.{WriteAnswer}
 use Rattle.shotfile.specs.declared.writer.WriteAnswer.the-variants.{Written, Refused as Unwritten}
 use Rattle.shotfile.specs.declared.reader.Counted.{Counted}
 use Rattle.shotfile.specs.declared.reader.Counted.the-variants.{Shots, Refused as Uncounted}
 use Rattle.shotfile.specs.declared.reader.ReadAnswer.{ReadAnswer}
 use Rattle.shotfile.specs.declared.reader.ReadAnswer.the-variants.{Read, Refused as Unread}
-use Rattle.shotfile.specs.Files.{Rest, shots, faulty, File, file, refused, fileIn, fileOf}
+use Rattle.shotfile.specs.Files.{Rest, shots, faulty, File, file, refused, fileOf}
 
 -- how many shots the rest of a file has
 abbrev pub countOf : Rest → Counted

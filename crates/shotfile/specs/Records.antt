@@ -1,11 +1,10 @@
 -- One record of a shot file: a map byte, then the 16-bit fields whose bits stand in it, least byte first. Document 01, 'Shot file'.
 -- The header has the fields F, E, G, and each shot x, y, z: three numbers, in bits 0, 1, 2. What an absent field means is given with them.
-use mathlib.Core.Bool.{Bool, true, false, not, cond, _&&_}
+use mathlib.Core.Bool.{Bool, not, cond, _&&_}
 use mathlib.Core.List.{List, [], _∷_, _++_}
 use Prim.Native.Nat.{ℕ, _+_, _*_, _/_, _%_}
 use lib.Dec.{ltb, leb, eqb}
 use lib.ListN.{length, getD}
-use Rattle.job.specs.declared.Refusal.{Refusal}
 use Rattle.job.specs.declared.Refusal.the-variants.{UnknownBit, CutShort}
 use Rattle.shotfile.specs.declared.record.Fields.{Fields}
 use Rattle.shotfile.specs.declared.record.Taken.{Taken}
@@ -41,11 +40,11 @@ endAt m at = thirdAt m at + 2 * (m / 4)
 -- the numbers after the map m at a place
 unfoldable pub fieldsAt : List ℕ → ℕ → ℕ → Fields → Fields
 fieldsAt s m at absent =
-    record
-      { first = fieldAt s (at + 1) (m % 2) (absent .first)
-      ; second = fieldAt s (secondAt m at) (m / 2 % 2) (absent .second)
-      ; third = fieldAt s (thirdAt m at) (m / 4) (absent .third)
-      }
+    record {
+      first = fieldAt s (at + 1) (m % 2) (absent .first);
+      second = fieldAt s (secondAt m at) (m / 2 % 2) (absent .second);
+      third = fieldAt s (thirdAt m at) (m / 4) (absent .third);
+    }
 
 -- the record at a place: refusal 4 where another bit than the three stands, 5 where the file ends before its map or a field
 unfoldable pub recordAt : List ℕ → ℕ → Fields → Taken

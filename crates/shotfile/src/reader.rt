@@ -1,11 +1,11 @@
 // Reading a shot file: a cursor takes one record and goes on to the next from there; the file is checked whole before anything is stored.
 // Document 01, 'Shot file'.
-use job::Refusal;
 use crate::record::Fields;
 use crate::record::Taken;
 use crate::record::first_absent;
 use crate::record::header_absent;
 use crate::record::take_record;
+use job::Refusal;
 ghost use mathlib.Core.Path.{_≡_};
 ghost use mathlib.Core.List.{[], _∷_, _++_};
 ghost use Prim.Native.Nat.{_≤_, _+_, _*_};
@@ -19,6 +19,7 @@ pub struct Cursor {
     pub previous: Fields,
 }
 
+// What a step of the cursor takes.
 pub enum Step {
     // A whole record: the cursor after it, which holds the shot's coordinates.
     Shot(Cursor),
@@ -27,14 +28,21 @@ pub enum Step {
     End,
 }
 
+// What a check of the shots finds.
 pub enum Counted {
     Shots(usize),
     Refused(Refusal),
 }
 
+// What `read` answers.
 pub enum ReadAnswer {
     // The settings, and how many shots were stored.
-    Read { field: u16, edge: u16, grid: u16, shots: usize },
+    Read {
+        field: u16,
+        edge: u16,
+        grid: u16,
+        shots: usize,
+    },
     Refused(Refusal),
 }
 
@@ -49,14 +57,17 @@ impl Cursor {
         }
         let previous = self.previous;
         match take_record(bytes, at, previous) {
-            Taken::Whole { fields, end } => Step::Shot(Cursor { at: end, previous: fields }),
+            Taken::Whole { fields, end } => Step::Shot(Cursor {
+                at: end,
+                previous: fields,
+            }),
             Taken::Refused(refusal) => Step::Refused(refusal),
         }
     }
 }
 
 // Checks the records from a cursor on against the free places, and counts them.
-pub fn count_shots(bytes: &[u8], places: usize, start: Cursor) -> Counted
+fn count_shots(bytes: &[u8], places: usize, start: Cursor) -> Counted
     ensures { λ r. ⌜ r ≡ countOf (shotsFrom 4096 places (now (bytes .entry)) start) ⌝ }
 {
     let mut c = start;
@@ -131,11 +142,19 @@ pub fn read(bytes: &[u8], coords: &mut [u16]) -> ReadAnswer
     match take_record(bytes, 0, absent) {
         Taken::Whole { fields, end } => {
             let previous = first_absent();
-            let start = Cursor { at: end, previous: previous };
+            let start = Cursor {
+                at: end,
+                previous: previous,
+            };
             match count_shots(bytes, coords.len(), start) {
                 Counted::Shots(n) => {
                     store_shots(bytes, coords, start, n);
-                    ReadAnswer::Read { field: fields.first, edge: fields.second, grid: fields.third, shots: n }
+                    ReadAnswer::Read {
+                        field: fields.first,
+                        edge: fields.second,
+                        grid: fields.third,
+                        shots: n,
+                    }
                 }
                 Counted::Refused(refusal) => ReadAnswer::Refused(refusal),
             }

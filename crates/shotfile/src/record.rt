@@ -9,7 +9,9 @@ ghost use Rattle.shotfile.specs.Wrote.{Wrote};
 
 // What the header says where it leaves out the field side, the shot edge or the grid size.
 const FIELD: u16 = 1024;
+
 const EDGE: u16 = 16;
+
 const GRID: u16 = 8;
 
 // The three numbers of a record: F, E, G of the header, x, y, z of a shot.
@@ -96,7 +98,10 @@ pub fn take_record(bytes: &[u8], at: usize, absent: Fields) -> Taken
         second: field(bytes, second, b2, absent.second),
         third: field(bytes, third, b3, absent.third),
     };
-    Taken::Whole { fields: fields, end: end }
+    Taken::Whole {
+        fields: fields,
+        end: end,
+    }
 }
 
 // The bit of a field in the map: 0 where its absence says it.
@@ -130,15 +135,15 @@ pub fn record_length(absent: Fields, fields: Fields) -> usize
 }
 
 // Writes a field at a place, unless its absence says it, and gives the place after it.
-fn put_field(bytes: &mut [u8], at: usize, absent: u16, value: u16) -> usize
-    requires { ⌜ at + length (fieldOf absent value) ≤ length (now bytes) ⌝ }
-    ensures { λ r. ⌜ Wrote (now (bytes .entry)) (now (bytes .exit)) at r (fieldOf absent value) ⌝ }
+fn put_field(bytes: &mut [u8], at: usize, absent: u16, number: u16) -> usize
+    requires { ⌜ at + length (fieldOf absent number) ≤ length (now bytes) ⌝ }
+    ensures { λ r. ⌜ Wrote (now (bytes .entry)) (now (bytes .exit)) at r (fieldOf absent number) ⌝ }
 {
-    if value == absent {
+    if number == absent {
         return at;
     }
-    bytes[at] = (value % 256) as u8;
-    bytes[at + 1] = (value / 256) as u8;
+    bytes[at] = (number % 256) as u8;
+    bytes[at + 1] = (number / 256) as u8;
     at + 2
 }
 

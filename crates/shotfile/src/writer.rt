@@ -1,11 +1,11 @@
 // Writing a shot file in its shortest form. Document 01, 'Shot file' and 'When a job is refused'.
-use job::Checked;
-use job::Refusal;
 use crate::record::Fields;
 use crate::record::first_absent;
 use crate::record::header_absent;
 use crate::record::put_record;
 use crate::record::record_length;
+use job::Checked;
+use job::Refusal;
 ghost use mathlib.Core.Path.{_≡_};
 ghost use mathlib.Core.List.{_++_};
 ghost use Prim.Native.Nat.{_≤_, _<_, _/_};
@@ -14,6 +14,7 @@ ghost use Rattle.shotfile.specs.Records.{firstAbsent};
 ghost use Rattle.shotfile.specs.Files.{coordsAt, shotRecords, fileOf};
 ghost use Rattle.shotfile.specs.Calls.{writeChecked, writeAnswer, writeBytes};
 
+// What `write` answers.
 pub enum WriteAnswer {
     // How many bytes the file has.
     Written { bytes: usize },
@@ -56,7 +57,11 @@ fn file_length(field: u16, edge: u16, grid: u16, coords: &[u16]) -> usize
     ensures { λ r. ⌜ r ≡ length (fileOf field edge grid (now (coords .entry))) ⌝ }
 {
     let absent = header_absent();
-    let settings = Fields { first: field, second: edge, third: grid };
+    let settings = Fields {
+        first: field,
+        second: edge,
+        third: grid,
+    };
     record_length(absent, settings) + shots_length(coords)
 }
 
@@ -66,7 +71,11 @@ fn put_file(bytes: &mut [u8], field: u16, edge: u16, grid: u16, coords: &[u16])
     ensures { λ _. ⌜ now (bytes .exit) ≡ fileOf field edge grid (now (coords .entry)) ++ drop (length (fileOf field edge grid (now (coords .entry)))) (now (bytes .entry)) ⌝ }
 {
     let absent = header_absent();
-    let settings = Fields { first: field, second: edge, third: grid };
+    let settings = Fields {
+        first: field,
+        second: edge,
+        third: grid,
+    };
     let mut at = put_record(bytes, 0, absent, settings);
     let n = coords.len() / 3;
     let mut previous = first_absent();

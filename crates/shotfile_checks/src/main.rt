@@ -1,5 +1,5 @@
-// Reads and writes shot files at the edges of the format and of each refusal, and prints each answer with the lent slice after it.
-// A slice is lent full of nines, so what keeps its value shows.
+// Reads and writes shot files at the edges of the format and of each refusal, and prints the lent slice before each call, its answer,
+// and the slice after it. The large slices of 4,096 shots are full of nines before; their last seven places are printed after.
 use job::Refusal;
 use shotfile::ReadAnswer;
 use shotfile::WriteAnswer;
@@ -7,6 +7,14 @@ use shotfile::WriteAnswer;
 fn print_number(n: u64) {
     io::write_all(1, b" ");
     io::print_decimal(1, n);
+}
+
+fn print_coord(value: u16) {
+    print_number(value as u64);
+}
+
+fn print_byte(value: u8) {
+    print_number(value as u64);
 }
 
 fn end_line() {
@@ -17,20 +25,18 @@ fn print_coords(coords: &[u16]) {
     io::write_all(1, b";");
     let mut i = 0;
     while i < coords.len() {
-        print_number(coords[i] as u64);
+        print_coord(coords[i]);
         i += 1;
     }
-    end_line();
 }
 
 fn print_bytes(bytes: &[u8]) {
     io::write_all(1, b";");
     let mut i = 0;
     while i < bytes.len() {
-        print_number(bytes[i] as u64);
+        print_byte(bytes[i]);
         i += 1;
     }
-    end_line();
 }
 
 fn print_refusal(refusal: Refusal) {
@@ -41,7 +47,12 @@ fn print_refusal(refusal: Refusal) {
 
 fn print_read(answer: ReadAnswer) {
     match answer {
-        ReadAnswer::Read { field, edge, grid, shots } => {
+        ReadAnswer::Read {
+            field,
+            edge,
+            grid,
+            shots,
+        } => {
             io::write_all(1, b" read");
             print_number(field as u64);
             print_number(edge as u64);
@@ -66,20 +77,24 @@ fn print_written(answer: WriteAnswer) {
     }
 }
 
-// Reads, and prints the answer and the coordinate slice.
+// Reads, and prints the coordinate slice, the answer, and the slice again.
 fn show_read(bytes: &[u8], coords: &mut [u16]) {
     io::write_all(1, b"read");
+    print_coords(coords);
     let answer = shotfile::read(bytes, coords);
     print_read(answer);
     print_coords(coords);
+    end_line();
 }
 
-// Writes, and prints the answer and the byte buffer.
+// Writes, and prints the byte buffer, the answer, and the buffer again.
 fn show_write(field: u16, edge: u16, grid: u16, coords: &[u16], bytes: &mut [u8]) {
     io::write_all(1, b"write");
+    print_bytes(bytes);
     let answer = shotfile::write(field, edge, grid, coords, bytes);
     print_written(answer);
     print_bytes(bytes);
+    end_line();
 }
 
 // Reads the first bytes of a file.
@@ -143,11 +158,13 @@ fn most_shots() {
     let taken = shotfile::read(&file[..4097], &mut coords);
     print_read(taken);
     print_coords(&coords[12284..]);
+    end_line();
     let mut lent = [9u16; 12291];
     io::write_all(1, b"read");
     let refused = shotfile::read(&file, &mut lent);
     print_read(refused);
     print_coords(&lent[12284..]);
+    end_line();
 }
 
 // The list of document 01, with one place to spare, exactly enough, and one too few; and defaults that are left out.

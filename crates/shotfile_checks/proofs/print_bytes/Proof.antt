@@ -1,59 +1,40 @@
+-- `print_bytes` goes through the slice once. Assumes nothing.
+use Prim.Native.Nat.{_≤_, _-_}
+use lib.ListN.{length}
 use borrow.Author.Needs.{needs}
 use Rattle.shotfile_checks.proofs.print_bytes.Statement.{statement}
 use Rattle.shotfile_checks.proofs.print_bytes.Tie as tie
-use Rattle.shotfile_checks.proofs.print_bytes.Reads as reads
-use Rattle.shotfile_checks.proofs.print_bytes.Lts as lts
-use Rattle.io.proofs.write_all.Reads as write-all-reads
-use Rattle.shotfile_checks.proofs.end_line.Reads as end-line-reads
-use Rattle.shotfile_checks.proofs.print_number.Reads as print-number-reads
 
 abbrev Inv-loop : tie.InvT-loop
-Inv-loop bytes i₀ i = ?
+Inv-loop bytes i₀ i = i ≤ length bytes
 
 abbrev μ-loop : tie.MeasureT-loop
-μ-loop bytes i₀ i = ?
+μ-loop bytes i₀ i = length bytes - i
 
--- src/main.rt:27:22
 slice-aggregate-write-all : tie.Need-slice-aggregate-write-all Inv-loop μ-loop
 slice-aggregate-write-all c = search needs
 
--- src/main.rt:27:5
 write-all-requires : tie.Need-write-all-requires Inv-loop μ-loop
 write-all-requires c κs = search needs
 
--- src/main.rt:29:5
 loop-holds : tie.Need-loop-holds Inv-loop μ-loop
 loop-holds c = search needs
 
--- src/main.rt:30:22
-shared-slice-read-print-number : tie.Need-shared-slice-read-print-number Inv-loop μ-loop
-shared-slice-read-print-number c = search needs
+shared-slice-read-print-byte : tie.Need-shared-slice-read-print-byte Inv-loop μ-loop
+shared-slice-read-print-byte c = search needs
 
--- src/main.rt:30:22
-cast-print-number : tie.Need-cast-print-number Inv-loop μ-loop
-cast-print-number c = search needs
+print-byte-requires : tie.Need-print-byte-requires Inv-loop μ-loop
+print-byte-requires c κs = search needs
 
--- src/main.rt:30:9
-print-number-requires : tie.Need-print-number-requires Inv-loop μ-loop
-print-number-requires c κs = search needs
-
--- src/main.rt:31:9
 add-i : tie.Need-add-i Inv-loop μ-loop
 add-i c = search needs
 
--- src/main.rt:29:5
 loop-less : tie.Need-loop-less Inv-loop μ-loop
 loop-less c = search needs
 
--- src/main.rt:29:5
 loop-again : tie.Need-loop-again Inv-loop μ-loop
 loop-again c = search needs
 
--- src/main.rt:33:5
-end-line-requires : tie.Need-end-line-requires Inv-loop μ-loop
-end-line-requires c κs = search needs
-
--- src/main.rt:26:1
 returns : tie.Need-returns Inv-loop μ-loop
 returns c = search needs
 
@@ -66,11 +47,9 @@ print-bytes-spec =
     slice-aggregate-write-all
     write-all-requires
     loop-holds
-    shared-slice-read-print-number
-    cast-print-number
-    print-number-requires
+    shared-slice-read-print-byte
+    print-byte-requires
     add-i
     loop-less
     loop-again
-    end-line-requires
     returns)

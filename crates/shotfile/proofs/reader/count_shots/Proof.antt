@@ -1,3 +1,4 @@
+-- `count_shots` counts the shots. The invariant: the count of all shots is n and that of the rest. Assumes nothing.
 use mathlib.Core.Path.{sym, _∙_}
 use Prim.Native.Nat.{_≤_, _-_, _*_}
 use native.Mathlib.Omega.{arith}
@@ -7,9 +8,6 @@ use Rattle.shotfile.proofs.Steps.{Counting, count-start, count-end, cou
 use borrow.Author.Needs.{needs}
 use Rattle.shotfile.proofs.reader.count_shots.Statement.{statement}
 use Rattle.shotfile.proofs.reader.count_shots.Tie as tie
-use Rattle.shotfile.proofs.reader.count_shots.Reads as reads
-use Rattle.shotfile.proofs.reader.count_shots.Lts as lts
-use Rattle.shotfile.proofs.reader.Cursor.step.Reads as step-reads
 
 abbrev Inv-loop : tie.InvT-loop
 Inv-loop bytes places c₀ n₀ c n = (n ≤ 4096) × (3 * n ≤ places) × Counting bytes places (countOf (shotsFrom 4096 places bytes c₀)) c n
@@ -17,63 +15,48 @@ Inv-loop bytes places c₀ n₀ c n = (n ≤ 4096) × (3 * n ≤ places) × Coun
 abbrev μ-loop : tie.MeasureT-loop
 μ-loop bytes places c₀ n₀ c n = 4096 - n
 
--- src/reader.rt:64:5
 loop-holds : tie.Need-loop-holds Inv-loop μ-loop
 loop-holds c = (omega arith, omega arith, count-start _ _ _)
 
--- src/reader.rt:67:13
 returns : tie.Need-returns Inv-loop μ-loop
 returns c = count-end _ _ _ _ (c .before .loop .inv .2) (c .if1 .taken)
 
--- src/reader.rt:70:13
 returns-2 : tie.Need-returns-2 Inv-loop μ-loop
 returns-2 c = count-many _ _ _ _ (c .before .before .loop .inv .2) (c .before .if1 .left) (c .if2 .taken)
 
--- src/reader.rt:72:21
 mul-if3 : tie.Need-mul-if3 Inv-loop μ-loop
 mul-if3 c = omega arith
 
--- src/reader.rt:72:12
 sub-if3 : tie.Need-sub-if3 Inv-loop μ-loop
 sub-if3 c = omega arith
 
--- src/reader.rt:73:13
 returns-3 : tie.Need-returns-3 Inv-loop μ-loop
 returns-3 c = count-full _ _ _ _ (c .before .before .before .loop .inv .2) (c .before .before .if1 .left) (omega arith) (c .if3 .taken)
 
--- src/reader.rt:75:15
 step-requires : tie.Need-step-requires Inv-loop μ-loop
 step-requires c κs = search needs
 
--- src/reader.rt:76:24
 enum-known-next : tie.Need-enum-known-next Inv-loop μ-loop
 enum-known-next c = c .match .keys1
 
--- src/reader.rt:78:17
 add-n : tie.Need-add-n Inv-loop μ-loop
 add-n c = omega arith
 
--- src/reader.rt:64:5
 loop-less : tie.Need-loop-less Inv-loop μ-loop
 loop-less c = omega arith
 
--- src/reader.rt:64:5
 loop-again : tie.Need-loop-again Inv-loop μ-loop
 loop-again c = (omega arith, omega arith, count-shot _ _ _ _ (c .before .before .before .before .before .before .before .loop .inv .2) (c .before .before .before .before .before .before .if1 .left) (omega arith) (c .before .before .before .before .if3 .left) (sym (c .before .next .given .1) ∙ c .before .before .before .step .ensures))
 
--- src/reader.rt:80:27
 enum-known-refusal : tie.Need-enum-known-refusal Inv-loop μ-loop
 enum-known-refusal c = c .match .keys2
 
--- src/reader.rt:81:17
 returns-4 : tie.Need-returns-4 Inv-loop μ-loop
 returns-4 c = count-stopped _ _ _ _ (c .before .before .before .before .before .before .before .loop .inv .2) (c .before .before .before .before .before .before .if1 .left) (omega arith) (c .before .before .before .before .if3 .left) (sym (c .before .refusal .given .1) ∙ c .before .before .before .step .ensures)
 
--- src/reader.rt:84:17
 enum-told : tie.Need-enum-told Inv-loop μ-loop
 enum-told c = c .match .keys3
 
--- src/reader.rt:84:17
 returns-5 : tie.Need-returns-5 Inv-loop μ-loop
 returns-5 c = count-ended _ _ _ _ (c .before .before .before .before .before .before .loop .inv .2) (c .before .before .before .before .before .if1 .left) (omega arith) (c .before .before .before .if3 .left) (sym (c .enum-told .given .1) ∙ c .before .before .step .ensures)
 

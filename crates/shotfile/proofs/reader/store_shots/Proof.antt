@@ -1,3 +1,4 @@
+-- `store_shots` stores the next n shots. The invariant: the first i shots are stored, and the cursor is at the next. Assumes nothing.
 use mathlib.Core.Path.{_≡_, refl, sym, _∙_}
 use Prim.Native.Nat.{_≤_, _-_, _*_}
 use native.Mathlib.Omega.{arith}
@@ -8,10 +9,6 @@ use Rattle.shotfile.proofs.Storing.{Left, left-all, left-done, left-sto
 use borrow.Author.Needs.{needs}
 use Rattle.shotfile.proofs.reader.store_shots.Statement.{statement}
 use Rattle.shotfile.proofs.reader.store_shots.Tie as tie
-use Rattle.shotfile.proofs.reader.store_shots.Reads as reads
-use Rattle.shotfile.proofs.reader.store_shots.Lts as lts
-use Rattle.shotfile.proofs.reader.Cursor.step.Reads as step-reads
-use Rattle.shotfile.proofs.reader.put_shot.Reads as put-shot-reads
 
 abbrev Inv-loop : tie.InvT-loop
 Inv-loop bytes coords₀ n c₀ i₀ coords c i = (i ≤ n) × (length coords ≡ length coords₀) × Filled (nextShots n bytes c₀) coords₀ coords (3 * i) × Left bytes (nextShots n bytes c₀) n c i
@@ -19,67 +16,51 @@ Inv-loop bytes coords₀ n c₀ i₀ coords c i = (i ≤ n) × (length coords �
 abbrev μ-loop : tie.MeasureT-loop
 μ-loop bytes coords₀ n c₀ i₀ coords c i = n - i
 
--- src/reader.rt:107:5
 loop-holds : tie.Need-loop-holds Inv-loop μ-loop
 loop-holds c = (omega arith, refl, fill-none _ _, left-all _ _ _)
 
--- src/reader.rt:108:15
 step-requires : tie.Need-step-requires Inv-loop μ-loop
 step-requires c κs = search needs
 
--- src/reader.rt:109:24
 enum-known-next : tie.Need-enum-known-next Inv-loop μ-loop
 enum-known-next c = c .match .keys1
 
--- src/reader.rt:111:34
 mul-put-shot : tie.Need-mul-put-shot Inv-loop μ-loop
 mul-put-shot c = omega arith
 
--- src/reader.rt:111:17
 put-shot-requires : tie.Need-put-shot-requires Inv-loop μ-loop
 put-shot-requires c κs = omega arith
 
--- src/reader.rt:115:17
 enum-told : tie.Need-enum-told Inv-loop μ-loop
 enum-told c = c .match .keys2
 
--- src/reader.rt:115:17
 same-length : tie.Need-same-length Inv-loop μ-loop
 same-length c = c .before .before .before .before .loop .inv .1
 
--- src/reader.rt:115:17
 returns : tie.Need-returns Inv-loop μ-loop
 returns c = filled-all (c .before .before .before .before .loop .inv .2) (left-stopped (c .before .before .before .before .loop .inv .3) (c .before .before .before .loop-test .taken) (sym (c .enum-told .given .1) ∙ c .before .before .step .ensures))
 
--- src/reader.rt:118:17
 enum-told-2 : tie.Need-enum-told-2 Inv-loop μ-loop
 enum-told-2 c = c .match .keys3
 
--- src/reader.rt:118:17
 same-length-2 : tie.Need-same-length-2 Inv-loop μ-loop
 same-length-2 c = c .before .before .before .before .loop .inv .1
 
--- src/reader.rt:118:17
 returns-2 : tie.Need-returns-2 Inv-loop μ-loop
 returns-2 c = filled-all (c .before .before .before .before .loop .inv .2) (left-ended (c .before .before .before .before .loop .inv .3) (c .before .before .before .loop-test .taken) (sym (c .enum-told2 .given .1) ∙ c .before .before .step .ensures))
 
--- src/reader.rt:121:9
 add-i : tie.Need-add-i Inv-loop μ-loop
 add-i c = omega arith
 
--- src/reader.rt:107:5
 loop-less : tie.Need-loop-less Inv-loop μ-loop
 loop-less c = omega arith
 
--- src/reader.rt:107:5
 loop-again : tie.Need-loop-again Inv-loop μ-loop
 loop-again c = (omega arith, c .before .before .put-shot .kept .0 ∙ c .before .before .before .before .before .before .before .before .before .before .loop .inv .1, store-more (c .before .before .before .before .before .before .before .before .before .before .loop .inv .3) (c .before .before .before .before .before .before .before .before .before .loop-test .taken) (sym (c .before .before .before .before .before .before .next .given .1) ∙ c .before .before .before .before .before .before .before .before .step .ensures) (c .before .before .before .before .before .before .before .before .before .before .loop .inv .2) (c .before .before .put-shot .ensures), left-more (c .before .before .before .before .before .before .before .before .before .before .loop .inv .3) (c .before .before .before .before .before .before .before .before .before .loop-test .taken) (sym (c .before .before .before .before .before .before .next .given .1) ∙ c .before .before .before .before .before .before .before .before .step .ensures) (c .before .before .before .before .before .before .before .before .before .before .loop .inv .2))
 
--- src/reader.rt:101:1
 same-length-3 : tie.Need-same-length-3 Inv-loop μ-loop
 same-length-3 c = c .before .loop .inv .1
 
--- src/reader.rt:101:1
 returns-3 : tie.Need-returns-3 Inv-loop μ-loop
 returns-3 c = filled-all (c .before .loop .inv .2) (left-done (c .before .loop .inv .3) (c .loop-test .left))
 

@@ -1,33 +1,25 @@
+-- A field is the number at its place or what its absence means. Assumes nothing.
 use mathlib.Core.Path.{_∙_}
 use Rattle.shotfile.proofs.Taking.{field-absent, field-there}
 use borrow.Author.Needs.{needs}
 use Rattle.shotfile.proofs.record.field.Statement.{statement}
 use Rattle.shotfile.proofs.record.field.Tie as tie
-use Rattle.shotfile.proofs.record.field.Reads as reads
-use Rattle.shotfile.proofs.record.field.Lts as lts
-use Rattle.shotfile.proofs.record.word.Reads as word-reads
 
--- src/record.rt:67:9
 returns : tie.Need-returns
 returns c = field-absent _ _ _ _ (c .if1 .taken)
 
--- src/record.rt:69:10
 shared-slice-read-word : tie.Need-shared-slice-read-word
 shared-slice-read-word c = search needs
 
--- src/record.rt:69:27
 add-word : tie.Need-add-word
 add-word c = search needs
 
--- src/record.rt:69:21
 shared-slice-read-word-2 : tie.Need-shared-slice-read-word-2
 shared-slice-read-word-2 c = search needs
 
--- src/record.rt:69:5
 word-requires : tie.Need-word-requires
 word-requires c κs = search needs
 
--- src/record.rt:62:1
 returns-2 : tie.Need-returns-2
 returns-2 c = c .word .ensures ∙ field-there _ _ _ _ (c .before .before .before .if1 .left)
 

@@ -1,12 +1,9 @@
+-- `header_absent` is the definition's constant. Assumes nothing.
 use mathlib.Core.Path.{refl}
 use Rattle.shotfile.specs.Records.{headerAbsent}
-use borrow.Author.Needs.{needs}
 use Rattle.shotfile.proofs.record.header_absent.Statement.{statement}
 use Rattle.shotfile.proofs.record.header_absent.Tie as tie
-use Rattle.shotfile.proofs.record.header_absent.Reads as reads
-use Rattle.shotfile.proofs.record.header_absent.Lts as lts
 
--- src/record.rt:28:1
 returns : tie.Need-returns
 unfolding headerAbsent
 returns c = refl

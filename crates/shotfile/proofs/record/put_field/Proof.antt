@@ -1,3 +1,4 @@
+-- `put_field` writes a field, or nothing. Assumes nothing.
 use mathlib.Core.Path.{ap}
 use native.Mathlib.Omega.{arith}
 use lib.ListN.{length, length-set}
@@ -5,42 +6,31 @@ use Rattle.shotfile.proofs.Putting.{field-some, put-absent, put-there}
 use borrow.Author.Needs.{needs}
 use Rattle.shotfile.proofs.record.put_field.Statement.{statement}
 use Rattle.shotfile.proofs.record.put_field.Tie as tie
-use Rattle.shotfile.proofs.record.put_field.Reads as reads
-use Rattle.shotfile.proofs.record.put_field.Lts as lts
 
--- src/record.rt:138:9
 returns : tie.Need-returns
 returns c = put-absent _ _ _ _ (c .if1 .taken) (c .before .pre)
 
--- src/record.rt:140:17
 cast-bytes : tie.Need-cast-bytes
 cast-bytes c = search needs
 
--- src/record.rt:140:5
 slice-write-bytes : tie.Need-slice-write-bytes
 slice-write-bytes c = omega (arith, ap length (field-some _ _ (c .if1 .left)))
 
--- src/record.rt:141:21
 cast-bytes-2 : tie.Need-cast-bytes-2
 cast-bytes-2 c = search needs
 
--- src/record.rt:141:11
 add-bytes : tie.Need-add-bytes
 add-bytes c = search needs
 
--- src/record.rt:141:5
 slice-write-bytes-2 : tie.Need-slice-write-bytes-2
 slice-write-bytes-2 c = simp length-set (omega (arith, ap length (field-some _ _ (c .if1 .left))))
 
--- src/record.rt:142:5
 add-result : tie.Need-add-result
 add-result c = search needs
 
--- src/record.rt:133:1
 same-length : tie.Need-same-length
 same-length c = simp length-set
 
--- src/record.rt:133:1
 returns-2 : tie.Need-returns-2
 returns-2 c = put-there _ _ _ _ (c .if1 .left) (c .before .pre)
 

@@ -1,33 +1,23 @@
+-- `put_record` writes the map and the three fields, one after the other. Assumes nothing.
 use Rattle.shotfile.proofs.Putting.{room-map, room-first, room-second, room-third, wrote-length, put-all}
-use borrow.Author.Needs.{needs}
 use Rattle.shotfile.proofs.record.put_record.Statement.{statement}
 use Rattle.shotfile.proofs.record.put_record.Tie as tie
-use Rattle.shotfile.proofs.record.put_record.Reads as reads
-use Rattle.shotfile.proofs.record.put_record.Lts as lts
-use Rattle.shotfile.proofs.record.put_field.Reads as put-field-reads
-use Rattle.shotfile.proofs.record.put_map.Reads as put-map-reads
 
--- src/record.rt:162:9
 put-map-requires : tie.Need-put-map-requires
 put-map-requires c κs = room-map (c .before .before .args .absent) (c .before .before .args .fields) (c .before .before .args .bytes .now) _ (c .before .before .pre)
 
--- src/record.rt:163:9
 put-field-requires : tie.Need-put-field-requires
 put-field-requires c κs = room-first (c .before .before .before .before .before .before .args .absent) (c .before .before .before .before .before .before .args .fields) _ (c .before .before .before .before .before .before .pre) (c .before .before .before .put-map .ensures)
 
--- src/record.rt:164:9
 put-field-requires-2 : tie.Need-put-field-requires-2
 put-field-requires-2 c κs = room-second (c .before .before .before .before .before .before .before .before .before .before .args .absent) (c .before .before .before .before .before .before .before .before .before .before .args .fields) _ (c .before .before .before .before .before .before .before .before .before .before .pre) (c .before .before .before .before .before .before .before .put-map .ensures) (c .before .before .before .put-field .ensures)
 
--- src/record.rt:165:5
 put-field-requires-3 : tie.Need-put-field-requires-3
 put-field-requires-3 c κs = room-third (c .before .before .before .before .before .before .before .before .before .before .before .before .before .before .args .absent) (c .before .before .before .before .before .before .before .before .before .before .before .before .before .before .args .fields) _ (c .before .before .before .before .before .before .before .before .before .before .before .before .before .before .pre) (c .before .before .before .before .before .before .before .before .before .before .before .put-map .ensures) (c .before .before .before .before .before .before .before .put-field .ensures) (c .before .before .before .put-field2 .ensures)
 
--- src/record.rt:158:1
 same-length : tie.Need-same-length
 same-length c = wrote-length (put-all (c .before .before .before .before .before .before .before .before .before .before .before .before .before .before .before .before .before .args .absent) (c .before .before .before .before .before .before .before .before .before .before .before .before .before .before .before .before .before .args .fields) _ (c .before .before .before .before .before .before .before .before .before .before .before .before .before .before .before .before .before .pre) (c .before .before .before .before .before .before .before .before .before .before .before .before .before .before .put-map .ensures) (c .before .before .before .before .before .before .before .before .before .before .put-field .ensures) (c .before .before .before .before .before .before .put-field2 .ensures) (c .before .before .put-field3 .ensures))
 
--- src/record.rt:158:1
 returns : tie.Need-returns
 returns c = put-all (c .before .before .before .before .before .before .before .before .before .before .before .before .before .before .before .before .before .args .absent) (c .before .before .before .before .before .before .before .before .before .before .before .before .before .before .before .before .before .args .fields) _ (c .before .before .before .before .before .before .before .before .before .before .before .before .before .before .before .before .before .pre) (c .before .before .before .before .before .before .before .before .before .before .before .before .before .before .put-map .ensures) (c .before .before .before .before .before .before .before .before .before .before .put-field .ensures) (c .before .before .before .before .before .before .put-field2 .ensures) (c .before .before .put-field3 .ensures)
 

@@ -1,85 +1,63 @@
+-- `take_record` answers `recordAt`: each way out is one law of `Taking`. Assumes nothing.
 use Rattle.shotfile.proofs.Taking.{no-map, unknown-bit, cut-short, taken-whole}
 use borrow.Author.Needs.{needs}
 use Rattle.shotfile.proofs.record.take_record.Statement.{statement}
 use Rattle.shotfile.proofs.record.take_record.Tie as tie
-use Rattle.shotfile.proofs.record.take_record.Reads as reads
-use Rattle.shotfile.proofs.record.take_record.Lts as lts
-use Rattle.shotfile.proofs.record.field.Reads as field-reads
-use Rattle.shotfile.proofs.record.wide.Reads as wide-reads
 
--- src/record.rt:77:9
 returns : tie.Need-returns
 returns c = no-map _ _ _ (c .if1 .taken)
 
--- src/record.rt:79:15
 shared-slice-read-map : tie.Need-shared-slice-read-map
 shared-slice-read-map c = search needs
 
--- src/record.rt:81:9
 returns-2 : tie.Need-returns-2
 returns-2 c = unknown-bit _ _ _ (c .before .before .if1 .left) (c .if2 .taken)
 
--- src/record.rt:83:9
 wide-requires : tie.Need-wide-requires
 wide-requires c κs = search needs
 
--- src/record.rt:84:9
 wide-requires-2 : tie.Need-wide-requires-2
 wide-requires-2 c κs = search needs
 
--- src/record.rt:85:9
 wide-requires-3 : tie.Need-wide-requires-3
 wide-requires-3 c κs = search needs
 
--- src/record.rt:86:18
 add-second : tie.Need-add-second
 add-second c = search needs
 
--- src/record.rt:86:27
 mul-second : tie.Need-mul-second
 mul-second c = search needs
 
--- src/record.rt:86:18
 add-second-2 : tie.Need-add-second-2
 add-second-2 c = search needs
 
--- src/record.rt:87:26
 mul-third : tie.Need-mul-third
 mul-third c = search needs
 
--- src/record.rt:87:17
 add-third : tie.Need-add-third
 add-third c = search needs
 
--- src/record.rt:88:23
 mul-end : tie.Need-mul-end
 mul-end c = search needs
 
--- src/record.rt:88:15
 add-end : tie.Need-add-end
 add-end c = search needs
 
--- src/record.rt:90:9
 returns-3 : tie.Need-returns-3
 returns-3 c = cut-short (c .before .before .before .before .before .before .before .before .args .bytes .now) _ (c .before .before .before .before .before .before .before .before .args .absent) (c .before .before .before .before .before .before .if1 .left) (c .before .before .before .before .if2 .left) (c .before .before .before .wide .ensures) (c .before .before .wide2 .ensures) (c .before .wide3 .ensures) (c .if3 .taken)
 
--- src/record.rt:93:29
 add-field : tie.Need-add-field
 add-field c = search needs
 
--- src/record.rt:93:16
 field-requires : tie.Need-field-requires
 field-requires c κs = search needs
 
--- src/record.rt:94:17
 field-requires-2 : tie.Need-field-requires-2
 field-requires-2 c κs = search needs
 
--- src/record.rt:95:16
 field-requires-3 : tie.Need-field-requires-3
 field-requires-3 c κs = search needs
 
--- src/record.rt:73:1
 returns-4 : tie.Need-returns-4
 returns-4 c = taken-whole (c .before .before .before .before .before .before .before .before .before .before .before .args .bytes .now) _ (c .before .before .before .before .before .before .before .before .before .before .before .args .absent) (c .before .before .before .before .before .before .before .before .before .if1 .left) (c .before .before .before .before .before .before .before .if2 .left) (c .before .before .before .before .before .before .wide .ensures) (c .before .before .before .before .before .wide2 .ensures) (c .before .before .before .before .wide3 .ensures) (c .before .before .before .if3 .left) (c .before .before .field .ensures) (c .before .field2 .ensures) (c .field3 .ensures)
 

@@ -1,3 +1,4 @@
+-- A file is its header and its shots. Assumes nothing.
 use native.Mathlib.Omega.{arith}
 use Rattle.shotfile.specs.Records.{firstAbsent}
 use Rattle.shotfile.proofs.Putting.{record-most}
@@ -5,29 +6,19 @@ use Rattle.shotfile.proofs.Writing.{records-most, file-size}
 use borrow.Author.Needs.{needs}
 use Rattle.shotfile.proofs.writer.file_length.Statement.{statement}
 use Rattle.shotfile.proofs.writer.file_length.Tie as tie
-use Rattle.shotfile.proofs.writer.file_length.Reads as reads
-use Rattle.shotfile.proofs.writer.file_length.Lts as lts
-use Rattle.shotfile.proofs.record.header_absent.Reads as header-absent-reads
-use Rattle.shotfile.proofs.record.record_length.Reads as record-length-reads
-use Rattle.shotfile.proofs.writer.shots_length.Reads as shots-length-reads
 
--- src/writer.rt:58:9
 header-absent-requires : tie.Need-header-absent-requires
 header-absent-requires c κs = search needs
 
--- src/writer.rt:60:5
 record-length-requires : tie.Need-record-length-requires
 record-length-requires c κs = search needs
 
--- src/writer.rt:60:39
 shots-length-requires : tie.Need-shots-length-requires
 shots-length-requires c κs = search needs
 
--- src/writer.rt:60:5
 add-result : tie.Need-add-result
 add-result c = omega (arith, record-most (c .before .before .header-absent .result) (record { first = c .before .before .before .before .args .field; second = c .before .before .before .before .args .edge; third = c .before .before .before .before .args .grid }), records-most firstAbsent (c .before .before .before .before .args .coords .now), c .before .record-length .ensures, c .shots-length .ensures, c .before .before .before .before .pre)
 
--- src/writer.rt:54:1
 returns : tie.Need-returns
 returns c = file-size _ _ _ _ (c .before .before .header-absent .ensures) (c .before .record-length .ensures) (c .shots-length .ensures)
 

@@ -1,3 +1,4 @@
+-- `put_file` writes the file. The invariant: the first records are written, and the rest is those of the shots ahead. Assumes nothing.
 use mathlib.Core.Path.{_≡_, refl, _∙_}
 use Prim.Native.Nat.{_≤_, _-_, _/_}
 use native.Mathlib.Omega.{arith}
@@ -8,12 +9,6 @@ use Rattle.shotfile.proofs.Writing.{Ahead, header-room, header-filled, 
 use borrow.Author.Needs.{needs}
 use Rattle.shotfile.proofs.writer.put_file.Statement.{statement}
 use Rattle.shotfile.proofs.writer.put_file.Tie as tie
-use Rattle.shotfile.proofs.writer.put_file.Reads as reads
-use Rattle.shotfile.proofs.writer.put_file.Lts as lts
-use Rattle.shotfile.proofs.record.first_absent.Reads as first-absent-reads
-use Rattle.shotfile.proofs.record.header_absent.Reads as header-absent-reads
-use Rattle.shotfile.proofs.record.put_record.Reads as put-record-reads
-use Rattle.shotfile.proofs.writer.shot_at.Reads as shot-at-reads
 
 abbrev Inv-loop : tie.InvT-loop
 Inv-loop bytes₀ field edge grid coords at₀ n previous₀ i₀ bytes at previous i = (i ≤ length coords / 3) × (length bytes ≡ length bytes₀) × (at₀ ≤ at) × Filled (fileOf field edge grid coords) bytes₀ bytes at × Ahead (fileOf field edge grid coords) coords previous i at
@@ -21,47 +16,36 @@ Inv-loop bytes₀ field edge grid coords at₀ n previous₀ i₀ bytes at previ
 abbrev μ-loop : tie.MeasureT-loop
 μ-loop bytes₀ field edge grid coords at₀ n previous₀ i₀ bytes at previous i = length coords / 3 - i
 
--- src/writer.rt:68:9
 header-absent-requires : tie.Need-header-absent-requires Inv-loop μ-loop
 header-absent-requires c κs = search needs
 
--- src/writer.rt:70:9
 put-record-requires : tie.Need-put-record-requires Inv-loop μ-loop
 put-record-requires c κs = header-room (c .before .before .before .before .args .field) (c .before .before .before .before .args .edge) (c .before .before .before .before .args .grid) (c .before .before .before .before .args .coords .now) (c .before .header-absent .ensures) (c .before .before .before .before .args .bytes .now) (c .before .before .before .before .pre)
 
--- src/writer.rt:72:9
 first-absent-requires : tie.Need-first-absent-requires Inv-loop μ-loop
 first-absent-requires c κs = search needs
 
--- src/writer.rt:74:5
 loop-holds : tie.Need-loop-holds Inv-loop μ-loop
 loop-holds c = (omega arith, refl, omega arith, filled-again (header-filled (c .before .before .before .before .before .before .before .before .args .field) (c .before .before .before .before .before .before .before .before .args .edge) (c .before .before .before .before .before .before .before .before .args .grid) (c .before .before .before .before .before .before .before .before .args .coords .now) (c .before .before .before .before .before .header-absent .ensures) (c .before .before .before .put-record .ensures)), header-ahead (c .before .before .before .before .before .before .before .before .args .field) (c .before .before .before .before .before .before .before .before .args .edge) (c .before .before .before .before .before .before .before .before .args .grid) (c .before .before .before .before .before .before .before .before .args .coords .now) (c .before .before .before .before .before .header-absent .ensures) (c .before .before .before .put-record .ensures) (c .first-absent .ensures))
 
--- src/writer.rt:75:13
 shot-at-requires : tie.Need-shot-at-requires Inv-loop μ-loop
 shot-at-requires c κs = c .loop-test .taken
 
--- src/writer.rt:76:9
 put-record-requires-2 : tie.Need-put-record-requires-2 Inv-loop μ-loop
 put-record-requires-2 c κs = ahead-room (c .before .before .before .loop .inv .4) (c .before .before .loop-test .taken) (c .before .shot-at .ensures) (c .before .before .before .loop .inv .3) (omega (arith, c .before .before .before .before .before .before .before .before .before .before .before .before .pre, c .before .before .before .before .before .before .before .put-record .kept .0)) (c .before .before .before .loop .inv .1)
 
--- src/writer.rt:78:9
 add-i : tie.Need-add-i Inv-loop μ-loop
 add-i c = omega arith
 
--- src/writer.rt:74:5
 loop-less : tie.Need-loop-less Inv-loop μ-loop
 loop-less c = omega arith
 
--- src/writer.rt:74:5
 loop-again : tie.Need-loop-again Inv-loop μ-loop
 loop-again c = (omega arith, c .before .before .put-record2 .kept .0 ∙ c .before .before .before .before .before .before .loop .inv .1, omega (arith, c .before .before .put-record2 .ensures .next-is), ahead-filled (c .before .before .before .before .before .before .loop .inv .4) (c .before .before .before .before .before .loop-test .taken) (c .before .before .before .before .shot-at .ensures) (c .before .before .before .before .before .before .loop .inv .3) (c .before .before .put-record2 .ensures), ahead-more (c .before .before .before .before .before .before .loop .inv .4) (c .before .before .before .before .before .loop-test .taken) (c .before .before .before .before .shot-at .ensures) (c .before .before .before .before .before .before .loop .inv .3) (c .before .before .put-record2 .ensures))
 
--- src/writer.rt:64:1
 same-length : tie.Need-same-length Inv-loop μ-loop
 same-length c = c .before .loop .inv .1 ∙ c .before .before .before .before .before .put-record .kept .0
 
--- src/writer.rt:64:1
 returns : tie.Need-returns Inv-loop μ-loop
 returns c = filled-all (filled-over (header-filled (c .before .before .before .before .before .before .before .before .before .before .args .field) (c .before .before .before .before .before .before .before .before .before .before .args .edge) (c .before .before .before .before .before .before .before .before .before .before .args .grid) (c .before .before .before .before .before .before .before .before .before .before .args .coords .now) (c .before .before .before .before .before .before .before .header-absent .ensures) (c .before .before .before .before .before .put-record .ensures)) (c .before .loop .inv .2) (c .before .loop .inv .3)) (ahead-none (c .before .loop .inv .4) (c .loop-test .left))
 

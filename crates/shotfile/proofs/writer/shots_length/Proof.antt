@@ -1,3 +1,4 @@
+-- `shots_length` adds up the records' lengths. The invariant: the sum so far and the rest make the whole. Assumes nothing.
 use Prim.Native.Nat.{_≤_, _-_, _/_}
 use native.Mathlib.Omega.{arith}
 use lib.ListN.{length}
@@ -8,11 +9,6 @@ use Rattle.shotfile.proofs.Writing.{Measured, measured-none, measured-m
 use borrow.Author.Needs.{needs}
 use Rattle.shotfile.proofs.writer.shots_length.Statement.{statement}
 use Rattle.shotfile.proofs.writer.shots_length.Tie as tie
-use Rattle.shotfile.proofs.writer.shots_length.Reads as reads
-use Rattle.shotfile.proofs.writer.shots_length.Lts as lts
-use Rattle.shotfile.proofs.record.first_absent.Reads as first-absent-reads
-use Rattle.shotfile.proofs.record.record_length.Reads as record-length-reads
-use Rattle.shotfile.proofs.writer.shot_at.Reads as shot-at-reads
 
 abbrev Inv-loop : tie.InvT-loop
 Inv-loop coords n previous₀ total₀ i₀ previous total i = (i ≤ length coords / 3) × Measured coords previous i total (length (shotRecords firstAbsent coords))
@@ -20,39 +16,30 @@ Inv-loop coords n previous₀ total₀ i₀ previous total i = (i ≤ length coo
 abbrev μ-loop : tie.MeasureT-loop
 μ-loop coords n previous₀ total₀ i₀ previous total i = length coords / 3 - i
 
--- src/writer.rt:41:9
 first-absent-requires : tie.Need-first-absent-requires Inv-loop μ-loop
 first-absent-requires c κs = search needs
 
--- src/writer.rt:44:5
 loop-holds : tie.Need-loop-holds Inv-loop μ-loop
 loop-holds c = (omega arith, measured-none _ (c .first-absent .ensures))
 
--- src/writer.rt:45:13
 shot-at-requires : tie.Need-shot-at-requires Inv-loop μ-loop
 shot-at-requires c κs = c .loop-test .taken
 
--- src/writer.rt:46:18
 record-length-requires : tie.Need-record-length-requires Inv-loop μ-loop
 record-length-requires c κs = search needs
 
--- src/writer.rt:46:9
 add-total : tie.Need-add-total Inv-loop μ-loop
 add-total c = omega (arith, c .before .before .before .loop .inv .1 .is, records-most firstAbsent (c .before .before .before .before .before .before .args .coords .now), record-most (c .before .before .before .loop .previous) (c .before .shot-at .result), c .record-length .ensures, c .before .before .before .before .before .before .pre)
 
--- src/writer.rt:48:9
 add-i : tie.Need-add-i Inv-loop μ-loop
 add-i c = omega arith
 
--- src/writer.rt:44:5
 loop-less : tie.Need-loop-less Inv-loop μ-loop
 loop-less c = omega arith
 
--- src/writer.rt:44:5
 loop-again : tie.Need-loop-again Inv-loop μ-loop
 loop-again c = (omega arith, measured-more (c .before .before .before .loop .inv .1) (c .before .before .loop-test .taken) (c .before .shot-at .ensures) (c .record-length .ensures))
 
--- src/writer.rt:36:1
 returns : tie.Need-returns Inv-loop μ-loop
 returns c = measured-all (c .before .loop .inv .1) (c .loop-test .left)
 

@@ -1,3 +1,4 @@
+-- `write` answers and leaves what the checks say: each way out is one law of `Writing`. Assumes nothing.
 use mathlib.Core.Path.{refl, sym, _∙_}
 use mathlib.Core.List.{[]}
 use native.Mathlib.Omega.{arith}
@@ -5,45 +6,31 @@ use Rattle.shotfile.proofs.Writing.{few-shots, write-refused, write-sho
 use borrow.Author.Needs.{needs}
 use Rattle.shotfile.proofs.writer.write.Statement.{statement}
 use Rattle.shotfile.proofs.writer.write.Tie as tie
-use Rattle.shotfile.proofs.writer.write.Reads as reads
-use Rattle.shotfile.proofs.writer.write.Lts as lts
-use Rattle.job.proofs.check.Reads as check-reads
-use Rattle.shotfile.proofs.writer.file_length.Reads as file-length-reads
-use Rattle.shotfile.proofs.writer.put_file.Reads as put-file-reads
 
--- src/writer.rt:87:11
 check-requires : tie.Need-check-requires
 check-requires c κs = search needs
 
--- src/writer.rt:88:26
 enum-known-refusal : tie.Need-enum-known-refusal
 enum-known-refusal c = c .match .keys1
 
--- src/writer.rt:90:17
 enum-told : tie.Need-enum-told
 enum-told c = c .match .keys2
 
--- src/writer.rt:90:17
 file-length-requires : tie.Need-file-length-requires
 file-length-requires c κs = few-shots (c .before .before .before .before .before .args .field) (c .before .before .before .before .before .args .edge) (c .before .before .before .before .before .args .grid) (c .before .before .before .before .before .args .coords .now) [] (sym (c .enum-told .given .1) ∙ c .before .before .check .ensures) refl
 
--- src/writer.rt:92:17
 returns : tie.Need-returns
 returns c = write-short _ _ _ _ _ (sym (c .before .before .enum-told .given .1) ∙ c .before .before .before .before .check .ensures) (c .before .file-length .ensures) (c .if1 .taken)
 
--- src/writer.rt:94:13
 put-file-requires : tie.Need-put-file-requires
 put-file-requires c κs = omega (arith, c .before .before .file-length .ensures, c .before .if1 .left)
 
--- src/writer.rt:83:1
 returns-2 : tie.Need-returns-2
 returns-2 c = write-refused _ _ _ _ _ (sym (c .before .refusal .given .1) ∙ c .before .before .before .check .ensures)
 
--- src/writer.rt:83:1
 same-length : tie.Need-same-length
 same-length c = c .before .before .put-file .kept .0
 
--- src/writer.rt:83:1
 returns-3 : tie.Need-returns-3
 returns-3 c = write-done _ _ _ _ _ (sym (c .before .before .before .before .before .before .enum-told .given .1) ∙ c .before .before .before .before .before .before .before .before .check .ensures) (c .before .before .before .before .before .file-length .ensures) (c .before .before .before .before .if1 .left) (c .before .before .put-file .ensures)
 

@@ -1,33 +1,25 @@
+-- `step` answers `stepAt`: the record at the cursor, or the end. Assumes nothing.
 use mathlib.Core.Path.{sym, _∙_}
 use Rattle.shotfile.proofs.Steps.{step-end, step-on}
 use borrow.Author.Needs.{needs}
 use Rattle.shotfile.proofs.reader.Cursor.step.Statement.{statement}
 use Rattle.shotfile.proofs.reader.Cursor.step.Tie as tie
-use Rattle.shotfile.proofs.reader.Cursor.step.Reads as reads
-use Rattle.shotfile.proofs.reader.Cursor.step.Lts as lts
-use Rattle.shotfile.proofs.record.take_record.Reads as take-record-reads
 
--- src/reader.rt:48:13
 returns : tie.Need-returns
 returns c = step-end _ _ (c .if1 .taken)
 
--- src/reader.rt:51:15
 take-record-requires : tie.Need-take-record-requires
 take-record-requires c κs = search needs
 
--- src/reader.rt:52:28
 enum-known-fields : tie.Need-enum-known-fields
 enum-known-fields c = c .match .keys1
 
--- src/reader.rt:53:28
 enum-known-refusal : tie.Need-enum-known-refusal
 enum-known-refusal c = c .match .keys2
 
--- src/reader.rt:43:5
 returns-2 : tie.Need-returns-2
 returns-2 c = step-on _ _ (c .before .before .before .before .before .if1 .left) _ (sym (c .before .fields .given .1) ∙ c .before .before .before .take-record .ensures)
 
--- src/reader.rt:43:5
 returns-3 : tie.Need-returns-3
 returns-3 c = step-on _ _ (c .before .before .before .before .before .if1 .left) _ (sym (c .before .refusal .given .1) ∙ c .before .before .before .take-record .ensures)
 
