@@ -1,1 +1,4 @@
 pub mod TallyLaws
+pub mod PointLaws
+pub mod SumLaws
+pub mod FieldLaws

@@ -63,7 +63,13 @@ bit-most true = omega arith
 bit-most false = omega arith
 
 square-most : (q : Bool → Bool) → square q ≤ 1
-square-most q = bit-most _
+square-most q = one (q false) (q true) refl refl
+  where
+    one : (a b : Bool) → q false ≡ a → q true ≡ b → square q ≤ 1
+    one true true e f = rw (e, f) (omega arith)
+    one true false e f = rw (e, f) (omega arith)
+    one false true e f = rw (e, f) (omega arith)
+    one false false e f = rw (e, f) (omega arith)
 
 pub pattern-most : (p : Pattern) → AtMost 6 (atPattern p)
 unfolding atPattern

@@ -1,7 +1,7 @@
 -- Counting point by point: each lattice point counts the cell, the three unit squares and the three unit edges above it, and itself if it is
 -- a corner. Over all points of a field every cell, square and edge is met once: the sums are the totals of document 01 (proofs/PointLaws).
-use mathlib.Core.Bool.{true, not}
-use Prim.Native.Nat.{ℕ, zero, suc, _+_, _*_, _≤_}
+use mathlib.Core.Bool.{Bool, true, false, not}
+use Prim.Native.Nat.{ℕ, zero, suc, _+_, _*_, _≤_, _<_}
 use lib.Dec.{eqb}
 use Rattle.lattice.specs.Cells.{Cells, bit, square, edge}
 use Rattle.lattice.specs.Pattern.{Pattern, around, corner}
@@ -45,6 +45,16 @@ planeTo s n m x = sumTo m λ y. lineTo s n x y
 
 abbrev pub fieldTo : Cells → ℕ → ℕ → ℕ → Totals
 fieldTo s n m l = sumTo l λ x. planeTo s n m x
+
+-- four cells as the low four bits of a byte
+abbrev pub fourBits : (Bool → Bool → Bool) → ℕ
+fourBits q = bit (q false false) + 2 * bit (q false true) + 4 * bit (q true false) + 8 * bit (q true true)
+
+-- interval g of G intervals of width s holds the lattice point x, ends included
+pub record InInterval (s G g x : ℕ) : Type 0 where
+  pub below : g < G
+  pub low : g * s ≤ x
+  pub high : x ≤ (g + 1) * s
 
 -- no figure is above k
 pub record AtMost (k : ℕ) (t : Totals) : Type 0 where
