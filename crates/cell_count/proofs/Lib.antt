@@ -2,3 +2,4 @@ pub mod TallyLaws
 pub mod PointLaws
 pub mod SumLaws
 pub mod FieldLaws
+pub mod AnswerLaws

@@ -69,19 +69,19 @@ module _ (F G x : ℕ) (grid : 1 ≤ G) (width : 1 ≤ F / G) (whole : G * (F / 
   pub last-holds : x ≡ F → InInterval (F / G) G (G - 1) x
   last-holds e =
       let g : G - 1 + 1 ≡ G = omega arith in
-      record
-        { below = omega arith
-        ; low = omega (arith, mul-le-mul-right {m = G - 1} {n = G} (F / G) (omega arith))
-        ; high = rw g (omega arith)
-        }
+      record {
+        below = omega arith;
+        low = omega (arith, mul-le-mul-right {m = G - 1} {n = G} (F / G) (omega arith));
+        high = rw g (omega arith);
+      }
 
   pub inner-holds : x ≤ F → (x ≡ F → ⊥) → InInterval (F / G) G (x / (F / G)) x
   inner-holds h k =
-      record
-        { below = div-lt-iff-lt-mul {k = F / G} {x = x} {y = G} width .1 (omega (arith, k))
-        ; low = div-mul-le-self x (F / G)
-        ; high = omega (arith, lt-div-mul-add {a = x} {b = F / G} width, add-mul (x / (F / G)) 1 (F / G), one-mul (F / G))
-        }
+      record {
+        below = div-lt-iff-lt-mul {k = F / G} {x = x} {y = G} width .1 (omega (arith, k));
+        low = div-mul-le-self x (F / G);
+        high = omega (arith, lt-div-mul-add {a = x} {b = F / G} width, add-mul (x / (F / G)) 1 (F / G), one-mul (F / G));
+      }
 
 -- ---- the point's pattern from the run of its grid cell
 

@@ -41,12 +41,12 @@ sum-most k f h zero = record { volume-in = omega (arith, zero-mul k); area-in = 
 sum-most k f h (suc n) =
     let b : AtMost (n * k) (sumTo n f) = sum-most k f h n in
     let c : AtMost k (f n) = h n in
-    record
-      { volume-in = omega (arith, suc-mul n k, b .volume-in, c .volume-in)
-      ; area-in = omega (arith, suc-mul n k, b .area-in, c .area-in)
-      ; edge-in = omega (arith, suc-mul n k, b .edge-in, c .edge-in)
-      ; corners-in = omega (arith, suc-mul n k, b .corners-in, c .corners-in)
-      }
+    record {
+      volume-in = omega (arith, suc-mul n k, b .volume-in, c .volume-in);
+      area-in = omega (arith, suc-mul n k, b .area-in, c .area-in);
+      edge-in = omega (arith, suc-mul n k, b .edge-in, c .edge-in);
+      corners-in = omega (arith, suc-mul n k, b .corners-in, c .corners-in);
+    }
 
 plus-most : (a b c : ℕ) (t u : Totals) → AtMost a t → AtMost b u → a + b ≤ c → AtMost c (plus t u)
 unfolding plus

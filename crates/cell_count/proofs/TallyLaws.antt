@@ -74,12 +74,12 @@ square-most q = one (q false) (q true) refl refl
 pub pattern-most : (p : Pattern) → AtMost 6 (atPattern p)
 unfolding atPattern
 pattern-most p =
-    record
-      { volume-in = omega (arith, bit-most (p true true true))
-      ; area-in = omega (arith, square-most (λ a. p a true true), square-most (λ b. p true b true), square-most (λ c. p true true c))
-      ; edge-in = omega (arith, edge-most (λ b c. p true b c), edge-most (λ a c. p a true c), edge-most (λ a b. p a b true))
-      ; corners-in = omega (arith, bit-most (corner p))
-      }
+    record {
+      volume-in = omega (arith, bit-most (p true true true));
+      area-in = omega (arith, square-most (λ a. p a true true), square-most (λ b. p true b true), square-most (λ c. p true true c));
+      edge-in = omega (arith, edge-most (λ b c. p true b c), edge-most (λ a c. p a true c), edge-most (λ a b. p a b true));
+      corners-in = omega (arith, bit-most (corner p));
+    }
 
 pub edges-are : (p : Pattern) {a b c : ℕ} → a ≡ edge (λ b c. p true b c) → b ≡ edge (λ a c. p a true c) → c ≡ edge (λ a b. p a b true) → a + b + c ≡ atPattern p .edge
 unfolding atPattern

@@ -9,9 +9,9 @@ ghost use Rattle.cell_count.specs.Recount.{recounted, workAfter};
 use crate::points::count_field;
 use grid::index::build;
 use grid::index::need;
-use job::check;
 use job::Checked;
 use job::Refusal;
+use job::check;
 use lattice::sums::Totals;
 
 // The figures of a list, or why there are none.

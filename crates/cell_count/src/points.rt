@@ -75,7 +75,17 @@ fn interval_at(field: u16, grid: u16, x: u16) -> u16
 }
 
 // The figures with those of the point (x, y, z).
-fn count_point(field: u16, edge: u16, grid: u16, coords: &[u16], work: &[u32], x: u16, y: u16, z: u16, t: Totals) -> Totals
+fn count_point(
+    field: u16,
+    edge: u16,
+    grid: u16,
+    coords: &[u16],
+    work: &[u32],
+    x: u16,
+    y: u16,
+    z: u16,
+    t: Totals,
+) -> Totals
     requires { ⌜ Valid field edge grid (now coords) ⌝ }
     requires { ⌜ Holds field edge grid (now coords) (now work) ⌝ }
     requires { ⌜ x ≤ field ⌝ }
@@ -94,7 +104,16 @@ fn count_point(field: u16, edge: u16, grid: u16, coords: &[u16], work: &[u32], x
 }
 
 // The figures with those of the line of points at (x, y).
-fn count_line(field: u16, edge: u16, grid: u16, coords: &[u16], work: &[u32], x: u16, y: u16, t: Totals) -> Totals
+fn count_line(
+    field: u16,
+    edge: u16,
+    grid: u16,
+    coords: &[u16],
+    work: &[u32],
+    x: u16,
+    y: u16,
+    t: Totals,
+) -> Totals
     requires { ⌜ Valid field edge grid (now coords) ⌝ }
     requires { ⌜ Holds field edge grid (now coords) (now work) ⌝ }
     requires { ⌜ x ≤ field ⌝ }
@@ -112,7 +131,15 @@ fn count_line(field: u16, edge: u16, grid: u16, coords: &[u16], work: &[u32], x:
 }
 
 // The figures with those of the plane of points at x.
-fn count_plane(field: u16, edge: u16, grid: u16, coords: &[u16], work: &[u32], x: u16, t: Totals) -> Totals
+fn count_plane(
+    field: u16,
+    edge: u16,
+    grid: u16,
+    coords: &[u16],
+    work: &[u32],
+    x: u16,
+    t: Totals,
+) -> Totals
     requires { ⌜ Valid field edge grid (now coords) ⌝ }
     requires { ⌜ Holds field edge grid (now coords) (now work) ⌝ }
     requires { ⌜ x ≤ field ⌝ }

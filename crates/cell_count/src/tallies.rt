@@ -5,9 +5,9 @@ ghost use Prim.Native.Nat.{_≤_};
 ghost use Rattle.lattice.specs.Cells.{square};
 ghost use Rattle.lattice.specs.Pattern.{ofByte};
 ghost use Rattle.cell_count.specs.Points.{atPattern, plus, AtMost, differs};
+use lattice::edges::UnitEdge;
 use lattice::edges::is_corner;
 use lattice::edges::unit_edge;
-use lattice::edges::UnitEdge;
 use lattice::sums::Totals;
 
 // A unit square counts if one of its two cells is covered: 1 where the two bits differ.
@@ -38,7 +38,9 @@ fn wide(count: u8) -> u64
 fn edges(p: u8) -> u64
     ensures { λ r. ⌜ r ≡ atPattern (ofByte p) .edge ⌝ }
 {
-    wide(unit_edge(p, UnitEdge::AboveX)) + wide(unit_edge(p, UnitEdge::AboveY)) + wide(unit_edge(p, UnitEdge::AboveZ))
+    wide(unit_edge(p, UnitEdge::AboveX))
+        + wide(unit_edge(p, UnitEdge::AboveY))
+        + wide(unit_edge(p, UnitEdge::AboveZ))
 }
 
 fn corners(p: u8) -> usize

@@ -55,10 +55,10 @@ module _ {A : Type 0} where
       pub fill-more : {then : List A} → then ≡ take n now ++ (xs ++ drop (n + length xs) now) → Filled all before then (n + length xs)
       fill-more {then} w =
           let t : take (n + length xs) all ≡ take n all ++ xs = take-add n (length xs) all ∙ ap (λ (l : List A). take n all ++ l) (ap (take (length xs)) e ∙ take-append-seam xs rest) in
-          record
-            { room = part-room
-            ; is = rw (w, t) (ap (λ (l : List A). take n l ++ (xs ++ drop (n + length xs) l)) (f .is) ∙ block (take n all) before xs n (length xs) (length-take-le n all (f .room)))
-            }
+          record {
+            room = part-room;
+            is = rw (w, t) (ap (λ (l : List A). take n l ++ (xs ++ drop (n + length xs) l)) (f .is) ∙ block (take n all) before xs n (length xs) (length-take-le n all (f .room)));
+          }
 
       pub rest-more : drop (n + length xs) all ≡ rest
       rest-more = rest-after

@@ -61,11 +61,11 @@ module _ (s : List ℕ) where
 
       one : Found s places c (c' .previous .first ∷ c' .previous .second ∷ c' .previous .third ∷ cs')
       one =
-          record
-            { next = rw (← more) found-next
-            ; room = omega (arith, after .room)
-            ; threes = omega (arith, after .threes)
-            }
+          record {
+            next = rw (← more) found-next;
+            room = omega (arith, after .room);
+            threes = omega (arith, after .threes);
+          }
 
   pub found : (left places : ℕ) (c : Cursor) {cs : List ℕ} → shotsFrom left places s c ≡ shots cs → Found s places c cs
   unfolding shotsFrom
@@ -140,6 +140,7 @@ module _ (s before : List ℕ) where
           → (Read (f .first) (f .second) (f .third) n ≡ readAnswer (fileIn (length before) s)) × (after ≡ readCoords (fileIn (length before) s) before)
       read-stored {n} {after} e w =
           let k = counted s (length before) (record { at = end; previous = p }) e in
-          let is : fileIn (length before) s ≡ file f (k .coords) = headed (k .rest) in
-          (ap (Read (f .first) (f .second) (f .third)) (k .count) ∙ sym (ap readAnswer is)
-          , w ∙ (ap (λ (l : List ℕ). l ++ drop (length l) before) (k .next) ∙ sym (ap (λ (f : File). readCoords f before) is)))
+          let is : fileIn (length before) s ≡ file f (k .coords) = headed (k .rest) in (
+            ap (Read (f .first) (f .second) (f .third)) (k .count) ∙ sym (ap readAnswer is),
+            w ∙ (ap (λ (l : List ℕ). l ++ drop (length l) before) (k .next) ∙ sym (ap (λ (f : File). readCoords f before) is)),
+          )

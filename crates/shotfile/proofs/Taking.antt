@@ -42,13 +42,14 @@ module _ (s : List ℕ) (at : ℕ) (absent : Fields) where
           → Whole (record { first = x; second = y; third = z }) (at + 1 + 2 * b₁ + 2 * b₂ + 2 * b₃) ≡ recordAt s at absent
       unfolding recordAt fieldsAt
       taken-whole l hx hy hz =
-          simp
-          (lt-ltb at (length s) h
-          , lt-ltb (getD s at 0) 8 m
-          , le-leb (endAt (getD s at 0) at) (length s) (omega arith)
-          , hx
-          , hy
-          , hz
-          , e₁
-          , e₂
-          , e₃)
+          simp (
+            lt-ltb at (length s) h,
+            lt-ltb (getD s at 0) 8 m,
+            le-leb (endAt (getD s at 0) at) (length s) (omega arith),
+            hx,
+            hy,
+            hz,
+            e₁,
+            e₂,
+            e₃,
+          )

@@ -41,11 +41,11 @@ endAt m at = thirdAt m at + 2 * (m / 4)
 -- the numbers after the map m at a place
 unfoldable pub fieldsAt : List ℕ → ℕ → ℕ → Fields → Fields
 fieldsAt s m at absent =
-    record
-      { first = fieldAt s (at + 1) (m % 2) (absent .first)
-      ; second = fieldAt s (secondAt m at) (m / 2 % 2) (absent .second)
-      ; third = fieldAt s (thirdAt m at) (m / 4) (absent .third)
-      }
+    record {
+      first = fieldAt s (at + 1) (m % 2) (absent .first);
+      second = fieldAt s (secondAt m at) (m / 2 % 2) (absent .second);
+      third = fieldAt s (thirdAt m at) (m / 4) (absent .third);
+    }
 
 -- the record at a place: refusal 4 where another bit than the three stands, 5 where the file ends before its map or a field
 unfoldable pub recordAt : List ℕ → ℕ → Fields → Taken

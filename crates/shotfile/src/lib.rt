@@ -2,11 +2,11 @@
 // Document 01, 'Shot file' and 'When a job is refused'. `record` has one record, `reader` and `writer` the two calls;
 // `specs/` says what a file means and what the calls answer, `proofs/RoundTrip.antt` that reading and writing undo one another.
 // Stands on `job`, whose refusals and checks it uses.
-pub mod record;
 pub mod reader;
+pub mod record;
 //pub mod writer;
 
-pub use reader::read;
 pub use reader::ReadAnswer;
+pub use reader::read;
 //pub use writer::write;
 //pub use writer::WriteAnswer;

@@ -1,11 +1,11 @@
 // Reading a shot file: a cursor takes one record and goes on to the next from there; the file is checked whole before anything is stored.
 // Document 01, 'Shot file'.
-use job::Refusal;
 use crate::record::Fields;
 use crate::record::Taken;
 use crate::record::first_absent;
 use crate::record::header_absent;
 use crate::record::take_record;
+use job::Refusal;
 ghost use mathlib.Core.Path.{_≡_};
 ghost use mathlib.Core.List.{[], _∷_, _++_};
 ghost use Prim.Native.Nat.{_≤_, _+_, _*_};
@@ -34,7 +34,12 @@ pub enum Counted {
 
 pub enum ReadAnswer {
     // The settings, and how many shots were stored.
-    Read { field: u16, edge: u16, grid: u16, shots: usize },
+    Read {
+        field: u16,
+        edge: u16,
+        grid: u16,
+        shots: usize,
+    },
     Refused(Refusal),
 }
 
@@ -49,7 +54,10 @@ impl Cursor {
         }
         let previous = self.previous;
         match take_record(bytes, at, previous) {
-            Taken::Whole { fields, end } => Step::Shot(Cursor { at: end, previous: fields }),
+            Taken::Whole { fields, end } => Step::Shot(Cursor {
+                at: end,
+                previous: fields,
+            }),
             Taken::Refused(refusal) => Step::Refused(refusal),
         }
     }
@@ -131,11 +139,19 @@ pub fn read(bytes: &[u8], coords: &mut [u16]) -> ReadAnswer
     match take_record(bytes, 0, absent) {
         Taken::Whole { fields, end } => {
             let previous = first_absent();
-            let start = Cursor { at: end, previous: previous };
+            let start = Cursor {
+                at: end,
+                previous: previous,
+            };
             match count_shots(bytes, coords.len(), start) {
                 Counted::Shots(n) => {
                     store_shots(bytes, coords, start, n);
-                    ReadAnswer::Read { field: fields.first, edge: fields.second, grid: fields.third, shots: n }
+                    ReadAnswer::Read {
+                        field: fields.first,
+                        edge: fields.second,
+                        grid: fields.third,
+                        shots: n,
+                    }
                 }
                 Counted::Refused(refusal) => ReadAnswer::Refused(refusal),
             }

@@ -7,7 +7,9 @@ ghost use Rattle.shotfile.specs.Records.{fieldAt, recordAt, headerAbsent
 
 // What the header says where it leaves out the field side, the shot edge or the grid size.
 const FIELD: u16 = 1024;
+
 const EDGE: u16 = 16;
+
 const GRID: u16 = 8;
 
 // The three numbers of a record: F, E, G of the header, x, y, z of a shot.
@@ -94,5 +96,8 @@ pub fn take_record(bytes: &[u8], at: usize, absent: Fields) -> Taken
         second: field(bytes, second, b2, absent.second),
         third: field(bytes, third, b3, absent.third),
     };
-    Taken::Whole { fields: fields, end: end }
+    Taken::Whole {
+        fields: fields,
+        end: end,
+    }
 }

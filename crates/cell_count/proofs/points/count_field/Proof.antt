@@ -1,19 +1,16 @@
-use mathlib.Core.Path.{_∙_}
-use Rattle.job.proofs.Conditions.{valid-within}
-use Rattle.cell_count.proofs.FieldLaws.{field-totals}
-use mathlib.Core.Path.{_≡_}
+-- The planes passed are counted; over all points the counts are the totals.
+use mathlib.Core.Path.{_∙_, _≡_}
 use Prim.Native.Nat.{ℕ, _+_, _-_, _≤_}
 use native.Mathlib.Omega.{arith}
+use borrow.Author.Needs.{needs}
 use Rattle.lattice.specs.Shots.{cells}
 use Rattle.job.specs.Job.{shotsOf}
 use Rattle.cell_count.specs.Points.{planeTo, fieldTo}
+use Rattle.job.proofs.Conditions.{valid-within}
+use Rattle.cell_count.proofs.FieldLaws.{field-totals}
 use Rattle.cell_count.proofs.SumLaws.{whole-none, whole-turn, field-low}
-use borrow.Author.Needs.{needs}
 use Rattle.cell_count.proofs.points.count_field.Statement.{statement}
 use Rattle.cell_count.proofs.points.count_field.Tie as tie
-use Rattle.cell_count.proofs.points.count_field.Reads as reads
-use Rattle.cell_count.proofs.points.count_field.Lts as lts
-use Rattle.cell_count.proofs.points.count_plane.Reads as count-plane-reads
 
 abbrev Inv-loop : tie.InvT-loop
 Inv-loop field edge grid coords work sums₀ x₀ sums x = (x ≤ field + 1) × (sums ≡ fieldTo (cells (shotsOf edge coords)) (field + 1) (field + 1) x)
@@ -21,27 +18,21 @@ Inv-loop field edge grid coords work sums₀ x₀ sums x = (x ≤ field + 1) × 
 abbrev μ-loop : tie.MeasureT-loop
 μ-loop field edge grid coords work sums₀ x₀ sums x = field + 1 - x
 
--- src/points.rt:144:5
 loop-holds : tie.Need-loop-holds Inv-loop μ-loop
 loop-holds c = let a = c .before .before in (omega arith, whole-none (λ (x : ℕ). planeTo (cells (shotsOf (a .args .edge) (a .args .coords .now))) (a .args .field + 1) (a .args .field + 1) x))
 
--- src/points.rt:145:9
 count-plane-requires : tie.Need-count-plane-requires Inv-loop μ-loop
 count-plane-requires c κs = let a = c .before .before .before .before in (a .pre .0, (a .pre .1, (c .loop-test .taken, field-low (cells (shotsOf (a .args .edge) (a .args .coords .now))) (a .args .field + 1) (a .args .field + 1) (c .before .loop .x) (omega (arith, a .pre .0 .field-most)) (omega (arith, a .pre .0 .field-most)) (omega (arith, a .pre .0 .field-most)) (c .before .loop .inv .1))))
 
--- src/points.rt:146:9
 add-x : tie.Need-add-x Inv-loop μ-loop
 add-x c = search needs
 
--- src/points.rt:144:5
 loop-less : tie.Need-loop-less Inv-loop μ-loop
 loop-less c = search needs
 
--- src/points.rt:144:5
 loop-again : tie.Need-loop-again Inv-loop μ-loop
 loop-again c = let a = c .before .before .before .before .before in (omega arith, whole-turn (λ (x : ℕ). planeTo (cells (shotsOf (a .args .edge) (a .args .coords .now))) (a .args .field + 1) (a .args .field + 1) x) (c .before .before .loop .x) (c .before .before .loop .inv .1) (c .count-plane .ensures))
 
--- src/points.rt:132:1
 returns : tie.Need-returns Inv-loop μ-loop
 returns c = let a = c .before .before .before .before in let e : c .before .loop .x ≡ a .args .field + 1 = omega arith in (rw e at (c .before .loop .inv .1)) ∙ field-totals (a .args .field) (cells (shotsOf (a .args .edge) (a .args .coords .now))) (valid-within (a .pre .0))
 

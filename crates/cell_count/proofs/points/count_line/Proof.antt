@@ -1,17 +1,15 @@
+-- The points passed are counted.
 use mathlib.Core.Path.{_≡_}
 use Prim.Native.Nat.{ℕ, _+_, _-_, _≤_}
 use native.Mathlib.Omega.{arith}
+use borrow.Author.Needs.{needs}
 use Rattle.lattice.specs.Pattern.{around}
 use Rattle.lattice.specs.Shots.{cells}
 use Rattle.job.specs.Job.{shotsOf}
 use Rattle.cell_count.specs.Points.{atPattern, plus, lineTo}
 use Rattle.cell_count.proofs.SumLaws.{sums-none, sums-turn, line-low}
-use borrow.Author.Needs.{needs}
 use Rattle.cell_count.proofs.points.count_line.Statement.{statement}
 use Rattle.cell_count.proofs.points.count_line.Tie as tie
-use Rattle.cell_count.proofs.points.count_line.Reads as reads
-use Rattle.cell_count.proofs.points.count_line.Lts as lts
-use Rattle.cell_count.proofs.points.count_point.Reads as count-point-reads
 
 abbrev Inv-loop : tie.InvT-loop
 Inv-loop field edge grid coords work x y sums₀ z₀ sums z = (z ≤ field + 1) × (sums ≡ plus sums₀ (lineTo (cells (shotsOf edge coords)) z x y))
@@ -19,27 +17,21 @@ Inv-loop field edge grid coords work x y sums₀ z₀ sums z = (z ≤ field + 1)
 abbrev μ-loop : tie.MeasureT-loop
 μ-loop field edge grid coords work x y sums₀ z₀ sums z = field + 1 - z
 
--- src/points.rt:107:5
 loop-holds : tie.Need-loop-holds Inv-loop μ-loop
 loop-holds c = let a = c .before .before in (omega arith, sums-none (λ (z : ℕ). atPattern (around (cells (shotsOf (a .args .edge) (a .args .coords .now))) (a .args .x) (a .args .y) z)) (a .args .t))
 
--- src/points.rt:108:9
 count-point-requires : tie.Need-count-point-requires Inv-loop μ-loop
 count-point-requires c κs = let a = c .before .before .before .before in (a .pre .0, (a .pre .1 .0, (a .pre .1 .1 .0, (a .pre .1 .1 .1 .0, (c .loop-test .taken, line-low (cells (shotsOf (a .args .edge) (a .args .coords .now))) (c .before .loop .z) (a .args .x) (a .args .y) (omega (arith, a .pre .0 .field-most)) (a .args .t) (a .pre .1 .1 .1 .1) (c .before .loop .inv .1))))))
 
--- src/points.rt:109:9
 add-z : tie.Need-add-z Inv-loop μ-loop
 add-z c = search needs
 
--- src/points.rt:107:5
 loop-less : tie.Need-loop-less Inv-loop μ-loop
 loop-less c = search needs
 
--- src/points.rt:107:5
 loop-again : tie.Need-loop-again Inv-loop μ-loop
 loop-again c = let a = c .before .before .before .before .before in (omega arith, sums-turn (λ (z : ℕ). atPattern (around (cells (shotsOf (a .args .edge) (a .args .coords .now))) (a .args .x) (a .args .y) z)) (a .args .t) (c .before .before .loop .z) (c .before .before .loop .inv .1) (c .count-point .ensures))
 
--- src/points.rt:97:1
 returns : tie.Need-returns Inv-loop μ-loop
 returns c = let e : c .before .loop .z ≡ c .before .before .before .before .args .field + 1 = omega arith in rw e at (c .before .loop .inv .1)
 

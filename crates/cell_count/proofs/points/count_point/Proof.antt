@@ -1,77 +1,56 @@
+-- The run of a grid cell that holds the point covers the eight cells about it as the list does.
 use mathlib.Core.Path.{ap, _∙_}
 use native.Mathlib.Omega.{arith}
-use Rattle.lattice.specs.Pattern.{Pattern}
-use Rattle.grid.proofs.ShotLaws.{width-least, width-times}
-use Rattle.cell_count.specs.Points.{atPattern, plus}
-use Rattle.cell_count.proofs.PointLaws.{cell-small, cell-starts, point-pattern}
 use borrow.Author.Needs.{needs}
+use Rattle.lattice.specs.Pattern.{Pattern}
+use Rattle.cell_count.specs.Points.{atPattern, plus}
+use Rattle.grid.proofs.ShotLaws.{width-least, width-times}
+use Rattle.cell_count.proofs.PointLaws.{cell-small, cell-starts, point-pattern}
 use Rattle.cell_count.proofs.points.count_point.Statement.{statement}
 use Rattle.cell_count.proofs.points.count_point.Tie as tie
-use Rattle.cell_count.proofs.points.count_point.Reads as reads
-use Rattle.cell_count.proofs.points.count_point.Lts as lts
-use Rattle.cell_count.proofs.points.interval_at.Reads as interval-at-reads
-use Rattle.cell_count.proofs.points.pattern_at.Reads as pattern-at-reads
-use Rattle.cell_count.proofs.tallies.tally.Reads as tally-reads
-use Rattle.grid.proofs.intervals.cells_of.Reads as cells-of-reads
-use Rattle.grid.proofs.runs.run_of.Reads as run-of-reads
 
--- src/points.rt:87:14
 interval-at-requires : tie.Need-interval-at-requires
 interval-at-requires c κs = let a = c .before .before in (a .pre .0 .grid-least, (width-least (a .pre .0), (width-times (a .pre .0), a .pre .1 .1 .0)))
 
--- src/points.rt:87:14
 cast-gx : tie.Need-cast-gx
 cast-gx c = search needs
 
--- src/points.rt:88:14
 interval-at-requires-2 : tie.Need-interval-at-requires-2
 interval-at-requires-2 c κs = let a = c .before .before .before in (a .pre .0 .grid-least, (width-least (a .pre .0), (width-times (a .pre .0), a .pre .1 .1 .1 .0)))
 
--- src/points.rt:88:14
 cast-gy : tie.Need-cast-gy
 cast-gy c = search needs
 
--- src/points.rt:89:14
 interval-at-requires-3 : tie.Need-interval-at-requires-3
 interval-at-requires-3 c κs = let a = c .before .before .before .before in (a .pre .0 .grid-least, (width-least (a .pre .0), (width-times (a .pre .0), a .pre .1 .1 .1 .1 .0)))
 
--- src/points.rt:89:14
 cast-gz : tie.Need-cast-gz
 cast-gz c = search needs
 
--- src/points.rt:91:17
 mul-cell : tie.Need-mul-cell
 mul-cell c = let a = c .before .before .before .before .before in omega (arith, cell-small (a .args .field) (a .args .edge) (a .args .grid) (a .args .coords .now) (a .pre .0) (a .args .x) (a .args .y) (a .args .z) (c .before .before .interval-at .result) (c .before .interval-at2 .result) (c .interval-at3 .result) (c .before .before .interval-at .ensures) (c .before .interval-at2 .ensures) (c .interval-at3 .ensures) .0, cell-small (a .args .field) (a .args .edge) (a .args .grid) (a .args .coords .now) (a .pre .0) (a .args .x) (a .args .y) (a .args .z) (c .before .before .interval-at .result) (c .before .interval-at2 .result) (c .interval-at3 .result) (c .before .before .interval-at .ensures) (c .before .interval-at2 .ensures) (c .interval-at3 .ensures) .1)
 
--- src/points.rt:91:17
 add-cell : tie.Need-add-cell
 add-cell c = let a = c .before .before .before .before .before in omega (arith, cell-small (a .args .field) (a .args .edge) (a .args .grid) (a .args .coords .now) (a .pre .0) (a .args .x) (a .args .y) (a .args .z) (c .before .before .interval-at .result) (c .before .interval-at2 .result) (c .interval-at3 .result) (c .before .before .interval-at .ensures) (c .before .interval-at2 .ensures) (c .interval-at3 .ensures) .0, cell-small (a .args .field) (a .args .edge) (a .args .grid) (a .args .coords .now) (a .pre .0) (a .args .x) (a .args .y) (a .args .z) (c .before .before .interval-at .result) (c .before .interval-at2 .result) (c .interval-at3 .result) (c .before .before .interval-at .ensures) (c .before .interval-at2 .ensures) (c .interval-at3 .ensures) .1)
 
--- src/points.rt:91:16
 mul-cell-2 : tie.Need-mul-cell-2
 mul-cell-2 c = let a = c .before .before .before .before .before in omega (arith, cell-small (a .args .field) (a .args .edge) (a .args .grid) (a .args .coords .now) (a .pre .0) (a .args .x) (a .args .y) (a .args .z) (c .before .before .interval-at .result) (c .before .interval-at2 .result) (c .interval-at3 .result) (c .before .before .interval-at .ensures) (c .before .interval-at2 .ensures) (c .interval-at3 .ensures) .0, cell-small (a .args .field) (a .args .edge) (a .args .grid) (a .args .coords .now) (a .pre .0) (a .args .x) (a .args .y) (a .args .z) (c .before .before .interval-at .result) (c .before .interval-at2 .result) (c .interval-at3 .result) (c .before .before .interval-at .ensures) (c .before .interval-at2 .ensures) (c .interval-at3 .ensures) .1)
 
--- src/points.rt:91:16
 add-cell-2 : tie.Need-add-cell-2
 add-cell-2 c = let a = c .before .before .before .before .before in omega (arith, cell-small (a .args .field) (a .args .edge) (a .args .grid) (a .args .coords .now) (a .pre .0) (a .args .x) (a .args .y) (a .args .z) (c .before .before .interval-at .result) (c .before .interval-at2 .result) (c .interval-at3 .result) (c .before .before .interval-at .ensures) (c .before .interval-at2 .ensures) (c .interval-at3 .ensures) .0, cell-small (a .args .field) (a .args .edge) (a .args .grid) (a .args .coords .now) (a .pre .0) (a .args .x) (a .args .y) (a .args .z) (c .before .before .interval-at .result) (c .before .interval-at2 .result) (c .interval-at3 .result) (c .before .before .interval-at .ensures) (c .before .interval-at2 .ensures) (c .interval-at3 .ensures) .1)
 
--- src/points.rt:92:28
 cells-of-requires : tie.Need-cells-of-requires
 cells-of-requires c κs = search needs
 
--- src/points.rt:92:9
 run-of-requires : tie.Need-run-of-requires
 run-of-requires c κs = let a = c .before .before .before .before .before .before in cell-starts (a .args .field) (a .args .edge) (a .args .grid) (a .args .coords .now) (a .pre .0) (a .args .x) (a .args .y) (a .args .z) (c .before .before .before .interval-at .result) (c .before .before .interval-at2 .result) (c .before .interval-at3 .result) (c .before .before .before .interval-at .ensures) (c .before .before .interval-at2 .ensures) (c .before .interval-at3 .ensures) (a .args .work .now) (a .pre .1 .0) (c .cells-of .ensures)
 
--- src/points.rt:93:14
 pattern-at-requires : tie.Need-pattern-at-requires
 pattern-at-requires c κs = search needs
 
--- src/points.rt:93:5
 tally-requires : tie.Need-tally-requires
 tally-requires c κs = search needs
 
--- src/points.rt:78:1
 returns : tie.Need-returns
 returns c = let a = c .before .before .before .before .before .before .before .before .before in c .tally .ensures ∙ ap (λ (q : Pattern). plus (a .args .t) (atPattern q)) (point-pattern (a .args .field) (a .args .edge) (a .args .grid) (a .args .coords .now) (a .pre .0) (a .args .x) (a .args .y) (a .args .z) (c .before .before .before .before .before .before .interval-at .result) (c .before .before .before .before .before .interval-at2 .result) (c .before .before .before .before .interval-at3 .result) (c .before .before .before .before .before .before .interval-at .ensures) (c .before .before .before .before .before .interval-at2 .ensures) (c .before .before .before .before .interval-at3 .ensures) (a .args .work .now) (a .pre .1 .0) (c .before .before .before .cells-of .ensures) (c .before .before .run-of .result .now) (c .before .pattern-at .result) (c .before .before .run-of .ensures) (c .before .pattern-at .ensures))
 

@@ -1,33 +1,25 @@
+-- Four bits below and four above on x.
+use borrow.Author.Needs.{needs}
 use Rattle.grid.specs.Cover.{runCovers}
 use Rattle.cell_count.proofs.PointLaws.{byte-is}
-use borrow.Author.Needs.{needs}
 use Rattle.cell_count.proofs.points.pattern_at.Statement.{statement}
 use Rattle.cell_count.proofs.points.pattern_at.Tie as tie
-use Rattle.cell_count.proofs.points.pattern_at.Reads as reads
-use Rattle.cell_count.proofs.points.pattern_at.Lts as lts
-use Rattle.cell_count.proofs.points.four_ends.Reads as four-ends-reads
 
--- src/points.rt:58:9
 four-ends-requires : tie.Need-four-ends-requires
 four-ends-requires c κs = search needs
 
--- src/points.rt:59:45
 add-four-ends : tie.Need-add-four-ends
 add-four-ends c = search needs
 
--- src/points.rt:59:9
 four-ends-requires-2 : tie.Need-four-ends-requires-2
 four-ends-requires-2 c κs = search needs
 
--- src/points.rt:60:11
 mul-result : tie.Need-mul-result
 mul-result c = search needs
 
--- src/points.rt:60:5
 add-result : tie.Need-add-result
 add-result c = search needs
 
--- src/points.rt:52:1
 returns : tie.Need-returns
 returns c = let a = c .before .before .before .before in byte-is (runCovers (a .args .edge) (a .args .coords .now) (a .args .run .now)) (a .args .x) (a .args .y) (a .args .z) (c .before .four-ends .ensures .0) (c .four-ends2 .ensures .0)
 

@@ -1,21 +1,16 @@
+-- The corner test decides.
+use borrow.Author.Needs.{needs}
 use Rattle.lattice.specs.Pattern.{ofByte}
 use Rattle.cell_count.proofs.TallyLaws.{corner-is, no-corner-is}
-use borrow.Author.Needs.{needs}
 use Rattle.cell_count.proofs.tallies.corners.Statement.{statement}
 use Rattle.cell_count.proofs.tallies.corners.Tie as tie
-use Rattle.cell_count.proofs.tallies.corners.Reads as reads
-use Rattle.cell_count.proofs.tallies.corners.Lts as lts
-use Rattle.lattice.proofs.edges.is_corner.Reads as is-corner-reads
 
--- src/tallies.rt:47:8
 is-corner-requires : tie.Need-is-corner-requires
 is-corner-requires c κs = search needs
 
--- src/tallies.rt:48:9
 returns : tie.Need-returns
 returns c = corner-is (ofByte (c .before .before .args .p)) (c .before .is-corner .ensures) (c .if1 .taken)
 
--- src/tallies.rt:44:1
 returns-2 : tie.Need-returns-2
 returns-2 c = no-corner-is (ofByte (c .before .before .args .p)) (c .before .is-corner .ensures) (c .if1 .left)
 

@@ -1,47 +1,35 @@
+-- Each edge is one call of the unit-edge count.
 use mathlib.Core.Path.{_∙_}
+use borrow.Author.Needs.{needs}
 use Rattle.lattice.specs.Pattern.{ofByte}
 use Rattle.cell_count.proofs.TallyLaws.{edges-are}
-use borrow.Author.Needs.{needs}
 use Rattle.cell_count.proofs.tallies.edges.Statement.{statement}
 use Rattle.cell_count.proofs.tallies.edges.Tie as tie
-use Rattle.cell_count.proofs.tallies.edges.Reads as reads
-use Rattle.cell_count.proofs.tallies.edges.Lts as lts
-use Rattle.cell_count.proofs.tallies.wide.Reads as wide-reads
-use Rattle.lattice.proofs.edges.unit_edge.Reads as unit-edge-reads
 
--- src/tallies.rt:41:10
 unit-edge-requires : tie.Need-unit-edge-requires
 unit-edge-requires c κs = search needs
 
--- src/tallies.rt:41:5
 wide-requires : tie.Need-wide-requires
 wide-requires c κs = search needs
 
--- src/tallies.rt:41:49
 unit-edge-requires-2 : tie.Need-unit-edge-requires-2
 unit-edge-requires-2 c κs = search needs
 
--- src/tallies.rt:41:44
 wide-requires-2 : tie.Need-wide-requires-2
 wide-requires-2 c κs = search needs
 
--- src/tallies.rt:41:5
 add-result : tie.Need-add-result
 add-result c = search needs
 
--- src/tallies.rt:41:88
 unit-edge-requires-3 : tie.Need-unit-edge-requires-3
 unit-edge-requires-3 c κs = search needs
 
--- src/tallies.rt:41:83
 wide-requires-3 : tie.Need-wide-requires-3
 wide-requires-3 c κs = search needs
 
--- src/tallies.rt:41:5
 add-result-2 : tie.Need-add-result-2
 add-result-2 c = search needs
 
--- src/tallies.rt:38:1
 returns : tie.Need-returns
 returns c = edges-are (ofByte (c .before .before .before .before .before .before .args .p)) (c .before .before .before .before .wide .ensures ∙ c .before .before .before .before .before .unit-edge .ensures) (c .before .before .wide2 .ensures ∙ c .before .before .before .unit-edge2 .ensures) (c .wide3 .ensures ∙ c .before .unit-edge3 .ensures)
 

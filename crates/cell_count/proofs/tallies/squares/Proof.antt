@@ -1,34 +1,26 @@
+-- Each square is two bits of the byte.
 use Prim.Native.Nat.{_/_, _%_}
 use native.Mathlib.Omega.{arith}
-use Rattle.cell_count.proofs.TallyLaws.{differs-most, squares-are}
 use borrow.Author.Needs.{needs}
+use Rattle.cell_count.proofs.TallyLaws.{differs-most, squares-are}
 use Rattle.cell_count.proofs.tallies.squares.Statement.{statement}
 use Rattle.cell_count.proofs.tallies.squares.Tie as tie
-use Rattle.cell_count.proofs.tallies.squares.Reads as reads
-use Rattle.cell_count.proofs.tallies.squares.Lts as lts
-use Rattle.cell_count.proofs.tallies.square_of.Reads as square-of-reads
 
--- src/tallies.rt:28:5
 square-of-requires : tie.Need-square-of-requires
 square-of-requires c κs = search needs
 
--- src/tallies.rt:28:34
 square-of-requires-2 : tie.Need-square-of-requires-2
 square-of-requires-2 c κs = search needs
 
--- src/tallies.rt:28:5
 add-result : tie.Need-add-result
 add-result c = omega (arith, c .square-of2 .ensures, c .before .square-of .ensures, differs-most (c .before .before .args .p / 8 % 2) (c .before .before .args .p / 128), differs-most (c .before .before .args .p / 32 % 2) (c .before .before .args .p / 128))
 
--- src/tallies.rt:28:64
 square-of-requires-3 : tie.Need-square-of-requires-3
 square-of-requires-3 c κs = search needs
 
--- src/tallies.rt:28:5
 add-result-2 : tie.Need-add-result-2
 add-result-2 c = omega (arith, c .square-of3 .ensures, c .before .square-of2 .ensures, c .before .before .square-of .ensures, differs-most (c .before .before .before .args .p / 8 % 2) (c .before .before .before .args .p / 128), differs-most (c .before .before .before .args .p / 32 % 2) (c .before .before .before .args .p / 128), differs-most (c .before .before .before .args .p / 64 % 2) (c .before .before .before .args .p / 128))
 
--- src/tallies.rt:24:1
 returns : tie.Need-returns
 returns c = squares-are (c .before .before .before .args .p) (omega arith) (c .before .before .square-of .ensures) (c .before .square-of2 .ensures) (c .square-of3 .ensures)
 

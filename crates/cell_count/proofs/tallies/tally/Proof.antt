@@ -1,51 +1,37 @@
+-- Field by field; no point counts more than 6.
 use mathlib.Core.Path.{_∙_}
 use native.Mathlib.Omega.{arith}
+use borrow.Author.Needs.{needs}
 use Rattle.lattice.specs.Pattern.{ofByte}
 use Rattle.cell_count.specs.Points.{atPattern}
 use Rattle.cell_count.proofs.TallyLaws.{pattern-most, plus-is, cell-is}
-use borrow.Author.Needs.{needs}
 use Rattle.cell_count.proofs.tallies.tally.Statement.{statement}
 use Rattle.cell_count.proofs.tallies.tally.Tie as tie
-use Rattle.cell_count.proofs.tallies.tally.Reads as reads
-use Rattle.cell_count.proofs.tallies.tally.Lts as lts
-use Rattle.cell_count.proofs.tallies.corners.Reads as corners-reads
-use Rattle.cell_count.proofs.tallies.edges.Reads as edges-reads
-use Rattle.cell_count.proofs.tallies.squares.Reads as squares-reads
-use Rattle.cell_count.proofs.tallies.wide.Reads as wide-reads
 
--- src/tallies.rt:59:28
 wide-requires : tie.Need-wide-requires
 wide-requires c κs = search needs
 
--- src/tallies.rt:59:17
 add-t5 : tie.Need-add-t5
 add-t5 c = search needs
 
--- src/tallies.rt:60:24
 squares-requires : tie.Need-squares-requires
 squares-requires c κs = search needs
 
--- src/tallies.rt:60:15
 add-t7 : tie.Need-add-t7
 add-t7 c = omega (arith, pattern-most (ofByte (c .before .before .before .before .args .p)), c .before .squares .ensures)
 
--- src/tallies.rt:61:24
 edges-requires : tie.Need-edges-requires
 edges-requires c κs = search needs
 
--- src/tallies.rt:61:15
 add-t9 : tie.Need-add-t9
 add-t9 c = omega (arith, pattern-most (ofByte (c .before .before .before .before .before .before .args .p)), c .before .edges .ensures)
 
--- src/tallies.rt:62:30
 corners-requires : tie.Need-corners-requires
 corners-requires c κs = search needs
 
--- src/tallies.rt:62:18
 add-t11 : tie.Need-add-t11
 add-t11 c = omega (arith, pattern-most (ofByte (c .before .before .before .before .before .before .before .before .args .p)), c .before .corners .ensures)
 
--- src/tallies.rt:54:1
 returns : tie.Need-returns
 returns c = plus-is (c .before .before .before .before .before .before .before .before .args .t) (atPattern (ofByte (c .before .before .before .before .before .before .before .before .args .p))) (c .before .before .before .before .before .before .before .wide .ensures ∙ cell-is (c .before .before .before .before .before .before .before .before .args .p) (omega arith)) (c .before .before .before .before .before .squares .ensures) (c .before .before .before .edges .ensures) (c .before .corners .ensures)
 
