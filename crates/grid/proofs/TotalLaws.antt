@@ -24,7 +24,7 @@ unfolding total
 total-none zero = refl
 total-none (suc n) = omega (arith, total-none n)
 
-total-plus : (n : ℕ) (f g : ℕ → ℕ) → total n (λ i. f i + g i) ≡ total n f + total n g
+pub total-plus : (n : ℕ) (f g : ℕ → ℕ) → total n (λ i. f i + g i) ≡ total n f + total n g
 unfolding total
 total-plus zero f g = refl
 total-plus (suc n) f g = omega (arith, total-plus n f g)

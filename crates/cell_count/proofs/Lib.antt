@@ -1,0 +1,5 @@
+pub mod TallyLaws
+pub mod PointLaws
+pub mod SumLaws
+pub mod FieldLaws
+pub mod AnswerLaws

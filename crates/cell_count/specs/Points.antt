@@ -1,0 +1,64 @@
+-- Counting point by point: each lattice point counts the cell, the three unit squares and the three unit edges above it, and itself if it is
+-- a corner. Over all points of a field every cell, square and edge is met once: the sums are the totals of document 01 (proofs/PointLaws).
+use mathlib.Core.Bool.{Bool, true, false, not}
+use Prim.Native.Nat.{ℕ, zero, suc, _+_, _*_, _≤_, _<_}
+use lib.Dec.{eqb}
+use Rattle.lattice.specs.Cells.{Cells, bit, square, edge}
+use Rattle.lattice.specs.Pattern.{Pattern, around, corner}
+use Rattle.lattice.specs.declared.sums.Totals.{Totals}
+
+-- what a point of pattern p counts
+unfoldable pub atPattern : Pattern → Totals
+atPattern p = record {
+  volume = bit (p true true true);
+  area = square (λ a. p a true true) + square (λ b. p true b true) + square (λ c. p true true c);
+  edge = edge (λ b c. p true b c) + edge (λ a c. p a true c) + edge (λ a b. p a b true);
+  corners = bit (corner p);
+}
+
+-- a unit square by the bits of its two cells
+abbrev pub differs : ℕ → ℕ → ℕ
+differs low high = bit (not (eqb low high))
+
+abbrev pub nothing : Totals
+nothing = record { volume = 0; area = 0; edge = 0; corners = 0 }
+
+unfoldable pub plus : Totals → Totals → Totals
+plus t u = record {
+  volume = t .volume + u .volume;
+  area = t .area + u .area;
+  edge = t .edge + u .edge;
+  corners = t .corners + u .corners;
+}
+
+-- the sum over 0, 1, .. n - 1
+unfoldable pub sumTo : ℕ → (ℕ → Totals) → Totals
+sumTo zero f = nothing
+sumTo (suc n) f = plus (sumTo n f) (f n)
+
+-- the first n points of a line, the first m lines of a plane, the first l planes
+abbrev pub lineTo : Cells → ℕ → ℕ → ℕ → Totals
+lineTo s n x y = sumTo n λ z. atPattern (around s x y z)
+
+abbrev pub planeTo : Cells → ℕ → ℕ → ℕ → Totals
+planeTo s n m x = sumTo m λ y. lineTo s n x y
+
+abbrev pub fieldTo : Cells → ℕ → ℕ → ℕ → Totals
+fieldTo s n m l = sumTo l λ x. planeTo s n m x
+
+-- four cells as the low four bits of a byte
+abbrev pub fourBits : (Bool → Bool → Bool) → ℕ
+fourBits q = bit (q false false) + 2 * bit (q false true) + 4 * bit (q true false) + 8 * bit (q true true)
+
+-- interval g of G intervals of width s holds the lattice point x, ends included
+pub record InInterval (s G g x : ℕ) : Type 0 where
+  pub below : g < G
+  pub low : g * s ≤ x
+  pub high : x ≤ (g + 1) * s
+
+-- no figure is above k
+pub record AtMost (k : ℕ) (t : Totals) : Type 0 where
+  pub volume-in : t .volume ≤ k
+  pub area-in : t .area ≤ k
+  pub edge-in : t .edge ≤ k
+  pub corners-in : t .corners ≤ k
