@@ -64,7 +64,8 @@ fn line_if(
     line::line(c, e, x, y, run, faces, heads, links, u0, u1, t, buf)
 }
 
-// The lines of the plane x from 0 to the side of the field.
+// The lines of the plane x from 0 to the side of the field. The loop counts in the width of an index, and a line takes y in the width of
+// a coordinate: so the compiler compares y with the rows' ends in 16 bits, many at once.
 fn lines(
     c: &[u16],
     e: usize,
@@ -84,14 +85,15 @@ fn lines(
     let mut u0 = [0u16; 1026];
     let mut u1 = [0u16; 1026];
     let mut s = t;
-    let mut y: u16 = 0;
-    while y <= field {
+    let end = wide(field) + 1;
+    let mut y: usize = 0;
+    while y < end {
         s = line_if(
             c,
             e,
             x,
-            y,
-            row[y as usize],
+            y as u16,
+            row[y],
             run,
             faces,
             heads,
