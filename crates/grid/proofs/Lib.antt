@@ -11,3 +11,4 @@ pub mod CoverLaws
 pub mod CoverRuns
 pub mod TotalLaws
 pub mod NeedLaws
+pub mod Examples
