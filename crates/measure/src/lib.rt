@@ -60,7 +60,14 @@ fn store(field: u16, edge: u16, grid: u16, coords: &[u16], work: &[u32], buffer:
 }
 
 // Counts the corners of a valid list whose index stands in the work slice, and lists them where the buffer has room.
-fn list_corners(field: u16, edge: u16, grid: u16, coords: &[u16], work: &[u32], buffer: &mut [u8]) -> Measured
+fn list_corners(
+    field: u16,
+    edge: u16,
+    grid: u16,
+    coords: &[u16],
+    work: &[u32],
+    buffer: &mut [u8],
+) -> Measured
     requires { ⌜ Valid field edge grid (now coords) × Holds field edge grid (now coords) (now work) ⌝ }
     ensures answer { λ r. ⌜ r ≡ answerOf (andThen Accepted (shortListing field (solid edge (now (coords .entry))) (length (now (buffer .entry))))) field (solid edge (now (coords .entry))) ⌝ }
     ensures listing { λ _. ⌜ now (buffer .exit) ≡ onChecked (andThen Accepted (shortListing field (solid edge (now (coords .entry))) (length (now (buffer .entry))))) (now (buffer .entry)) (listing field (solid edge (now (coords .entry))) ++ drop (7 * cornerCount field (solid edge (now (coords .entry)))) (now (buffer .entry))) ⌝ }
@@ -89,7 +96,14 @@ pub fn measure(field: u16, edge: u16, grid: u16, coords: &[u16], work: &mut [u32
 
 // Measures a list and fills the front of the buffer with its corner listing. Refusals as in measuring, and then 11, which leaves the
 // finished index in the work slice and the buffer as lent.
-pub fn list(field: u16, edge: u16, grid: u16, coords: &[u16], work: &mut [u32], buffer: &mut [u8]) -> Measured
+pub fn list(
+    field: u16,
+    edge: u16,
+    grid: u16,
+    coords: &[u16],
+    work: &mut [u32],
+    buffer: &mut [u8],
+) -> Measured
     ensures answer { λ r. ⌜ r ≡ listAnswer field edge grid (now (coords .entry)) (length (now (work .entry))) (length (now (buffer .entry))) ⌝ }
     ensures index { λ _. ⌜ now (work .exit) ≡ workAfter field edge grid (now (coords .entry)) (now (work .entry)) ⌝ }
     ensures listing { λ _. ⌜ now (buffer .exit) ≡ listingAfter field edge grid (now (coords .entry)) (length (now (work .entry))) (now (buffer .entry)) ⌝ }

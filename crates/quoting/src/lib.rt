@@ -18,7 +18,14 @@ fn refuse(out: &mut [u8], refusal: Refusal) -> usize
 }
 
 // Measures a list, and puts what is printed for it to the front.
-fn quote_list(field: u16, edge: u16, grid: u16, coords: &[u16], work: &mut [u32], out: &mut [u8]) -> usize
+fn quote_list(
+    field: u16,
+    edge: u16,
+    grid: u16,
+    coords: &[u16],
+    work: &mut [u32],
+    out: &mut [u8],
+) -> usize
     requires { ⌜ 128 ≤ length (now out) ⌝ }
     ensures { λ r. ⌜ Wrote (now (out .entry)) (now (out .exit)) 0 r (answerText (measureAnswer field edge grid (now (coords .entry)) (length (now (work .entry))))) ⌝ }
 {
@@ -36,7 +43,12 @@ pub fn quote(bytes: &[u8], coords: &mut [u16], work: &mut [u32], out: &mut [u8])
 {
     let read = shotfile::reader::read(bytes, coords);
     match read {
-        ReadAnswer::Read { field, edge, grid, shots } => {
+        ReadAnswer::Read {
+            field,
+            edge,
+            grid,
+            shots,
+        } => {
             let n = 3 * shots;
             quote_list(field, edge, grid, &coords[..n], work, out)
         }
