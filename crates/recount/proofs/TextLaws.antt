@@ -1,0 +1,47 @@
+-- The text of a file, by what reading it and counting its list again answer.
+use mathlib.Core.Path.{_≡_, refl, sym, _∙_, ap, subst}
+use mathlib.Core.List.{List}
+use Prim.Native.Nat.{ℕ, _*_, _/_, _≤_}
+use native.Mathlib.Omega.{arith}
+use lib.ListN.{length, take}
+use Rattle.buffer.specs.Wrote.{Wrote}
+use Rattle.job.specs.declared.Refusal.{Refusal}
+use Rattle.shotfile.specs.Files.{File, file, refused, fileIn}
+use Rattle.shotfile.specs.Calls.{readAnswer, readCoords}
+use Rattle.shotfile.specs.declared.reader.ReadAnswer.{ReadAnswer}
+use Rattle.shotfile.specs.declared.reader.ReadAnswer.the-variants.{Read, Refused}
+use Rattle.shotfile.proofs.ShotsRead.{reads-threes, reads-room}
+use Rattle.shotfile.proofs.Shortest.{file-parts}
+use Rattle.shotfile.proofs.RoundTrip.{accepted-file}
+use Rattle.cell_count.specs.Recount.{recounted}
+use Rattle.recount.specs.Recounting.{refusalText, answerText, fileText, recountText}
+
+-- the same list, written otherwise
+pub wrote-as : {w w' : List ℕ} {at r : ℕ} {xs ys : List ℕ} → xs ≡ ys → Wrote w w' at r xs → Wrote w w' at r ys
+wrote-as {w} {w'} {at} {r} e h = subst (Wrote w w' at r) e h
+
+-- a file that is read has places for its shots
+pub file-room : (s : List ℕ) (places F E G n : ℕ) → readAnswer (fileIn places s) ≡ Read F E G n → 3 * n ≤ places
+file-room s places F E G n e = go (fileIn places s) refl e
+  where
+    go : (k : File) → fileIn places s ≡ k → readAnswer k ≡ Read F E G n → 3 * n ≤ places
+    go (refused r) q e = let z : _≡_ {A = ℕ} 0 1 = cc in absurd (omega arith)
+    go (file f cs) q e =
+        let m : length cs / 3 ≡ n = cc in
+        omega (arith, m, reads-threes (file-parts s places q .rest), reads-room (file-parts s places q .rest))
+
+pub refused-text : (s : List ℕ) (places : ℕ) (work : List ℕ) (r : Refusal) → readAnswer (fileIn places s) ≡ Refused r → refusalText r ≡ recountText s places work
+unfolding recountText
+refused-text s places work r e = go (fileIn places s) e
+  where
+    go : (k : File) → readAnswer k ≡ Refused r → refusalText r ≡ fileText k work
+    go (refused q) e = let p : q ≡ r = cc in ap refusalText (sym p)
+    go (file f cs) e = let z : _≡_ {A = ℕ} 0 1 = cc in absurd (omega arith)
+
+pub read-text : (s places work : List ℕ) (F E G n : ℕ) {after : List ℕ} → readAnswer (fileIn (length places) s) ≡ Read F E G n → after ≡ readCoords (fileIn (length places) s) places
+    → answerText (recounted F E G (take (3 * n) after) work) ≡ recountText s (length places) work
+unfolding recountText
+read-text s places work F E G n e k =
+    let a = accepted-file s places F E G n e in
+    ap (λ l. answerText (recounted F E G l work)) (ap (take (3 * n)) k ∙ a .stored)
+    ∙ ap (λ (f : File). fileText f work) (sym (a .is))

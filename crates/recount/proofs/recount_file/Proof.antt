@@ -1,0 +1,75 @@
+-- The file is read, and the list that it holds is counted again.
+use Prim.Native.Nat.{_*_, _≤_}
+use mathlib.Core.Path.{_≡_, sym, _∙_}
+use native.Mathlib.Omega.{arith}
+use lib.ListN.{length}
+use lib.Seq.{length-take-le}
+use Rattle.recount.proofs.TextLaws.{wrote-as, file-room, refused-text, read-text}
+use borrow.Author.Needs.{needs}
+use Rattle.recount.proofs.recount_file.Statement.{statement}
+use Rattle.recount.proofs.recount_file.Tie as tie
+
+read-requires : tie.Need-read-requires
+read-requires c κs = search needs
+
+enum-known-read : tie.Need-enum-known-read
+enum-known-read c = search needs
+
+mul-n : tie.Need-mul-n
+mul-n c = let s = c .before .before .before .before .before .before .before .before .before .before .before in omega (arith, file-room (s .args .bytes .now) (length (s .args .coords .now)) (c .before .read2 .given .0 .0) (c .before .read2 .given .0 .1 .0) (c .before .read2 .given .0 .1 .1 .0) (c .before .read2 .given .0 .1 .1 .1 .0) (sym (c .before .before .before .before .before .read .ensures .0) ∙ c .before .read2 .given .1))
+
+slice-reshare-prefix-recount-list : tie.Need-slice-reshare-prefix-recount-list
+slice-reshare-prefix-recount-list c = let s = c .before .before .before .before .before .before .before .before .before .before .before in omega (arith, file-room (s .args .bytes .now) (length (s .args .coords .now)) (c .before .read2 .given .0 .0) (c .before .read2 .given .0 .1 .0) (c .before .read2 .given .0 .1 .1 .0) (c .before .read2 .given .0 .1 .1 .1 .0) (sym (c .before .before .before .before .before .read .ensures .0) ∙ c .before .read2 .given .1), c .before .before .before .before .before .read .kept .1 .0)
+
+slice-aggregate-recount-list : tie.Need-slice-aggregate-recount-list
+slice-aggregate-recount-list c = let s = c .before .before .before .before .before .before .before .before .before .before .before .before in sym (length-take-le (3 * c .before .before .read2 .given .0 .1 .1 .1 .0) (c .before .before .before .before .before .before .read .last .1 .0) (omega (arith, file-room (s .args .bytes .now) (length (s .args .coords .now)) (c .before .before .read2 .given .0 .0) (c .before .before .read2 .given .0 .1 .0) (c .before .before .read2 .given .0 .1 .1 .0) (c .before .before .read2 .given .0 .1 .1 .1 .0) (sym (c .before .before .before .before .before .before .read .ensures .0) ∙ c .before .before .read2 .given .1), c .before .before .before .before .before .before .read .kept .1 .0)))
+
+recount-list-requires : tie.Need-recount-list-requires
+recount-list-requires c κs = search needs
+
+enum-known-read-2 : tie.Need-enum-known-read-2
+enum-known-read-2 c = search needs
+
+refuse-requires : tie.Need-refuse-requires
+refuse-requires c κs = search needs
+
+same-length : tie.Need-same-length
+same-length c = search needs
+
+same-length-2 : tie.Need-same-length-2
+same-length-2 c = search needs
+
+same-length-3 : tie.Need-same-length-3
+same-length-3 c = search needs
+
+returns : tie.Need-returns
+returns c = let s = c .before .before .before .before .before .before .before .before .before .before .before .before .before .before .before .before .before .before .before in wrote-as (read-text (s .args .bytes .now) (s .args .coords .now) (s .args .work .now) (c .before .before .before .before .before .before .before .before .before .read2 .given .0 .0) (c .before .before .before .before .before .before .before .before .before .read2 .given .0 .1 .0) (c .before .before .before .before .before .before .before .before .before .read2 .given .0 .1 .1 .0) (c .before .before .before .before .before .before .before .before .before .read2 .given .0 .1 .1 .1 .0) (sym (c .before .before .before .before .before .before .before .before .before .before .before .before .before .read .ensures .0) ∙ c .before .before .before .before .before .before .before .before .before .read2 .given .1) (c .before .before .before .before .before .before .before .before .before .before .before .before .before .read .ensures .1)) (c .before .before .before .before .recount-list .ensures)
+
+same-length-4 : tie.Need-same-length-4
+same-length-4 c = search needs
+
+same-length-5 : tie.Need-same-length-5
+same-length-5 c = search needs
+
+returns-2 : tie.Need-returns-2
+returns-2 c = let s = c .before .before .before .before .before .before .before .before .before .before .before .before .before .before .before in wrote-as (refused-text (s .args .bytes .now) (length (s .args .coords .now)) (s .args .work .now) (c .before .before .before .before .before .read3 .given .0 .0) (sym (c .before .before .before .before .before .before .before .before .before .read .ensures .0) ∙ c .before .before .before .before .before .read3 .given .1)) (c .before .before .refuse .ensures)
+
+pub recount-file-spec : {M : Type 1} → statement M
+recount-file-spec =
+    tie.close
+    (tie.spec
+    read-requires
+    enum-known-read
+    mul-n
+    slice-reshare-prefix-recount-list
+    slice-aggregate-recount-list
+    recount-list-requires
+    enum-known-read-2
+    refuse-requires
+    same-length
+    same-length-2
+    same-length-3
+    returns
+    same-length-4
+    same-length-5
+    returns-2)
