@@ -39,7 +39,18 @@ module _ {w w' : List ℕ} {at r : ℕ} {xs : List ℕ} (a : Wrote w w' at r xs)
         is = f ∙ simp append-assoc;
       }
 
+-- a list written right behind d
+pub wrote-behind : {w w' : List ℕ} {at r : ℕ} {xs : List ℕ} (d t : List ℕ) → length d ≡ at → w ≡ d ++ t → Wrote w w' at r xs → w' ≡ d ++ (xs ++ drop (length xs) t)
+wrote-behind {w} {w'} {at} {r} {xs} d t l e a =
+    let k : r ≡ length d + length xs = omega (arith, a .next) in
+    let f : take at w ≡ d = rw e (take-at d t at l) in
+    let g : drop r w ≡ drop (length xs) t = rw (k, e) (drop-append-add d t (length xs)) in
+    rw (a .is, f, g)
+
 -- a list written at the front is the part up to the place after it
 module _ {w w' : List ℕ} {r : ℕ} {xs : List ℕ} (a : Wrote w w' 0 r xs) where
   pub front-part : take r w' ≡ xs
   front-part = rw (a .is) (take-at xs (drop r w) r (omega (arith, a .next)))
+
+  pub front-count : r ≡ length (take r w')
+  front-count = omega (arith, ap length front-part, a .next)

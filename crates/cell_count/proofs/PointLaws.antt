@@ -12,10 +12,10 @@ use Rattle.lattice.specs.Shots.{cells}
 use Rattle.lattice.proofs.PatternLaws.{ofByte-byte}
 use Rattle.job.specs.Job.{shotsOf, Valid}
 use Rattle.grid.specs.Grid.{runOf, between, Starts, Holds}
-use Rattle.grid.specs.Cover.{runCovers}
+use Rattle.cover.specs.Cover.{runCovers}
 use Rattle.grid.proofs.CellLaws.{digits-below, square-most, cube-most}
 use Rattle.grid.proofs.ReadLaws.{holds-starts, holds-run}
-use Rattle.grid.proofs.CoverRuns.{OnInterval, run-around}
+use Rattle.cover.proofs.CoverRuns.{OnInterval, run-around}
 use Rattle.cell_count.specs.Points.{fourBits, InInterval}
 
 -- ---- the cell that ends at a point

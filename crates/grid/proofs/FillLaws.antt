@@ -6,7 +6,8 @@ use native.Mathlib.Nat.{add-zero, add-assoc, add-mul, one-mul, zero-mul}
 use native.Mathlib.Omega.{arith}
 use lib.ListN.{length, set}
 use Rattle.job.specs.Job.{Valid}
-use Rattle.grid.specs.Numbers.{upTo, keep, Wrote}
+use Rattle.buffer.specs.Wrote.{Wrote}
+use Rattle.grid.specs.Numbers.{upTo, keep}
 use Rattle.grid.specs.Grid.{meetsOn, shotCount, runOf, rowOf, slabOf}
 use Rattle.grid.specs.Filling.{Ready, Grew}
 use Rattle.grid.proofs.NumberLaws.{upTo-length, keep-length}

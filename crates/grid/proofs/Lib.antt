@@ -7,8 +7,6 @@ pub mod IndexLaws
 pub mod ReadLaws
 pub mod ShotLaws
 pub mod SlabLaws
-pub mod CoverLaws
-pub mod CoverRuns
 pub mod TotalLaws
 pub mod NeedLaws
 pub mod Examples

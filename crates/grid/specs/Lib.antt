@@ -1,4 +1,3 @@
 pub mod Numbers
 pub mod Grid
-pub mod Cover
 pub mod Filling

@@ -1,10 +1,9 @@
 -- Lists of numbers made piece by piece: the words of the grid's definitions.
-use mathlib.Core.Path.{_≡_}
 use mathlib.Core.Bool.{Bool, cond, _||_, false}
 use mathlib.Core.List.{List, [], _∷_, _++_}
-use Prim.Native.Nat.{ℕ, zero, suc, _+_, _≤_}
+use Prim.Native.Nat.{ℕ, zero, suc}
 use lib.Dec.{eqb}
-use lib.ListN.{length, getD, take, drop, set}
+use lib.ListN.{getD, set}
 
 -- 0, 1, .. n - 1
 unfoldable pub upTo : ℕ → List ℕ
@@ -33,9 +32,3 @@ marked row (a ∷ l) = marked (set row a 1) l
 
 abbrev pub isMarked : List ℕ → ℕ → Bool
 isMarked row a = eqb (getD row a 0) 1
-
--- w' is w with the list xs written from the place at on, and r is the place after it
-pub record Wrote (w w' : List ℕ) (at r : ℕ) (xs : List ℕ) : Type 0 where
-  pub next : r ≡ at + length xs
-  pub room : r ≤ length w
-  pub is : w' ≡ take at w ++ (xs ++ drop r w)

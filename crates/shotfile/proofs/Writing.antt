@@ -16,7 +16,7 @@ use Rattle.shotfile.specs.declared.writer.WriteAnswer.the-variants.{Writ
 use Rattle.shotfile.specs.Calls.{writeAnswer, writeBytes}
 use Rattle.shotfile.specs.Records.{headerAbsent, firstAbsent, recordOf}
 use Rattle.shotfile.specs.Files.{coordsAt, shotRecords, fileOf}
-use Rattle.shotfile.specs.Wrote.{Wrote}
+use Rattle.buffer.specs.Wrote.{Wrote}
 use Rattle.shotfile.proofs.Fill.{Filled, fill-none, fill-more, rest-more}
 use Rattle.shotfile.proofs.Putting.{record-most}
 
@@ -88,13 +88,13 @@ module _ (F E G : ℕ) (coords : List ℕ) where
 
     module _ {w w' : List ℕ} {r : ℕ} (t : Wrote w w' 0 r (recordOf absent (record { first = F; second = E; third = G }))) where
       at-is : r ≡ length (recordOf absent (record { first = F; second = E; third = G }))
-      at-is = omega (arith, t .next-is)
+      at-is = omega (arith, t .next)
 
       pub header-filled : Filled (fileOf F E G coords) w w' r
       header-filled =
           subst (Filled (fileOf F E G coords) w w') (sym at-is)
           (subst (λ (k : ℕ). Filled (fileOf F E G coords) w w' k) (omega arith)
-          (fill-more (fill-none (fileOf F E G coords) w) (recordOf absent (record { first = F; second = E; third = G })) (shotRecords firstAbsent coords) header-first (t .is ∙ rw (t .next-is))))
+          (fill-more (fill-none (fileOf F E G coords) w) (recordOf absent (record { first = F; second = E; third = G })) (shotRecords firstAbsent coords) header-first (t .is ∙ rw (t .next))))
 
       pub header-ahead : {p : Fields} → p ≡ firstAbsent → Ahead (fileOf F E G coords) coords p 0 r
       header-ahead e = record { is = rw (at-is, e, header-first) (drop-append-seam (recordOf absent (record { first = F; second = E; third = G })) (shotRecords firstAbsent coords)) }
@@ -113,10 +113,10 @@ module _ {all coords : List ℕ} {p : Fields} {i at : ℕ} (a : Ahead all coords
 
       module _ {then : List ℕ} {next : ℕ} (t : Wrote now then at next (recordOf p f)) where
         pub ahead-filled : Filled all before then next
-        ahead-filled = rw (t .next-is) (fill-more d (recordOf p f) (shotRecords f (drop (3 * (i + 1)) coords)) ahead-on (t .is ∙ rw (t .next-is)))
+        ahead-filled = rw (t .next) (fill-more d (recordOf p f) (shotRecords f (drop (3 * (i + 1)) coords)) ahead-on (t .is ∙ rw (t .next)))
 
         pub ahead-more : Ahead all coords f (i + 1) next
-        ahead-more = record { is = rw (t .next-is) (rest-more d (recordOf p f) (shotRecords f (drop (3 * (i + 1)) coords)) ahead-on) }
+        ahead-more = record { is = rw (t .next) (rest-more d (recordOf p f) (shotRecords f (drop (3 * (i + 1)) coords)) ahead-on) }
 
 -- the length of a file
 pub file-size : (F E G : ℕ) (coords : List ℕ) {absent : Fields} {a b : ℕ} → absent ≡ headerAbsent

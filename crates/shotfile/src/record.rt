@@ -5,7 +5,7 @@ ghost use mathlib.Core.List.{[], _∷_};
 ghost use Prim.Native.Nat.{_≤_, _<_, _+_, _*_};
 ghost use lib.ListN.{length};
 ghost use Rattle.shotfile.specs.Records.{fieldAt, recordAt, headerAbsent, firstAbsent, bitOf, fieldOf, mapOf, recordOf};
-ghost use Rattle.shotfile.specs.Wrote.{Wrote};
+ghost use Rattle.buffer.specs.Wrote.{Wrote};
 
 // What the header says where it leaves out the field side, the shot edge or the grid size.
 const FIELD: u16 = 1024;

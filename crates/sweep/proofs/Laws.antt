@@ -8,13 +8,12 @@ use native.Mathlib.Omega.{arith}
 use native.Mathlib.Nat.{mul-le-mul, le-refl, suc-mul}
 use native.Mathlib.Numerals.{add-one}
 use lib.Dec.{T, leb, leb→le, ltb, ltb→lt, eqb, eqb→eq, eqb-refl}
-use lib.ListN.{length, getD, take, drop, length-take}
-use lib.Seq.{take-at, length-take-le}
+use lib.ListN.{length, getD, take}
 use borrow.Author.Tests.{eqb-true, eqb-false}
-use Rattle.lattice.specs.Cells.{Cells, Within}
+use Rattle.lattice.specs.Cells.{Within}
 use Rattle.lattice.specs.Shots.{Shot, any, cells, InField}
-use Rattle.lattice.specs.Listing.{Corner, join, here, corners}
-use Rattle.lattice.specs.Pattern.{around, corner}
+use Rattle.lattice.specs.Listing.{join, here, corners}
+use Rattle.lattice.specs.Pattern.{corner}
 use Rattle.lattice.specs.CornerSums.{Room, sumsOf}
 use Rattle.lattice.specs.declared.sums.CornerSums.{CornerSums}
 use Rattle.lattice.proofs.CornerSumLaws.{room-more}
@@ -26,13 +25,15 @@ use Rattle.lattice.proofs.SameSolid.{join-nil, join-end, here-none}
 use Rattle.job.specs.Job.{Valid, shotsOf, shotAt}
 use Rattle.job.proofs.Shots.{stay-at, any-at, at-any}
 use Rattle.job.proofs.Conditions.{valid-within}
-use Rattle.grid.specs.Numbers.{has, Wrote}
+use Rattle.buffer.specs.Wrote.{Wrote}
+use Rattle.buffer.proofs.WroteLaws.{front-part}
+use Rattle.grid.specs.Numbers.{has}
 use Rattle.grid.specs.Grid.{slabOf, shotCount, touchesSlab, meets}
 use Rattle.grid.proofs.NumberLaws.{has-keep}
 use Rattle.grid.proofs.CellLaws.{slab-few}
 use Rattle.grid.proofs.ShotLaws.{width-times}
 use Rattle.grid.proofs.SlabLaws.{plane-meets, slab-has}
-use Rattle.rows.specs.Runs.{InList, InRun, runTo, shotsIn}
+use Rattle.rows.specs.Runs.{InRun, runTo, shotsIn}
 use Rattle.marks.specs.Marks.{MarkedMore, Marked}
 use Rattle.selection.specs.Selection.{wanted}
 use Rattle.tally.specs.Found.{Found, state, found}
@@ -233,13 +234,6 @@ module _ (F E G : ℕ) (coords : List ℕ) (v : Valid F E G coords) where
 pub next-is : (gx w : ℕ) → (gx + 1) * w ≡ gx * w + w
 next-is gx w = rw (add-one gx) (suc-mul gx w)
 
--- what the index's slab puts to the front
-pub front-is : {w w' : List ℕ} {n : ℕ} {xs : List ℕ} → Wrote w w' 0 n xs → take n w' ≡ xs
-front-is {w} {w'} {n} {xs} r = ap (take n) (r .is) ∙ take-at xs (drop n w) n (omega (arith, r .next))
-
-pub front-count : {w w' : List ℕ} {n : ℕ} {xs : List ℕ} → Wrote w w' 0 n xs → n ≡ length (take n w')
-front-count {w} {w'} {n} {xs} r = let e : n ≡ length xs = omega (arith, r .next) in e ∙ ap length (sym (front-is r))
-
 -- what the planes of a slab need
 module _ (F E G : ℕ) (coords : List ℕ) (v : Valid F E G coords) where
   pub record Ready (from end : ℕ) (row run : List ℕ) : Type 0 where
@@ -250,7 +244,7 @@ module _ (F E G : ℕ) (coords : List ℕ) (v : Valid F E G coords) where
 
   pub ready : (gx from end : ℕ) → InSlab F G gx from end → {row : List ℕ} → MarkedList E coords (length coords / 3) row
       → {w w' : List ℕ} {n : ℕ} → Wrote w w' 0 n (slabOf F E G coords gx) → Ready from end row (take n w')
-  ready gx from end s {row} m r = rw (front-is r) (record {
+  ready gx from end s {row} m r = rw (front-part r) (record {
     in-run = slab-in-run F E G coords v gx;
     few = slab-few F E G coords v gx;
     marked = marked-run E coords (slabOf F E G coords gx) row (length coords / 3) (slab-below F E G coords v gx) m;

@@ -1,5 +1,6 @@
 use native.Mathlib.Omega.{arith}
-use Rattle.sweep.proofs.Laws.{slab-skip, front-count, ready}
+use Rattle.buffer.proofs.WroteLaws.{front-count}
+use Rattle.sweep.proofs.Laws.{slab-skip, ready}
 use borrow.Author.Needs.{needs}
 use Rattle.sweep.proofs.slab.Statement.{statement}
 use Rattle.sweep.proofs.slab.Tie as tie

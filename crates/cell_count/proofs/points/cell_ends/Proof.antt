@@ -1,6 +1,6 @@
 -- No cell ends at 0; elsewhere the cover test decides.
 use borrow.Author.Needs.{needs}
-use Rattle.grid.specs.Cover.{runCovers}
+use Rattle.cover.specs.Cover.{runCovers}
 use Rattle.cell_count.proofs.PointLaws.{none-at-y, none-at-z, ends-covered, ends-bare}
 use Rattle.cell_count.proofs.points.cell_ends.Statement.{statement}
 use Rattle.cell_count.proofs.points.cell_ends.Tie as tie

@@ -1,7 +1,7 @@
 -- Four bits.
 use native.Mathlib.Omega.{arith}
 use borrow.Author.Needs.{needs}
-use Rattle.grid.specs.Cover.{runCovers}
+use Rattle.cover.specs.Cover.{runCovers}
 use Rattle.cell_count.proofs.PointLaws.{four-is}
 use Rattle.cell_count.proofs.points.four_ends.Statement.{statement}
 use Rattle.cell_count.proofs.points.four_ends.Tie as tie

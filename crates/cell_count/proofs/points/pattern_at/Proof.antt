@@ -1,6 +1,6 @@
 -- Four bits below and four above on x.
 use borrow.Author.Needs.{needs}
-use Rattle.grid.specs.Cover.{runCovers}
+use Rattle.cover.specs.Cover.{runCovers}
 use Rattle.cell_count.proofs.PointLaws.{byte-is}
 use Rattle.cell_count.proofs.points.pattern_at.Statement.{statement}
 use Rattle.cell_count.proofs.points.pattern_at.Tie as tie

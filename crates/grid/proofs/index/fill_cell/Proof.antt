@@ -2,7 +2,7 @@
 use mathlib.Core.Path.{_∙_}
 use lib.ListN.{length-set}
 use borrow.Author.Needs.{needs}
-use Rattle.grid.proofs.StoreLaws.{wrote-length}
+use Rattle.buffer.proofs.WroteLaws.{wrote-length}
 use Rattle.grid.proofs.index.fill_cell.Statement.{statement}
 use Rattle.grid.proofs.index.fill_cell.Tie as tie
 

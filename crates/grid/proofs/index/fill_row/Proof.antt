@@ -2,7 +2,7 @@
 use mathlib.Core.Path.{_∙_}
 use native.Mathlib.Omega.{arith}
 use borrow.Author.Needs.{needs}
-use Rattle.grid.proofs.StoreLaws.{front-part, front-count}
+use Rattle.buffer.proofs.WroteLaws.{front-part, front-count}
 use Rattle.grid.proofs.FillLaws.{line-below, line-number, row-room, row-is}
 use Rattle.grid.proofs.index.fill_row.Statement.{statement}
 use Rattle.grid.proofs.index.fill_row.Tie as tie

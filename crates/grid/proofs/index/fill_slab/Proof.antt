@@ -1,7 +1,7 @@
 -- The slab is all shots narrowed on x.
 use mathlib.Core.Path.{_∙_}
 use borrow.Author.Needs.{needs}
-use Rattle.grid.proofs.StoreLaws.{front-part, front-count}
+use Rattle.buffer.proofs.WroteLaws.{front-part, front-count}
 use Rattle.grid.proofs.FillLaws.{slab-room, slab-is}
 use Rattle.grid.proofs.index.fill_slab.Statement.{statement}
 use Rattle.grid.proofs.index.fill_slab.Tie as tie

@@ -4,9 +4,11 @@ use Prim.Native.Nat.{_≤_, _-_}
 use native.Mathlib.Omega.{arith}
 use lib.ListN.{length, take}
 use borrow.Author.Needs.{needs}
-use Rattle.grid.specs.Numbers.{keep, Wrote}
+use Rattle.buffer.specs.Wrote.{Wrote}
+use Rattle.grid.specs.Numbers.{keep}
 use Rattle.grid.specs.Grid.{meetsOn}
-use Rattle.grid.proofs.StoreLaws.{kept-none, kept-room, kept-turn, kept-all, wrote-length}
+use Rattle.buffer.proofs.WroteLaws.{wrote-length}
+use Rattle.grid.proofs.StoreLaws.{kept-none, kept-room, kept-turn, kept-all}
 use Rattle.grid.proofs.index.narrow.Statement.{statement}
 use Rattle.grid.proofs.index.narrow.Tie as tie
 

@@ -1,5 +1,6 @@
 -- `put_record` writes the map and the three fields, one after the other. Assumes nothing.
-use Rattle.shotfile.proofs.Putting.{room-map, room-first, room-second, room-third, wrote-length, put-all}
+use Rattle.buffer.proofs.WroteLaws.{wrote-length}
+use Rattle.shotfile.proofs.Putting.{room-map, room-first, room-second, room-third, put-all}
 use Rattle.shotfile.proofs.record.put_record.Statement.{statement}
 use Rattle.shotfile.proofs.record.put_record.Tie as tie
 

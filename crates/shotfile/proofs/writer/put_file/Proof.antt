@@ -41,7 +41,7 @@ loop-less : tie.Need-loop-less Inv-loop μ-loop
 loop-less c = omega arith
 
 loop-again : tie.Need-loop-again Inv-loop μ-loop
-loop-again c = (omega arith, c .before .before .put-record2 .kept .0 ∙ c .before .before .before .before .before .before .loop .inv .1, omega (arith, c .before .before .put-record2 .ensures .next-is), ahead-filled (c .before .before .before .before .before .before .loop .inv .4) (c .before .before .before .before .before .loop-test .taken) (c .before .before .before .before .shot-at .ensures) (c .before .before .before .before .before .before .loop .inv .3) (c .before .before .put-record2 .ensures), ahead-more (c .before .before .before .before .before .before .loop .inv .4) (c .before .before .before .before .before .loop-test .taken) (c .before .before .before .before .shot-at .ensures) (c .before .before .before .before .before .before .loop .inv .3) (c .before .before .put-record2 .ensures))
+loop-again c = (omega arith, c .before .before .put-record2 .kept .0 ∙ c .before .before .before .before .before .before .loop .inv .1, omega (arith, c .before .before .put-record2 .ensures .next), ahead-filled (c .before .before .before .before .before .before .loop .inv .4) (c .before .before .before .before .before .loop-test .taken) (c .before .before .before .before .shot-at .ensures) (c .before .before .before .before .before .before .loop .inv .3) (c .before .before .put-record2 .ensures), ahead-more (c .before .before .before .before .before .before .loop .inv .4) (c .before .before .before .before .before .loop-test .taken) (c .before .before .before .before .shot-at .ensures) (c .before .before .before .before .before .before .loop .inv .3) (c .before .before .put-record2 .ensures))
 
 same-length : tie.Need-same-length Inv-loop μ-loop
 same-length c = c .before .loop .inv .1 ∙ c .before .before .before .before .before .put-record .kept .0

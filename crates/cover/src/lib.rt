@@ -1,7 +1,9 @@
-// The cover test: whether a run covers a unit cell. Document 01, 'The grid index'.
+// The cover test: whether a run of shots covers a unit cell. Document 01, 'The grid index'. A run is any slice of numbers.
+// specs/Cover.antt says what it answers; proofs/CoverRuns.antt that the run of a grid cell covers what the list covers.
+// Stands on `grid`, whose runs it is asked about, and on `job` and `lattice`.
 ghost use mathlib.Core.Path.{_≡_};
 ghost use Rattle.lattice.specs.Shots.{spans};
-ghost use Rattle.grid.specs.Cover.{shotCovers, runCovers};
+ghost use Rattle.cover.specs.Cover.{shotCovers, runCovers};
 
 // Whether the edge of a shot from a coordinate on spans a cell of the axis.
 fn spans_cell(edge: u16, at: u16, cell: u16) -> bool

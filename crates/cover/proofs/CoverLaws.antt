@@ -9,8 +9,8 @@ use lib.Dec.{ltb}
 use lib.ListN.{length, getD, take, drop, take-append-drop, length-drop}
 use lib.Seq.{take-all, length-take-le}
 use borrow.Author.Tests.{le-ltb, lt-ltb, le-leb, lt-leb}
-use Rattle.lattice.specs.Shots.{spans, covers, cells}
-use Rattle.grid.specs.Cover.{shotCovers, first, found, firstCovering, runCovers}
+use Rattle.lattice.specs.Shots.{spans}
+use Rattle.cover.specs.Cover.{shotCovers, first, found, firstCovering, runCovers}
 
 -- ---- one shot
 

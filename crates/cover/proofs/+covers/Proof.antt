@@ -7,13 +7,13 @@ use lib.Seq.{length-take-le}
 use borrow.Author.Needs.{needs}
 use borrow.Fn.Kinds.{In}
 use borrow.Fn.PlainCycle.{Measures, is, falls, and}
-use Rattle.grid.proofs.CoverLaws.{run-none, run-one, run-first, run-second, first-less, second-less}
-use Rattle.grid.proofs.cover.+covers.{statement}
-use Rattle.grid.proofs.cover.+covers.Tie.{close}
-use Rattle.grid.proofs.cover.covers.Reads as covers
-use Rattle.grid.proofs.cover.covers.Kinds as covers-kinds
-use Rattle.grid.proofs.cover.+covers.Lts-covers as covers-lts
-use Rattle.grid.proofs.cover.shot_covers.Reads as shot-covers-reads
+use Rattle.cover.proofs.CoverLaws.{run-none, run-one, run-first, run-second, first-less, second-less}
+use Rattle.cover.proofs.+covers.{statement}
+use Rattle.cover.proofs.+covers.Tie.{close}
+use Rattle.cover.proofs.covers.Reads as covers
+use Rattle.cover.proofs.covers.Kinds as covers-kinds
+use Rattle.cover.proofs.+covers.Lts-covers as covers-lts
+use Rattle.cover.proofs.shot_covers.Reads as shot-covers-reads
 
 abbrev μ-covers : Measures 2 covers-kinds.ps ℕ
 μ-covers κs a = length (a .1 .1 .0 .now)
