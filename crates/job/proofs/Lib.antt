@@ -3,3 +3,4 @@ pub mod Shots
 pub mod Answers
 pub mod Outcome
 pub mod Conditions
+pub mod Later

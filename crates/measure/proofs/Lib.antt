@@ -1,3 +1,4 @@
 pub mod AnswerLaws
 pub mod AcceptedLaws
 pub mod Condition3
+pub mod Refused

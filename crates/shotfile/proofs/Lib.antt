@@ -10,3 +10,4 @@ pub mod ReadBack
 pub mod WriteBack
 pub mod Shortest
 pub mod RoundTrip
+pub mod Tight

@@ -10,7 +10,6 @@ use lib.Seq.{getD-append-seam, getD-append-add}
 use borrow.Author.Tests.{eqb-true, eqb-false}
 use Rattle.shotfile.specs.declared.record.Fields.{Fields}
 use Rattle.shotfile.specs.declared.record.Taken.the-variants.{Whole}
-use Rattle.shotfile.specs.declared.reader.Cursor.{Cursor}
 use Rattle.shotfile.specs.declared.reader.Step.the-variants.{Shot}
 use Rattle.shotfile.specs.Records.{headerAbsent, firstAbsent, fieldAt, recordAt, bitOf, fieldOf, mapOf, recordOf}
 use Rattle.shotfile.specs.Files.{stepAt, shots, withShot, onStep, shotsFrom, file, withSettings, firstShot, onHeader, fileIn, shotRecords, fileOf}
@@ -56,12 +55,51 @@ field-at {s} {at} pre post absent v e q h =
     field-read pre post absent v h
     ∙ (ap (λ (l : List ℕ). fieldAt l (length pre) (bitOf absent v) absent) (sym e) ∙ ap (λ (k : ℕ). fieldAt s k (bitOf absent v) absent) (sym q))
 
--- a record
-pub record-read : (pre post : List ℕ) (absent f : Fields) → SmallFields f → recordAt (pre ++ (recordOf absent f ++ post)) (length pre) absent ≡ Whole f (length pre + length (recordOf absent f))
+-- a record that stands at a place: its map's bits, its room, and its fields
+pub record Placed (s : List ℕ) (at : ℕ) (absent f : Fields) : Type 0 where
+  pub inside : at < length s
+  pub map-is : getD s at 0 ≡ mapOf absent f
+  pub room : at + length (recordOf absent f) ≤ length s
+  pub first-at : f .first ≡ fieldAt s (at + 1) (bitOf (absent .first) (f .first)) (absent .first)
+  pub second-at : f .second ≡ fieldAt s (at + 1 + 2 * bitOf (absent .first) (f .first)) (bitOf (absent .second) (f .second)) (absent .second)
+  pub third-at : f .third ≡ fieldAt s (at + 1 + 2 * bitOf (absent .first) (f .first) + 2 * bitOf (absent .second) (f .second)) (bitOf (absent .third) (f .third)) (absent .third)
+
+module _ (absent f : Fields) where
+  bits₁ : bitOf (absent .first) (f .first) ≤ 1
+  bits₁ = bit-small (absent .first) (f .first)
+
+  bits₂ : bitOf (absent .second) (f .second) ≤ 1
+  bits₂ = bit-small (absent .second) (f .second)
+
+  bits₃ : bitOf (absent .third) (f .third) ≤ 1
+  bits₃ = bit-small (absent .third) (f .third)
+
+  -- the three bits of a map
+  map-first : mapOf absent f % 2 ≡ bitOf (absent .first) (f .first)
+  map-first = omega (arith, bits₁, bits₂, bits₃)
+
+  map-second : mapOf absent f / 2 % 2 ≡ bitOf (absent .second) (f .second)
+  map-second = omega (arith, bits₁, bits₂, bits₃)
+
+  map-third : mapOf absent f / 4 ≡ bitOf (absent .third) (f .third)
+  map-third = omega (arith, bits₁, bits₂, bits₃)
+
+  map-small : mapOf absent f < 8
+  map-small = omega (arith, bits₁, bits₂, bits₃)
+
+  record-bits : length (recordOf absent f) ≡ 1 + 2 * bitOf (absent .first) (f .first) + 2 * bitOf (absent .second) (f .second) + 2 * bitOf (absent .third) (f .third)
+  record-bits = omega (arith, record-size absent f, field-size (absent .first) (f .first), field-size (absent .second) (f .second), field-size (absent .third) (f .third))
+
+pub placed : (pre post : List ℕ) (absent f : Fields) → SmallFields f → Placed (pre ++ (recordOf absent f ++ post)) (length pre) absent f
 unfolding recordOf
-record-read pre post absent f small =
-    sym (taken-whole s (length pre) absent inside (omega (arith, map-at, small₁, small₂, small₃)) (omega (arith, map-at, small₁, small₂, small₃)) (omega (arith, map-at, small₁, small₂, small₃)) (omega (arith, map-at, small₁, small₂, small₃)) (omega (arith, size, whole)) first second third)
-    ∙ ap (Whole f) (omega (arith, size))
+placed pre post absent f small = record {
+  inside = omega (arith, record-bits absent f, whole);
+  map-is = getD-append-seam pre m ((f₁ ++ (f₂ ++ f₃)) ++ post) 0;
+  room = omega (arith, whole);
+  first-at = field-at (pre ++ (m ∷ [])) (f₂ ++ (f₃ ++ post)) (absent .first) (f .first) parts₁ place₁ (small .first-small);
+  second-at = field-at ((pre ++ (m ∷ [])) ++ f₁) (f₃ ++ post) (absent .second) (f .second) parts₂ place₂ (small .second-small);
+  third-at = field-at (((pre ++ (m ∷ [])) ++ f₁) ++ f₂) post (absent .third) (f .third) parts₃ place₃ (small .third-small);
+}
   where
     m : ℕ
     m = mapOf absent f
@@ -78,26 +116,8 @@ record-read pre post absent f small =
     s : List ℕ
     s = pre ++ (recordOf absent f ++ post)
 
-    small₁ : bitOf (absent .first) (f .first) ≤ 1
-    small₁ = bit-small (absent .first) (f .first)
-
-    small₂ : bitOf (absent .second) (f .second) ≤ 1
-    small₂ = bit-small (absent .second) (f .second)
-
-    small₃ : bitOf (absent .third) (f .third) ≤ 1
-    small₃ = bit-small (absent .third) (f .third)
-
-    size : length (recordOf absent f) ≡ 1 + 2 * bitOf (absent .first) (f .first) + 2 * bitOf (absent .second) (f .second) + 2 * bitOf (absent .third) (f .third)
-    size = omega (arith, record-size absent f, field-size (absent .first) (f .first), field-size (absent .second) (f .second), field-size (absent .third) (f .third))
-
     whole : length s ≡ length pre + (length (recordOf absent f) + length post)
     whole = length-append pre (recordOf absent f ++ post) ∙ ap (λ (n : ℕ). length pre + n) (length-append (recordOf absent f) post)
-
-    inside : length pre < length s
-    inside = omega (arith, size, whole)
-
-    map-at : getD s (length pre) 0 ≡ m
-    map-at = getD-append-seam pre m ((f₁ ++ (f₂ ++ f₃)) ++ post) 0
 
     parts₁ : s ≡ (pre ++ (m ∷ [])) ++ (f₁ ++ (f₂ ++ (f₃ ++ post)))
     parts₁ = simp append-assoc
@@ -117,33 +137,41 @@ record-read pre post absent f small =
     place₃ : length pre + 1 + 2 * bitOf (absent .first) (f .first) + 2 * bitOf (absent .second) (f .second) ≡ length (((pre ++ (m ∷ [])) ++ f₁) ++ f₂)
     place₃ = omega (arith, place₂, length-append ((pre ++ (m ∷ [])) ++ f₁) f₂, field-size (absent .second) (f .second))
 
-    first : f .first ≡ fieldAt s (length pre + 1) (bitOf (absent .first) (f .first)) (absent .first)
-    first = field-at (pre ++ (m ∷ [])) (f₂ ++ (f₃ ++ post)) (absent .first) (f .first) parts₁ place₁ (small .first-small)
+module _ {s : List ℕ} {at : ℕ} {absent f : Fields} (p : Placed s at absent f) where
+  -- the bits of its map
+  pub placed-first : bitOf (absent .first) (f .first) ≡ getD s at 0 % 2
+  placed-first = sym (ap (λ (k : ℕ). k % 2) (p .map-is) ∙ map-first absent f)
 
-    second : f .second ≡ fieldAt s (length pre + 1 + 2 * bitOf (absent .first) (f .first)) (bitOf (absent .second) (f .second)) (absent .second)
-    second = field-at ((pre ++ (m ∷ [])) ++ f₁) (f₃ ++ post) (absent .second) (f .second) parts₂ place₂ (small .second-small)
+  pub placed-second : bitOf (absent .second) (f .second) ≡ getD s at 0 / 2 % 2
+  placed-second = sym (ap (λ (k : ℕ). k / 2 % 2) (p .map-is) ∙ map-second absent f)
 
-    third : f .third ≡ fieldAt s (length pre + 1 + 2 * bitOf (absent .first) (f .first) + 2 * bitOf (absent .second) (f .second)) (bitOf (absent .third) (f .third)) (absent .third)
-    third = field-at (((pre ++ (m ∷ [])) ++ f₁) ++ f₂) post (absent .third) (f .third) parts₃ place₃ (small .third-small)
+  pub placed-third : bitOf (absent .third) (f .third) ≡ getD s at 0 / 4
+  placed-third = sym (ap (λ (k : ℕ). k / 4) (p .map-is) ∙ map-third absent f)
+
+  -- it is read as the numbers that it says
+  pub placed-read : recordAt s at absent ≡ Whole f (at + length (recordOf absent f))
+  placed-read =
+      sym (taken-whole s at absent (p .inside) (omega (arith, p .map-is, map-small absent f)) placed-first placed-second placed-third (omega (arith, p .room, record-bits absent f)) (p .first-at) (p .second-at) (p .third-at))
+      ∙ ap (Whole f) (omega (arith, record-bits absent f))
 
 -- the shots of a file, after what stands before them
 module _ (s : List ℕ) where
+  at-shot : (pre rest : List ℕ) (p f : Fields) → s ≡ pre ++ (recordOf p f ++ rest) → length pre < length s
+  at-shot pre rest p f e = omega (arith, ap length e, length-append pre (recordOf p f ++ rest), length-append (recordOf p f) rest, record-size p f)
+
+  -- a shot's record is one step
+  pub one-step : (pre rest : List ℕ) (p f : Fields) → s ≡ pre ++ (recordOf p f ++ rest) → SmallFields f
+      → stepAt s (record { at = length pre; previous = p }) ≡ Shot (record { at = length (pre ++ recordOf p f); previous = f })
+  one-step pre rest p f e small = sym (step-on s (record { at = length pre; previous = p }) (at-shot pre rest p f e) (Whole f (length (pre ++ recordOf p f))) (sym taken))
+    where
+      taken : recordAt s (length pre) p ≡ Whole f (length (pre ++ recordOf p f))
+      taken = ap (λ (l : List ℕ). recordAt l (length pre) p) e ∙ (placed-read (placed pre rest p f small) ∙ ap (Whole f) (sym (length-append pre (recordOf p f))))
+
   one-shot : (left places : ℕ) (pre rest : List ℕ) (p f : Fields) → s ≡ pre ++ (recordOf p f ++ rest) → SmallFields f → 3 ≤ places
       → shotsFrom (suc left) places s (record { at = length pre; previous = p }) ≡ withShot f (shotsFrom left (places - 3) s (record { at = length (pre ++ recordOf p f); previous = f }))
   one-shot left places pre rest p f e small h =
-      shots-on s c inside left places h ∙ ap (λ t. onStep t (shotsFrom left (places - 3) s)) step
-    where
-      c : Cursor
-      c = record { at = length pre; previous = p }
-
-      inside : length pre < length s
-      inside = omega (arith, ap length e, length-append pre (recordOf p f ++ rest), length-append (recordOf p f) rest, record-size p f)
-
-      taken : recordAt s (length pre) p ≡ Whole f (length (pre ++ recordOf p f))
-      taken = ap (λ (l : List ℕ). recordAt l (length pre) p) e ∙ (record-read pre rest p f small ∙ ap (Whole f) (sym (length-append pre (recordOf p f))))
-
-      step : stepAt s c ≡ Shot (record { at = length (pre ++ recordOf p f); previous = f })
-      step = sym (step-on s c inside (Whole f (length (pre ++ recordOf p f))) (sym taken))
+      shots-on s (record { at = length pre; previous = p }) (at-shot pre rest p f e) left places h
+      ∙ ap (λ t. onStep t (shotsFrom left (places - 3) s)) (one-step pre rest p f e small)
 
   pub shots-read : (left places : ℕ) (pre : List ℕ) (p : Fields) (coords : List ℕ)
       → s ≡ pre ++ shotRecords p coords
@@ -177,7 +205,7 @@ file-read F E G coords places settings small t l r = ap (λ t. onHeader t (λ en
     s = fileOf F E G coords
 
     header : recordAt s 0 headerAbsent ≡ Whole f (length (recordOf headerAbsent f))
-    header = record-read [] (shotRecords firstAbsent coords) headerAbsent f settings ∙ ap (Whole f) (omega arith)
+    header = placed-read (placed [] (shotRecords firstAbsent coords) headerAbsent f settings) ∙ ap (Whole f) (omega arith)
 
     rest : shotsFrom 4096 places s (record { at = length (recordOf headerAbsent f); previous = firstAbsent }) ≡ shots coords
     rest = shots-read s 4096 places (recordOf headerAbsent f) firstAbsent coords refl t l r small

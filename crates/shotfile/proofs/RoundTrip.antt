@@ -1,12 +1,14 @@
 -- Reading and writing undo one another: what condition 2 asks of shot files. Assumes nothing.
 -- (a) A list that the writer accepts is read back from what it wrote, with its settings.
 -- (b) A file in its shortest form is written back, byte for byte, from what was read.
--- (c) The shortest form is shortest: no file with the same list and settings has fewer bytes.
--- Each is stated of the definitions, and (a) and (b) once more of the answers and the slices of the calls `write` and `read`.
-use mathlib.Core.Path.{_≡_, refl, sym, ap, _∙_}
+-- (c) What is written is in its shortest form, and no file with the same list and settings has fewer bytes.
+-- Each is stated of the definitions, and once more of the answers and the slices of the calls `write` and `read`.
+-- Refusal 12 of `write` is given if the list is accepted and the file longer than the buffer, and never otherwise.
+use mathlib.Core.Path.{_≡_, refl, sym, ap, subst, _∙_}
 use mathlib.Core.Bool.{Bool, true, false}
 use mathlib.Core.List.{List, [], _∷_, _++_}
-use Prim.Native.Nat.{ℕ, _*_, _/_, _%_, _≤_}
+use mathlib.Core.Logic.{_↔_, _⊎_}
+use Prim.Native.Nat.{ℕ, _*_, _/_, _%_, _≤_, _<_}
 use native.Mathlib.Omega.{arith}
 use lib.Dec.{T, ltb}
 use lib.ListN.{length, take, drop}
@@ -19,14 +21,16 @@ use Rattle.job.specs.declared.Checked.the-variants.{Accepted, Refused as Turned
 use Rattle.job.specs.Job.{shotsOf, Valid}
 use Rattle.job.specs.Checking.{checked, andThen}
 use Rattle.job.proofs.Conditions.{accepted-valid}
+use Rattle.job.proofs.Later.{then-short}
 use Rattle.lattice.specs.Shots.{AllInField}
 use Rattle.shotfile.specs.declared.record.Fields.{Fields}
 use Rattle.shotfile.specs.declared.reader.ReadAnswer.the-variants.{Read}
 use Rattle.shotfile.specs.declared.writer.WriteAnswer.the-variants.{Written, Refused as Unwritten}
 use Rattle.shotfile.specs.Files.{File, file, refused, fileIn, fileOf, shortest}
-use Rattle.shotfile.specs.Calls.{readAnswer, readCoords, onChecked, writeAnswer, writeBytes}
+use Rattle.shotfile.specs.Calls.{readAnswer, readCoords, onChecked, writeChecked, writeAnswer, writeBytes}
 use Rattle.shotfile.proofs.ShotsRead.{reads-threes}
-use Rattle.shotfile.proofs.ReadBack.{Small, file-read}
+use Rattle.shotfile.proofs.ReadBack.{Small, SmallFields, file-read}
+use Rattle.shotfile.proofs.Tight.{file-tight}
 use Rattle.shotfile.proofs.WriteBack.{Bytes}
 use Rattle.shotfile.proofs.Shortest.{file-parts, file-least, file-same}
 use Rattle.shotfile.proofs.Writing.{write-done}
@@ -42,12 +46,15 @@ small-coords F E (x ∷ []) h t a = absurd (omega arith)
 small-coords F E (x ∷ y ∷ []) h t a = absurd (omega arith)
 small-coords F E (x ∷ y ∷ z ∷ rest) h t a = (omega (arith, a .0 .x-in), (omega (arith, a .0 .y-in), (omega (arith, a .0 .z-in), small-coords F E rest h (omega arith) (a .1))))
 
+small-settings : {F E G : ℕ} {coords : List ℕ} → Valid F E G coords → SmallFields (settings F E G)
+small-settings v = record { first-small = omega (arith, v .field-most); second-small = omega (arith, v .field-most, v .edge-most); third-small = omega (arith, v .grid-most) }
+
 -- (a)
 pub read-written : (F E G : ℕ) (coords : List ℕ) (places : ℕ) → Valid F E G coords → length coords ≤ places
     → fileIn places (fileOf F E G coords) ≡ file (settings F E G) coords
 read-written F E G coords places v r =
     file-read F E G coords places
-    (record { first-small = omega (arith, v .field-most); second-small = omega (arith, v .field-most, v .edge-most); third-small = omega (arith, v .grid-most) })
+    (small-settings v)
     (small-coords F E coords (v .field-most) (v .threes) (v .inside))
     (v .threes)
     (v .few)
@@ -64,6 +71,9 @@ pub shortest-least : (s : List ℕ) (places : ℕ) (F E G : ℕ) (coords : List 
     → fileIn places s ≡ file (settings F E G) coords
     → length (fileOf F E G coords) ≤ length s
 shortest-least s places F E G coords e = file-least s places e
+
+pub written-shortest : (F E G : ℕ) (coords : List ℕ) → Valid F E G coords → T (shortest (fileOf F E G coords))
+written-shortest F E G coords v = subst T (sym (file-tight F E G coords (small-settings v) (small-coords F E coords (v .field-most) (v .threes) (v .inside)) (v .threes))) tt
 
 -- ---- of the calls
 -- a list that `write` accepts, with what it leaves
@@ -92,6 +102,21 @@ accepts F E G coords before {n} e = go (checked F E G coords) refl (ltb (length 
           leaves = sym (write-done F E G coords before (sym q) refl (ltb-false (length before) (length (fileOf F E G coords)) l) refl .1) ∙ ap (λ (k : ℕ). fileOf F E G coords ++ drop k before) m;
         }
 
+wrote-file : {F E G : ℕ} {coords before : List ℕ} {n : ℕ} → Accepts F E G coords before n → take n (writeBytes F E G coords before) ≡ fileOf F E G coords
+wrote-file {F} {E} {G} {coords} {before} {n} a = ap (take n) (a .leaves) ∙ take-at (fileOf F E G coords) (drop n before) n (sym (a .long))
+
+-- (c) where `write` answers that it wrote n bytes, they are in the shortest form
+pub write-wrote-shortest : (F E G : ℕ) (coords before : List ℕ) {n : ℕ} → writeAnswer F E G coords (length before) ≡ Written n → T (shortest (take n (writeBytes F E G coords before)))
+write-wrote-shortest F E G coords before e =
+    let a = accepts F E G coords before e in
+    subst (λ (s : List ℕ). T (shortest s)) (sym (wrote-file a)) (written-shortest F E G coords (a .valid))
+
+-- refusal 12
+pub write-refused : (F E G : ℕ) (coords : List ℕ) (room : ℕ) (r : Refusal)
+    → (writeChecked F E G coords room ≡ Turned r)
+    ↔ ((checked F E G coords ≡ Turned r) ⊎ ((checked F E G coords ≡ Accepted) × (room < length (fileOf F E G coords)) × (ShortFile (length (fileOf F E G coords)) ≡ r)))
+write-refused F E G coords room r = then-short (checked F E G coords) room (length (fileOf F E G coords)) (ShortFile (length (fileOf F E G coords))) r
+
 -- (a) where `write` answers that it wrote n bytes, `read` of these n bytes, with places enough, answers the settings and the number of
 -- shots, and stores the coordinates; the other places keep their values
 pub read-what-write-wrote : (F E G : ℕ) (coords before places : List ℕ) {n : ℕ} → length coords ≤ length places
@@ -104,11 +129,8 @@ read-what-write-wrote F E G coords before places {n} r e =
     a : Accepts F E G coords before n
     a = accepts F E G coords before e
 
-    bytes : take n (writeBytes F E G coords before) ≡ fileOf F E G coords
-    bytes = ap (take n) (a .leaves) ∙ take-at (fileOf F E G coords) (drop n before) n (sym (a .long))
-
     is : fileIn (length places) (take n (writeBytes F E G coords before)) ≡ file (settings F E G) coords
-    is = ap (fileIn (length places)) bytes ∙ read-written F E G coords (length places) (a .valid) r
+    is = ap (fileIn (length places)) (wrote-file a) ∙ read-written F E G coords (length places) (a .valid) r
 
 -- a file that `read` accepts, with what it leaves
 pub record Accepted-file (s places : List ℕ) (F E G n : ℕ) : Type 0 where

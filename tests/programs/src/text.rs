@@ -1,0 +1,67 @@
+//! A shot file as plain text, written from its description in README alone.
+
+use oracle::list::{List, Refusal};
+use oracle::quote::{BYTES, PLACES};
+use oracle::shotfile::{self, ABSENT};
+
+/// The refusals in words.
+pub fn sentence(number: u64) -> &'static str {
+    match number {
+        2 => "there are more than 4,096 shots",
+        4 => "this map has a bit that has no meaning",
+        5 => "the file ends before a field of this map, or is empty",
+        6 => "the field side is not 1 to 1,024",
+        7 => "the shot edge is not 1 to the field side",
+        8 => "the grid size is not 1 to 64, or does not divide the field side",
+        9 => "a shot leaves the field",
+        _ => panic!("refusal {number} has no sentence here"),
+    }
+}
+
+/// What `shots` prints for an input.
+pub fn shots(input: &[u8]) -> String {
+    let file = &input[..input.len().min(BYTES)];
+    let mut text = String::new();
+    let whole = shotfile::read(file, PLACES);
+    let end = match &whole {
+        Ok(_) => file.len(),
+        Err(refusal) => refusal.detail as usize,
+    };
+    // The records before the first faulty one are a file by themselves.
+    if let Ok(list) = shotfile::read(&file[..end], PLACES) {
+        let names = ["field", "edge", "grid"];
+        for (bit, value) in [list.field, list.edge, list.grid].into_iter().enumerate() {
+            let note = if file[0] >> bit & 1 == 0 { " # default" } else { "" };
+            assert!(note.is_empty() || value == ABSENT[bit]);
+            text += &format!("{} {value}{note}\n", names[bit]);
+        }
+        let mut offset = after(file, 0);
+        for (number, shot) in list.coords.chunks_exact(3).enumerate() {
+            text += &format!("shot {} {} {} # number {number}, byte {offset}\n", shot[0], shot[1], shot[2]);
+            offset = after(file, offset);
+        }
+    }
+    match whole {
+        Err(Refusal { number, detail }) => text += &format!("refused {number} at byte {detail}: {}\n", sentence(number)),
+        Ok(list) => match list.check() {
+            Ok(()) => (),
+            Err(Refusal { number: 9, detail }) => text += &format!("refused 9 at shot {detail}: {}\n", sentence(9)),
+            Err(Refusal { number, .. }) => text += &format!("refused {number}: {}\n", sentence(number)),
+        },
+    }
+    text
+}
+
+/// The offset after the record at an offset.
+fn after(file: &[u8], offset: usize) -> usize {
+    offset + 1 + 2 * (file[offset] & 7).count_ones() as usize
+}
+
+/// A list as somebody types it.
+pub fn typed(list: &List) -> String {
+    let mut text = format!("field {}\nedge {}\ngrid {}\n", list.field, list.edge, list.grid);
+    for shot in list.coords.chunks_exact(3) {
+        text += &format!("shot {} {} {}\n", shot[0], shot[1], shot[2]);
+    }
+    text
+}

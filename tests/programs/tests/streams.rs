@@ -1,0 +1,40 @@
+//! Standard input that cannot be read, and standard output that cannot be written: a clear line, and no fault.
+
+use programs::run::with;
+
+const INPUTS: [(&str, &[u8]); 4] = [
+    ("quote", &[7, 8, 0, 2, 0, 2, 0, 0]),
+    ("recount", &[7, 8, 0, 2, 0, 2, 0, 0]),
+    ("shots", &[7, 8, 0, 2, 0, 2, 0, 0]),
+    ("write_shots", b"shot 1 2 3\n"),
+];
+
+#[test]
+fn no_standard_output() {
+    for (name, input) in INPUTS {
+        for redirection in [">&-", ">/dev/full"] {
+            let told = with(name, redirection, input);
+            assert_eq!(told.text(), "", "{name} {redirection}");
+            assert_eq!(told.complaint, format!("{name}: standard output cannot be written\n"), "{name} {redirection}");
+        }
+    }
+}
+
+#[test]
+fn no_standard_input() {
+    for (name, input) in INPUTS {
+        for redirection in ["<&-", "</"] {
+            let told = with(name, redirection, input);
+            assert_eq!(told.text(), "", "{name} {redirection}");
+            assert_eq!(told.complaint, format!("{name}: standard input cannot be read\n"), "{name} {redirection}");
+        }
+    }
+}
+
+#[test]
+fn neither_output_nor_error() {
+    for (name, input) in INPUTS {
+        let told = with(name, ">&- 2>&-", input);
+        assert_eq!(told.text() + &told.complaint, "", "{name}");
+    }
+}
