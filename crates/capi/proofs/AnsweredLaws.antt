@@ -4,16 +4,14 @@ use mathlib.Core.List.{List, [], _∷_, _++_}
 use Prim.Native.Nat.{ℕ, _≤_}
 use lib.ListN.{length, drop, set}
 use lib.Seq.{sets-eq}
-use Rattle.measure.specs.Answers.{numbersOf}
-use Rattle.measure.specs.declared.Measured.{Measured}
-use Rattle.measure.specs.declared.Measured.the-variants.{Quote, Refused}
-use Rattle.cell_count.specs.declared.Recounted.{Recounted}
-use Rattle.cell_count.specs.declared.Recounted.the-variants.{Counted, TurnedDown}
+use Rattle.intake.specs.Intake.{numbersOf}
+use Rattle.intake.specs.declared.Measured.{Measured}
+use Rattle.intake.specs.declared.Measured.the-variants.{Quote, Refused}
 use Rattle.shotfile.specs.declared.reader.ReadAnswer.{ReadAnswer}
 use Rattle.shotfile.specs.declared.reader.ReadAnswer.the-variants.{Read, Refused as Unread}
 use Rattle.shotfile.specs.declared.writer.WriteAnswer.{WriteAnswer}
 use Rattle.shotfile.specs.declared.writer.WriteAnswer.the-variants.{Written, Refused as Unwritten}
-use Rattle.capi.specs.Answered.{measuredNumbers, recountedNumbers, readNumbers, writtenNumbers}
+use Rattle.capi.specs.Answered.{measuredNumbers, readNumbers, writtenNumbers}
 
 pub three-stored : (l : List ℕ) (a b c : ℕ) → 3 ≤ length l → set (set (set l 0 a) 1 b) 2 c ≡ (a ∷ b ∷ c ∷ []) ++ drop 3 l
 three-stored l a b c h = sets-eq (a ∷ b ∷ c ∷ []) l 0 h
@@ -26,11 +24,6 @@ six-stored l a b c d e f h = sets-eq (a ∷ b ∷ c ∷ d ∷ e ∷ f ∷ []) l 
 pub measured-six : (m : Measured) → length (measuredNumbers m) ≡ 6
 unfolding measuredNumbers
 measured-six m = refl
-
-pub recounted-six : (m : Recounted) → length (recountedNumbers m) ≡ 6
-unfolding recountedNumbers
-recounted-six (Counted t) = refl
-recounted-six (TurnedDown r) = refl
 
 pub read-six : (m : ReadAnswer) → length (readNumbers m) ≡ 6
 unfolding readNumbers

@@ -5,10 +5,8 @@ use Prim.Native.Nat.{ℕ}
 use lib.Dec.{leb}
 use lib.ListN.{length, drop}
 use Rattle.job.specs.Refusals.{numberOf, detailOf}
-use Rattle.measure.specs.Answers.{Numbers, numbersOf}
-use Rattle.measure.specs.declared.Measured.{Measured}
-use Rattle.cell_count.specs.declared.Recounted.{Recounted}
-use Rattle.cell_count.specs.declared.Recounted.the-variants.{Counted, TurnedDown}
+use Rattle.intake.specs.Intake.{Numbers, numbersOf}
+use Rattle.intake.specs.declared.Measured.{Measured}
 use Rattle.shotfile.specs.declared.reader.ReadAnswer.{ReadAnswer}
 use Rattle.shotfile.specs.declared.reader.ReadAnswer.the-variants.{Read, Refused as Unread}
 use Rattle.shotfile.specs.declared.writer.WriteAnswer.{WriteAnswer}
@@ -20,10 +18,6 @@ listOf n = n .number ∷ n .detail ∷ n .volume ∷ n .area ∷ n .edge ∷ n .
 
 unfoldable pub measuredNumbers : Measured → List ℕ
 measuredNumbers m = listOf (numbersOf m)
-
-unfoldable pub recountedNumbers : Recounted → List ℕ
-recountedNumbers (Counted t) = 0 ∷ 0 ∷ t .volume ∷ t .area ∷ t .edge ∷ t .corners ∷ []
-recountedNumbers (TurnedDown r) = numberOf r ∷ detailOf r ∷ 0 ∷ 0 ∷ 0 ∷ 0 ∷ []
 
 unfoldable pub readNumbers : ReadAnswer → List ℕ
 readNumbers (Read field edge grid shots) = 0 ∷ 0 ∷ field ∷ edge ∷ grid ∷ shots ∷ []

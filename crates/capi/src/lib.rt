@@ -1,16 +1,16 @@
 // The calls for C and Rust: numbers and slices only. include/heqdanu.h describes them for their users.
-// Each answer goes, as numbers, into a lent slice whose length is checked: specs/Answered.antt. Stands on `measure` and `shotfile`.
+// Each answer goes, as numbers, into a lent slice whose length is checked: specs/Answered.antt. Stands on `measure`,
+// `cell_count` and `shotfile`.
 ghost use mathlib.Core.Path.{_≡_};
 ghost use mathlib.Core.List.{[], _∷_, _++_};
 ghost use Prim.Native.Nat.{_≤_};
 ghost use lib.ListN.{length, drop};
-ghost use Rattle.measure.specs.Answers.{measureAnswer, workAfter, listAnswer, listingAfter};
-ghost use Rattle.cell_count.specs.Recount.{recounted, workAfter as recountWork};
+ghost use Rattle.intake.specs.Intake.{measureAnswer, workAfter};
+ghost use Rattle.measure.specs.Answers.{listAnswer, listingAfter};
 ghost use Rattle.shotfile.specs.Files.{fileIn};
 ghost use Rattle.shotfile.specs.Calls.{readAnswer, readCoords, writeAnswer, writeBytes};
-ghost use Rattle.capi.specs.Answered.{hasRoom, told, answered, after, measuredNumbers, recountedNumbers, readNumbers, writtenNumbers};
-use cell_count::Recounted;
-use measure::Measured;
+ghost use Rattle.capi.specs.Answered.{hasRoom, told, answered, after, measuredNumbers, readNumbers, writtenNumbers};
+use intake::Measured;
 use shotfile::reader::ReadAnswer;
 use shotfile::writer::WriteAnswer;
 
@@ -45,25 +45,6 @@ fn put_measured(answer: &mut [u64], measured: Measured)
     match measured {
         Measured::Quote(t) => put_six(answer, 0, 0, t.volume, t.area, t.edge, t.corners as u64),
         Measured::Refused(r) => put_six(
-            answer,
-            job::number(r) as u64,
-            job::detail(r) as u64,
-            0,
-            0,
-            0,
-            0,
-        ),
-    }
-}
-
-// Puts the numbers of a recounted list to the front.
-fn put_recounted(answer: &mut [u64], recounted: Recounted)
-    requires { ⌜ 6 ≤ length (now answer) ⌝ }
-    ensures { λ _. ⌜ now (answer .exit) ≡ recountedNumbers recounted ++ drop 6 (now (answer .entry)) ⌝ }
-{
-    match recounted {
-        Recounted::Counted(t) => put_six(answer, 0, 0, t.volume, t.area, t.edge, t.corners as u64),
-        Recounted::TurnedDown(r) => put_six(
             answer,
             job::number(r) as u64,
             job::detail(r) as u64,
@@ -180,14 +161,14 @@ pub extern "C" fn heqdanu_recount(
     answer: &mut [u64],
 ) -> u8
     ensures { λ r. ⌜ r ≡ told (hasRoom 6 (now (answer .entry))) ⌝ }
-    ensures { λ _. ⌜ now (work .exit) ≡ after (hasRoom 6 (now (answer .entry))) (recountWork field edge grid (now (coords .entry)) (now (work .entry))) (now (work .entry)) ⌝ }
-    ensures { λ _. ⌜ now (answer .exit) ≡ answered (hasRoom 6 (now (answer .entry))) (recountedNumbers (recounted field edge grid (now (coords .entry)) (now (work .entry)))) (now (answer .entry)) ⌝ }
+    ensures { λ _. ⌜ now (work .exit) ≡ after (hasRoom 6 (now (answer .entry))) (workAfter field edge grid (now (coords .entry)) (now (work .entry))) (now (work .entry)) ⌝ }
+    ensures { λ _. ⌜ now (answer .exit) ≡ answered (hasRoom 6 (now (answer .entry))) (measuredNumbers (measureAnswer field edge grid (now (coords .entry)) (length (now (work .entry))))) (now (answer .entry)) ⌝ }
 {
     if answer.len() < 6 {
         return 0;
     }
     let again = cell_count::recount(field, edge, grid, coords, work);
-    put_recounted(answer, again);
+    put_measured(answer, again);
     1
 }
 

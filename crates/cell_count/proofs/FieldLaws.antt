@@ -1,14 +1,14 @@
 -- Over all points of a field the counts are the totals: every cell, unit square and unit edge of the field stands above one point, and what
 -- stands above the far sides is outside the field and counts nothing.
-use mathlib.Core.Path.{_≡_, refl, sym, ap, _∙_}
+use mathlib.Core.Path.{_≡_, refl, ap, _∙_}
 use mathlib.Core.Bool.{Bool, true, false}
-use Prim.Native.Nat.{ℕ, zero, suc, _+_, _≤_, _<_}
+use Prim.Native.Nat.{ℕ, zero, suc, _+_}
 use native.Mathlib.Nat.{add-zero}
 use native.Mathlib.Numerals.{add-one}
 use native.Mathlib.Omega.{arith}
 use Rattle.lattice.specs.Sums.{total}
 use Rattle.lattice.specs.Cells.{Cells, Within, below, up, bit, volume, areaBy, square, area, lengthBy, edge, edgeLength}
-use Rattle.lattice.specs.Pattern.{around, corner}
+use Rattle.lattice.specs.Pattern.{around}
 use Rattle.lattice.specs.Listing.{cornerCount}
 use Rattle.lattice.specs.CornerSums.{totalsOf}
 use Rattle.lattice.specs.declared.sums.Totals.{Totals}

@@ -2,4 +2,3 @@ pub mod TallyLaws
 pub mod PointLaws
 pub mod SumLaws
 pub mod FieldLaws
-pub mod AnswerLaws

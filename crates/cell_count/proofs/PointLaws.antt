@@ -1,5 +1,5 @@
 -- The pattern of a lattice point through the run of a grid cell whose closed box holds it.
-use mathlib.Core.Path.{_≡_, refl, sym, ap, _∙_, fun-ext}
+use mathlib.Core.Path.{_≡_, refl, ap, _∙_, fun-ext}
 use mathlib.Core.Bool.{Bool, true, false}
 use mathlib.Core.List.{List}
 use Prim.Native.Nat.{ℕ, zero, suc, _+_, _-_, _*_, _/_, _≤_, _<_}
@@ -7,11 +7,11 @@ use native.Mathlib.Nat.{div-mul-le-self, lt-div-mul-add, div-lt-iff-lt-mul, add-
 use native.Mathlib.Numerals.{add-one}
 use native.Mathlib.Omega.{arith}
 use Rattle.lattice.specs.Cells.{Cells, bit, below, up}
-use Rattle.lattice.specs.Pattern.{Pattern, around, byte, ofByte}
+use Rattle.lattice.specs.Pattern.{around, byte, ofByte}
 use Rattle.lattice.specs.Shots.{cells}
 use Rattle.lattice.proofs.PatternLaws.{ofByte-byte}
 use Rattle.job.specs.Job.{shotsOf, Valid}
-use Rattle.grid.specs.Grid.{runOf, between, Starts, Holds}
+use Rattle.grid.specs.Grid.{between, Starts, Holds}
 use Rattle.cover.specs.Cover.{runCovers}
 use Rattle.grid.proofs.CellLaws.{digits-below, square-most, cube-most}
 use Rattle.grid.proofs.ReadLaws.{holds-starts, holds-run}

@@ -1,22 +1,21 @@
 -- What is known of a list that a call accepts: it is valid, the totals are its cell counts, and the buffer holds its listing.
 use mathlib.Core.Path.{_≡_, refl, sym, _∙_, ap, subst}
-use mathlib.Core.Bool.{Bool, true, false, cond}
 use mathlib.Core.List.{List, _++_}
-use Prim.Native.Nat.{ℕ, _*_, _≤_}
-use lib.Dec.{T, ltb}
+use Prim.Native.Nat.{ℕ, _*_}
 use lib.ListN.{length, drop}
 use Rattle.lattice.specs.Cells.{Cells}
 use Rattle.lattice.specs.Listing.{cornerCount, listing}
 use Rattle.lattice.specs.CornerSums.{totalsOf}
 use Rattle.lattice.specs.declared.sums.Totals.{Totals}
 use Rattle.job.specs.Job.{Valid}
-use Rattle.job.specs.Checking.{Test, checked, andThen}
+use Rattle.job.specs.Checking.{Test, andThen}
 use Rattle.job.specs.declared.Checked.{Checked}
 use Rattle.job.specs.declared.Checked.the-variants.{Accepted as Passed, Refused}
-use Rattle.measure.specs.Answers.{solid, measureChecked, listChecked, shortListing, answerOf, measureAnswer, listAnswer, onChecked, listingAfter}
-use Rattle.measure.specs.declared.Measured.{Measured}
-use Rattle.measure.specs.declared.Measured.the-variants.{Quote, Refused as Unmeasured}
-use Rattle.measure.proofs.AnswerLaws.{accepted-list}
+use Rattle.intake.specs.Intake.{solid, measureChecked, answerOf, measureAnswer, onChecked}
+use Rattle.measure.specs.Answers.{listChecked, shortListing, listAnswer, listingAfter}
+use Rattle.intake.specs.declared.Measured.{Measured}
+use Rattle.intake.specs.declared.Measured.the-variants.{Quote, Refused as Unmeasured}
+use Rattle.intake.proofs.IntakeLaws.{accepted-list}
 
 -- a list that measuring accepts, with these totals
 pub record Accepted (F E G : ℕ) (coords : List ℕ) (entries : ℕ) (t : Totals) : Type 0 where

@@ -1,77 +1,29 @@
--- How the answers of the two calls follow from the checks, the index and the sweep.
-use mathlib.Core.Path.{_≡_, refl, sym, _∙_, ap, ap₂, subst}
-use mathlib.Core.Bool.{Bool, true, false, cond}
-use mathlib.Core.List.{List, [], _∷_, _++_}
-use Prim.Native.Nat.{ℕ, _+_, _*_, _/_, _≤_, _<_}
+-- How the answers of the two calls follow from the intake and the sweep.
+use mathlib.Core.Path.{_≡_, sym, _∙_, ap, subst}
+use mathlib.Core.Bool.{cond}
+use mathlib.Core.List.{List, [], _++_}
+use Prim.Native.Nat.{ℕ, _*_, _/_, _≤_, _<_}
 use native.Mathlib.Omega.{arith}
-use lib.Dec.{ltb}
 use lib.IntN.{ℤ, pos, natAbs}
 use lib.ListN.{length, drop}
-use borrow.Author.Tests.{lt-ltb, le-ltb, ltb-false}
+use borrow.Author.Tests.{lt-ltb, le-ltb}
 use Rattle.lattice.specs.Cells.{Cells, Within}
-use Rattle.lattice.specs.Listing.{corners, cornerCount, listing, bytes, cornerSum}
+use Rattle.lattice.specs.Listing.{corners, cornerCount, listing, bytes}
 use Rattle.lattice.specs.CornerSums.{sumsOf, totalsOf, Whole}
 use Rattle.lattice.specs.declared.sums.CornerSums.{CornerSums}
 use Rattle.lattice.specs.declared.sums.Totals.{Totals}
 use Rattle.lattice.proofs.Agreement.{corner-sums}
 use Rattle.lattice.proofs.ListingLaws.{length-corners}
-use Rattle.job.specs.Job.{Valid}
-use Rattle.job.specs.Checking.{checked, andThen}
+use Rattle.job.specs.Checking.{andThen}
 use Rattle.job.specs.declared.Refusal.{Refusal}
-use Rattle.job.specs.declared.Refusal.the-variants.{ShortWork, ShortListing}
-use Rattle.job.specs.declared.Checked.{Checked}
+use Rattle.job.specs.declared.Refusal.the-variants.{ShortListing}
 use Rattle.job.specs.declared.Checked.the-variants.{Accepted, Refused}
-use Rattle.job.proofs.Conditions.{accepted-valid, valid-within}
-use Rattle.grid.specs.Grid.{indexOf, need, Holds}
 use Rattle.tally.specs.Found.{state, found}
 use Rattle.tally.proofs.Result.{found-sums, found-bytes}
-use Rattle.measure.specs.Answers.{solid, measureChecked, listChecked, shortWork, shortListing, answerOf, measureAnswer, listAnswer, onChecked, workAfter, listingAfter}
-use Rattle.measure.specs.declared.Measured.{Measured}
-use Rattle.measure.specs.declared.Measured.the-variants.{Quote, Refused as Unmeasured}
-
--- ---- the checks and the index
-module _ (F E G : ℕ) (coords work : List ℕ) where
-  -- a refused list
-  pub refused-checked : {c : Checked} (r : Refusal) → c ≡ checked F E G coords → c ≡ Refused r → c ≡ measureChecked F E G coords (length work)
-  unfolding measureChecked
-  refused-checked r e k = k ∙ ap (λ d. andThen d (shortWork F E G coords (length work))) (sym k ∙ e)
-
-  pub refused-work : (r : Refusal) → Refused r ≡ measureChecked F E G coords (length work) → work ≡ workAfter F E G coords work
-  unfolding workAfter
-  refused-work r e = ap (λ d. onChecked d work (indexOf F E G coords ++ drop (need F E G coords) work)) e
-
-  -- an accepted list, and a work slice that is too short or long enough
-  module _ (accepted : checked F E G coords ≡ Accepted) where
-    pub valid : Valid F E G coords
-    valid = accepted-valid F E G coords .0 accepted
-
-    pub short-checked : length work < need F E G coords → Refused (ShortWork (need F E G coords)) ≡ measureChecked F E G coords (length work)
-    unfolding measureChecked
-    short-checked h = sym (ap (λ d. andThen d (shortWork F E G coords (length work))) accepted ∙ ap (λ b. cond b (Refused (ShortWork (need F E G coords))) Accepted) (lt-ltb (length work) (need F E G coords) h))
-
-    pub long-checked : need F E G coords ≤ length work → Accepted ≡ measureChecked F E G coords (length work)
-    unfolding measureChecked
-    long-checked h = sym (ap (λ d. andThen d (shortWork F E G coords (length work))) accepted ∙ ap (λ b. cond b (Refused (ShortWork (need F E G coords))) Accepted) (le-ltb (length work) (need F E G coords) h))
-
-  pub long-work : {after : List ℕ} → Accepted ≡ measureChecked F E G coords (length work) → after ≡ indexOf F E G coords ++ drop (need F E G coords) work → after ≡ workAfter F E G coords work
-  unfolding workAfter
-  long-work e k = k ∙ ap (λ d. onChecked d work (indexOf F E G coords ++ drop (need F E G coords) work)) e
-
-  -- what an accepted list leaves is its index
-  pub accepted-list : measureChecked F E G coords (length work) ≡ Accepted → Valid F E G coords
-  unfolding measureChecked
-  accepted-list e = accepted-valid F E G coords .0 (first (checked F E G coords) e)
-    where
-      first : (c : Checked) → andThen c (shortWork F E G coords (length work)) ≡ Accepted → c ≡ Accepted
-      first Accepted k = refl
-      first (Refused r) k = k
-
-  pub accepted-holds : measureChecked F E G coords (length work) ≡ Accepted → {after : List ℕ} → after ≡ workAfter F E G coords work → Holds F E G coords after
-  unfolding workAfter
-  accepted-holds e k = record {
-    rest = drop (need F E G coords) work;
-    is = k ∙ ap (λ d. onChecked d work (indexOf F E G coords ++ drop (need F E G coords) work)) e;
-  }
+use Rattle.intake.specs.Intake.{solid, measureChecked, answerOf, onChecked}
+use Rattle.measure.specs.Answers.{listChecked, shortListing, listAnswer, listingAfter}
+use Rattle.intake.specs.declared.Measured.{Measured}
+use Rattle.intake.specs.declared.Measured.the-variants.{Quote, Refused as Unmeasured}
 
 -- ---- the sums of a sweep are the totals
 module _ (n : ℕ) (s : Cells) (within : Within n s) where
@@ -137,10 +89,6 @@ totals-corners n s e = ap (λ (t : Totals). t .corners) e
 -- ---- the answers of the calls
 module _ (F E G : ℕ) (coords : List ℕ) (entries : ℕ) where
   module _ (r : Refusal) (e : Refused r ≡ measureChecked F E G coords entries) where
-    pub refused-answer : Unmeasured r ≡ measureAnswer F E G coords entries
-    unfolding measureAnswer
-    refused-answer = ap (λ c. answerOf c F (solid E coords)) e
-
     pub refused-list : (room : ℕ) → Unmeasured r ≡ listAnswer F E G coords entries room
     unfolding listAnswer listChecked
     refused-list room = ap (λ c. answerOf (andThen c (shortListing F (solid E coords) room)) F (solid E coords)) e
@@ -151,10 +99,6 @@ module _ (F E G : ℕ) (coords : List ℕ) (entries : ℕ) where
         ap (λ c. onChecked (andThen c (shortListing F (solid E coords) (length buffer))) buffer (listing F (solid E coords) ++ drop (7 * cornerCount F (solid E coords)) buffer)) e
 
   module _ (e : measureChecked F E G coords entries ≡ Accepted) where
-    pub accepted-answer : {t : Totals} → t ≡ totalsOf F (solid E coords) → Quote t ≡ measureAnswer F E G coords entries
-    unfolding measureAnswer
-    accepted-answer k = ap Quote k ∙ ap (λ c. answerOf c F (solid E coords)) (sym e)
-
     pub accepted-list-answer : (room : ℕ) {a : Measured} → a ≡ answerOf (andThen Accepted (shortListing F (solid E coords) room)) F (solid E coords) → a ≡ listAnswer F E G coords entries room
     unfolding listAnswer listChecked
     accepted-list-answer room k = k ∙ ap (λ c. answerOf (andThen c (shortListing F (solid E coords) room)) F (solid E coords)) (sym e)

@@ -5,29 +5,30 @@
 -- lattice points with a nonzero weight; for every list that `list` accepts, the first 7 bytes for each corner hold each corner point
 -- once, with its pattern, in rising order, and nothing else, and the corner sums from these bytes alone are the same figures; and for
 -- every two such lists, these bytes are the same exactly when the lists cover the same cells.
-use mathlib.Core.Path.{_≡_, refl, sym, _∙_, ap, subst, fun-ext}
+use mathlib.Core.Path.{_≡_, sym, _∙_, ap, subst}
 use mathlib.Core.Logic.{_↔_}
 use mathlib.Core.List.{List, List·Memᴰ, _++_}
-use Prim.Native.Nat.{ℕ, _+_, _*_, _/_, _<_, _≤_}
+use Prim.Native.Nat.{ℕ, _*_, _/_, _<_}
 use lib.Dec.{T}
 use lib.IntN.{ℤ, pos, natAbs}
 use lib.ListN.{length, take, drop}
 use lib.Seq.{take-at}
 use Rattle.lattice.specs.Cells.{Cells, volume, area, edgeLength}
-use Rattle.lattice.specs.Pattern.{Term, volumeTerm, areaTerm, edgeTerm}
-use Rattle.lattice.specs.Shots.{Shot, any, covers}
+use Rattle.lattice.specs.Pattern.{volumeTerm, areaTerm, edgeTerm}
+use Rattle.lattice.specs.Shots.{Shot, covers}
 use Rattle.lattice.specs.Listing.{Corner, corners, cornerCount, IsCorner, Rising, listing, readBack, cornerSum, listedSum, SameBytes}
 use Rattle.lattice.specs.CornerSums.{totalsOf}
 use Rattle.lattice.specs.declared.sums.Totals.{Totals}
 use Rattle.lattice.proofs.Cases.{bool-ext}
 use Rattle.lattice.proofs.Agreement as agreement
 use Rattle.lattice.proofs.SameSolid.{same-corners}
-use Rattle.job.specs.Job.{Valid, shotsOf, shotAt}
+use Rattle.job.specs.Job.{shotAt}
 use Rattle.job.proofs.Conditions.{valid-within}
 use Rattle.job.proofs.Shots.{any-at, at-any}
-use Rattle.measure.specs.declared.Measured.{Measured}
-use Rattle.measure.specs.declared.Measured.the-variants.{Quote}
-use Rattle.measure.specs.Answers.{solid, measureAnswer, workAfter, listAnswer, listingAfter}
+use Rattle.intake.specs.declared.Measured.{Measured}
+use Rattle.intake.specs.declared.Measured.the-variants.{Quote}
+use Rattle.intake.specs.Intake.{solid, measureAnswer, workAfter}
+use Rattle.measure.specs.Answers.{listAnswer, listingAfter}
 use Rattle.measure.proofs.AcceptedLaws.{Accepted, accepted, Listed, listed-accepted}
 
 -- a call of `measure`, by its contract: the settings, the coordinates, the work slice at entry and at exit, and the answer

@@ -1,77 +1,26 @@
--- What the measuring and the listing call answer, and what they leave in the lent slices: document 01, 'Corner points', 'The grid index' and 'When a
--- job is refused'. A list covers the cells `solid`; the totals are its cell counts.
-use mathlib.Core.Bool.{Bool, true, false, cond}
+-- What the listing call answers, and what it leaves in the lent buffer, after the intake that it shares with measuring: document 01, 'Corner points'
+-- and 'When a job is refused'.
 use mathlib.Core.List.{List, _++_}
 use Prim.Native.Nat.{ℕ, _*_}
 use lib.Dec.{ltb}
 use lib.ListN.{length, drop}
 use Rattle.lattice.specs.Cells.{Cells}
 use Rattle.lattice.specs.Listing.{cornerCount, listing}
-use Rattle.lattice.specs.Shots.{cells}
-use Rattle.lattice.specs.CornerSums.{totalsOf}
-use Rattle.lattice.specs.declared.sums.Totals.{Totals}
-use Rattle.job.specs.Job.{shotsOf}
-use Rattle.job.specs.Refusals.{numberOf, detailOf}
-use Rattle.job.specs.Checking.{checked, Test, andThen}
-use Rattle.job.specs.declared.Refusal.{Refusal}
-use Rattle.job.specs.declared.Refusal.the-variants.{ShortWork, ShortListing}
+use Rattle.job.specs.Checking.{Test, andThen}
+use Rattle.job.specs.declared.Refusal.the-variants.{ShortListing}
 use Rattle.job.specs.declared.Checked.{Checked}
-use Rattle.job.specs.declared.Checked.the-variants.{Accepted, Refused}
-use Rattle.grid.specs.Grid.{indexOf, need}
-use Rattle.measure.specs.declared.Measured.{Measured}
-use Rattle.measure.specs.declared.Measured.the-variants.{Quote, Refused as Unmeasured}
+use Rattle.intake.specs.Intake.{solid, measureChecked, answerOf, onChecked}
+use Rattle.intake.specs.declared.Measured.{Measured}
 
--- the cells that a list covers
-abbrev pub solid : ℕ → List ℕ → Cells
-solid E coords = cells (shotsOf E coords)
-
--- the numbers of an answer: on refusal its number and detail, with all others 0
-pub record Numbers : Type 0 where
-  pub number : ℕ
-  pub detail : ℕ
-  pub volume : ℕ
-  pub area : ℕ
-  pub edge : ℕ
-  pub corners : ℕ
-
-unfoldable pub numbersOf : Measured → Numbers
-numbersOf (Quote t) = record { number = 0; detail = 0; volume = t .volume; area = t .area; edge = t .edge; corners = t .corners }
-numbersOf (Unmeasured r) = record { number = numberOf r; detail = detailOf r; volume = 0; area = 0; edge = 0; corners = 0 }
-
--- refusals 1, 2, 6, 7, 8, 9, and then 10: a work slice of so many entries is shorter than needed
-abbrev pub shortWork : ℕ → ℕ → ℕ → List ℕ → ℕ → Test
-shortWork F E G coords entries = record { holds = ltb entries (need F E G coords); gives = ShortWork (need F E G coords) }
-
-unfoldable pub measureChecked : ℕ → ℕ → ℕ → List ℕ → ℕ → Checked
-measureChecked F E G coords entries = andThen (checked F E G coords) (shortWork F E G coords entries)
-
--- and then 11: a listing buffer of so many bytes is shorter than 7 times the corner count
+-- refusal 11, after those of the intake: a listing buffer of so many bytes is shorter than 7 times the corner count
 abbrev pub shortListing : ℕ → Cells → ℕ → Test
 shortListing F s room = record { holds = ltb room (7 * cornerCount F s); gives = ShortListing (cornerCount F s) }
 
 unfoldable pub listChecked : ℕ → ℕ → ℕ → List ℕ → ℕ → ℕ → Checked
 listChecked F E G coords entries room = andThen (measureChecked F E G coords entries) (shortListing F (solid E coords) room)
 
--- a refusal, or the totals
-abbrev pub answerOf : Checked → ℕ → Cells → Measured
-answerOf Accepted F s = Quote (totalsOf F s)
-answerOf (Refused r) F s = Unmeasured r
-
-unfoldable pub measureAnswer : ℕ → ℕ → ℕ → List ℕ → ℕ → Measured
-measureAnswer F E G coords entries = answerOf (measureChecked F E G coords entries) F (solid E coords)
-
 unfoldable pub listAnswer : ℕ → ℕ → ℕ → List ℕ → ℕ → ℕ → Measured
 listAnswer F E G coords entries room = answerOf (listChecked F E G coords entries room) F (solid E coords)
-
--- what is there after a refusal, or after success
-abbrev pub onChecked : Checked → List ℕ → List ℕ → List ℕ
-onChecked Accepted kept done = done
-onChecked (Refused r) kept done = kept
-
--- the finished index and the entries past it; refusal 11 comes after it
-unfoldable pub workAfter : ℕ → ℕ → ℕ → List ℕ → List ℕ → List ℕ
-workAfter F E G coords work =
-    onChecked (measureChecked F E G coords (length work)) work (indexOf F E G coords ++ drop (need F E G coords) work)
 
 -- the listing and the bytes after the last record
 unfoldable pub listingAfter : ℕ → ℕ → ℕ → List ℕ → ℕ → List ℕ → List ℕ

@@ -12,7 +12,7 @@ use Rattle.shotfile.specs.declared.reader.ReadAnswer.the-variants.{Read, Refuse
 use Rattle.shotfile.proofs.ShotsRead.{reads-threes, reads-room}
 use Rattle.shotfile.proofs.Shortest.{file-parts}
 use Rattle.shotfile.proofs.RoundTrip.{accepted-file}
-use Rattle.measure.specs.Answers.{measureAnswer}
+use Rattle.intake.specs.Intake.{measureAnswer}
 use Rattle.quoting.specs.Quoting.{refusalText, answerText, fileText, quoteText}
 
 -- a file that is read has places for its shots

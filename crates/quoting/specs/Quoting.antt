@@ -4,9 +4,9 @@ use Prim.Native.Nat.{ℕ}
 use Rattle.job.specs.Refusals.{numberOf, detailOf}
 use Rattle.job.specs.declared.Refusal.{Refusal}
 use Rattle.shotfile.specs.Files.{File, file, refused, fileIn}
-use Rattle.measure.specs.Answers.{measureAnswer}
-use Rattle.measure.specs.declared.Measured.{Measured}
-use Rattle.measure.specs.declared.Measured.the-variants.{Quote, Refused}
+use Rattle.intake.specs.Intake.{measureAnswer}
+use Rattle.intake.specs.declared.Measured.{Measured}
+use Rattle.intake.specs.declared.Measured.the-variants.{Quote, Refused}
 use Rattle.report.specs.Lines.{quoteLines, refusalLine}
 
 -- a refusal prints only its number and detail

@@ -1,12 +1,13 @@
 // From the bytes of a shot file to the bytes that the quoting program prints: specs/Quoting.antt says which.
-// The program `quote` only moves these bytes in and out. Stands on `shotfile`, `measure` and `report`.
+// The programs `quote` and `recount` only move these bytes in and out. Stands on `shotfile`, `measure`, `cell_count` and `report`.
 ghost use Prim.Native.Nat.{_≤_};
 ghost use lib.ListN.{length};
 ghost use Rattle.buffer.specs.Wrote.{Wrote};
-ghost use Rattle.measure.specs.Answers.{measureAnswer};
+ghost use mathlib.Core.Path.{_≡_};
+ghost use Rattle.intake.specs.Intake.{measureAnswer};
 ghost use Rattle.quoting.specs.Quoting.{refusalText, answerText, quoteText};
+use intake::Measured;
 use job::Refusal;
-use measure::Measured;
 use shotfile::reader::ReadAnswer;
 
 // Puts the line of a refusal to the front.
@@ -17,8 +18,26 @@ fn refuse(out: &mut [u8], refusal: Refusal) -> usize
     report::refusal_line(out, job::number(refusal), job::detail(refusal))
 }
 
+// The figures of a list: by the sweep, or, for a second opinion, by counting again.
+fn figures(
+    again: bool,
+    field: u16,
+    edge: u16,
+    grid: u16,
+    coords: &[u16],
+    work: &mut [u32],
+) -> Measured
+    ensures { λ r. ⌜ r ≡ measureAnswer field edge grid (now (coords .entry)) (length (now (work .entry))) ⌝ }
+{
+    if again {
+        return cell_count::recount(field, edge, grid, coords, work);
+    }
+    measure::measure(field, edge, grid, coords, work)
+}
+
 // Measures a list, and puts what is printed for it to the front.
 fn quote_list(
+    again: bool,
     field: u16,
     edge: u16,
     grid: u16,
@@ -29,15 +48,21 @@ fn quote_list(
     requires { ⌜ 128 ≤ length (now out) ⌝ }
     ensures { λ r. ⌜ Wrote (now (out .entry)) (now (out .exit)) 0 r (answerText (measureAnswer field edge grid (now (coords .entry)) (length (now (work .entry))))) ⌝ }
 {
-    let measured = measure::measure(field, edge, grid, coords, work);
+    let measured = figures(again, field, edge, grid, coords, work);
     match measured {
         Measured::Quote(totals) => report::quote_lines(out, totals),
         Measured::Refused(refusal) => refuse(out, refusal),
     }
 }
 
-// Reads a shot file, measures the list that it holds, and puts what is printed to the front of a slice of at least 128 bytes.
-pub fn quote(bytes: &[u8], coords: &mut [u16], work: &mut [u32], out: &mut [u8]) -> usize
+// Reads a shot file, measures the list that it holds, and puts what is printed to the front.
+fn quote_file(
+    again: bool,
+    bytes: &[u8],
+    coords: &mut [u16],
+    work: &mut [u32],
+    out: &mut [u8],
+) -> usize
     requires { ⌜ 128 ≤ length (now out) ⌝ }
     ensures { λ r. ⌜ Wrote (now (out .entry)) (now (out .exit)) 0 r (quoteText (now (bytes .entry)) (length (now (coords .entry))) (length (now (work .entry)))) ⌝ }
 {
@@ -50,8 +75,24 @@ pub fn quote(bytes: &[u8], coords: &mut [u16], work: &mut [u32], out: &mut [u8])
             shots,
         } => {
             let n = 3 * shots;
-            quote_list(field, edge, grid, &coords[..n], work, out)
+            quote_list(again, field, edge, grid, &coords[..n], work, out)
         }
         ReadAnswer::Refused(refusal) => refuse(out, refusal),
     }
+}
+
+// What the quoting program prints for a shot file, put to the front of a slice of at least 128 bytes.
+pub fn quote(bytes: &[u8], coords: &mut [u16], work: &mut [u32], out: &mut [u8]) -> usize
+    requires { ⌜ 128 ≤ length (now out) ⌝ }
+    ensures { λ r. ⌜ Wrote (now (out .entry)) (now (out .exit)) 0 r (quoteText (now (bytes .entry)) (length (now (coords .entry))) (length (now (work .entry)))) ⌝ }
+{
+    quote_file(false, bytes, coords, work, out)
+}
+
+// The same text, from totals that are counted again, cell by cell.
+pub fn recount(bytes: &[u8], coords: &mut [u16], work: &mut [u32], out: &mut [u8]) -> usize
+    requires { ⌜ 128 ≤ length (now out) ⌝ }
+    ensures { λ r. ⌜ Wrote (now (out .entry)) (now (out .exit)) 0 r (quoteText (now (bytes .entry)) (length (now (coords .entry))) (length (now (work .entry)))) ⌝ }
+{
+    quote_file(true, bytes, coords, work, out)
 }

@@ -2,8 +2,8 @@
 use mathlib.Core.Path.{refl}
 use lib.ListN.{length}
 use borrow.Author.Tests.{lt-leb, le-leb}
-use Rattle.capi.specs.Answered.{recountedNumbers}
-use Rattle.capi.proofs.AnsweredLaws.{told-numbers, recounted-six}
+use Rattle.capi.specs.Answered.{measuredNumbers}
+use Rattle.capi.proofs.AnsweredLaws.{told-numbers, measured-six}
 use borrow.Author.Needs.{needs}
 use Rattle.capi.proofs.heqdanu_recount.Statement.{statement}
 use Rattle.capi.proofs.heqdanu_recount.Tie as tie
@@ -14,8 +14,8 @@ returns c = let s = c .before .before .before .before in rw (lt-leb 6 (length (s
 recount-requires : tie.Need-recount-requires
 recount-requires c κs = search needs
 
-put-recounted-requires : tie.Need-put-recounted-requires
-put-recounted-requires c κs = search needs
+put-measured-requires : tie.Need-put-measured-requires
+put-measured-requires c κs = search needs
 
 same-length : tie.Need-same-length
 same-length c = search needs
@@ -24,9 +24,9 @@ same-length-2 : tie.Need-same-length-2
 same-length-2 c = search needs
 
 returns-2 : tie.Need-returns-2
-returns-2 c = let s = c .before .before .before .before .before .before .before .before .before .before .before .before in rw (le-leb 6 (length (s .args .answer .now)) (c .before .before .before .before .before .before .before .before .if1 .left)) (refl, (c .before .before .before .before .before .before .recount .ensures .1, told-numbers recountedNumbers 6 recounted-six (s .args .answer .now) (c .before .before .put-recounted .ensures) (c .before .before .before .before .before .before .recount .ensures .0)))
+returns-2 c = let s = c .before .before .before .before .before .before .before .before .before .before .before .before in rw (le-leb 6 (length (s .args .answer .now)) (c .before .before .before .before .before .before .before .before .if1 .left)) (refl, (c .before .before .before .before .before .before .recount .ensures .1, told-numbers measuredNumbers 6 measured-six (s .args .answer .now) (c .before .before .put-measured .ensures) (c .before .before .before .before .before .before .recount .ensures .0)))
 
 pub heqdanu-recount-spec : {M : Type 1} → statement M
 heqdanu-recount-spec =
     tie.close
-    (tie.spec returns recount-requires put-recounted-requires same-length same-length-2 returns-2)
+    (tie.spec returns recount-requires put-measured-requires same-length same-length-2 returns-2)

@@ -6,8 +6,8 @@ use borrow.Author.Needs.{needs}
 use Rattle.quoting.proofs.quote_list.Statement.{statement}
 use Rattle.quoting.proofs.quote_list.Tie as tie
 
-measure-requires : tie.Need-measure-requires
-measure-requires c κs = search needs
+figures-requires : tie.Need-figures-requires
+figures-requires c κs = search needs
 
 enum-known-measured : tie.Need-enum-known-measured
 enum-known-measured c = search needs
@@ -29,7 +29,7 @@ same-length-2 c = search needs
 
 returns : tie.Need-returns
 unfolding answerText
-returns c = wrote-as (ap answerText (sym (c .before .before .before .before .before .measured .given .1) ∙ c .before .before .before .before .before .before .before .before .before .measure .ensures .0)) (c .before .before .quote-lines .ensures)
+returns c = wrote-as (ap answerText (sym (c .before .before .before .before .before .measured .given .1) ∙ c .before .before .before .before .before .before .before .before .before .figures .ensures)) (c .before .before .quote-lines .ensures)
 
 same-length-3 : tie.Need-same-length-3
 same-length-3 c = search needs
@@ -39,13 +39,13 @@ same-length-4 c = search needs
 
 returns-2 : tie.Need-returns-2
 unfolding answerText
-returns-2 c = wrote-as (ap answerText (sym (c .before .before .before .before .before .measured2 .given .1) ∙ c .before .before .before .before .before .before .before .before .before .measure .ensures .0)) (c .before .before .refuse .ensures)
+returns-2 c = wrote-as (ap answerText (sym (c .before .before .before .before .before .measured2 .given .1) ∙ c .before .before .before .before .before .before .before .before .before .figures .ensures)) (c .before .before .refuse .ensures)
 
 pub quote-list-spec : {M : Type 1} → statement M
 quote-list-spec =
     tie.close
     (tie.spec
-    measure-requires
+    figures-requires
     enum-known-measured
     quote-lines-requires
     enum-known-measured-2

@@ -6,23 +6,23 @@ use borrow.Author.Needs.{needs}
 use Rattle.recount.proofs.print_recount.Statement.{statement}
 use Rattle.recount.proofs.print_recount.Tie as tie
 
-slice-aggregate-recount-file : tie.Need-slice-aggregate-recount-file
-slice-aggregate-recount-file c = search needs
+slice-aggregate-recount : tie.Need-slice-aggregate-recount
+slice-aggregate-recount c = search needs
 
-slice-aggregate-recount-file-2 : tie.Need-slice-aggregate-recount-file-2
-slice-aggregate-recount-file-2 c = search needs
+slice-aggregate-recount-2 : tie.Need-slice-aggregate-recount-2
+slice-aggregate-recount-2 c = search needs
 
-slice-aggregate-recount-file-3 : tie.Need-slice-aggregate-recount-file-3
-slice-aggregate-recount-file-3 c = search needs
+slice-aggregate-recount-3 : tie.Need-slice-aggregate-recount-3
+slice-aggregate-recount-3 c = search needs
 
-recount-file-requires : tie.Need-recount-file-requires
-recount-file-requires c κs = search needs
+recount-requires : tie.Need-recount-requires
+recount-requires c κs = search needs
 
 array-share-prefix-out : tie.Need-array-share-prefix-out
 array-share-prefix-out c = search needs
 
 slice-aggregate-write-all : tie.Need-slice-aggregate-write-all
-slice-aggregate-write-all c = let q = c .before .before .before .before .recount-file in sym (length-take-le (q .result) (q .last .1 .1 .1 .0) (omega (arith, q .ensures .room, q .kept .1 .1 .1 .0)))
+slice-aggregate-write-all c = let q = c .before .before .before .before .recount in sym (length-take-le (q .result) (q .last .1 .1 .1 .0) (omega (arith, q .ensures .room, q .kept .1 .1 .1 .0)))
 
 write-all-requires : tie.Need-write-all-requires
 write-all-requires c κs = search needs
@@ -43,10 +43,10 @@ pub print-recount-spec : {M : Type 1} → statement M
 print-recount-spec =
     tie.close
     (tie.spec
-    slice-aggregate-recount-file
-    slice-aggregate-recount-file-2
-    slice-aggregate-recount-file-3
-    recount-file-requires
+    slice-aggregate-recount
+    slice-aggregate-recount-2
+    slice-aggregate-recount-3
+    recount-requires
     array-share-prefix-out
     slice-aggregate-write-all
     write-all-requires

@@ -5,10 +5,10 @@ use Rattle.job.specs.Checking.{checked}
 use Rattle.job.specs.declared.Refusal.the-variants.{ShortWork}
 use Rattle.job.specs.declared.Checked.the-variants.{Accepted, Refused}
 use Rattle.grid.specs.Grid.{need}
-use Rattle.measure.proofs.AnswerLaws.{refused-checked, refused-work, valid, short-checked, long-checked, long-work}
+use Rattle.intake.proofs.IntakeLaws.{refused-checked, refused-work, valid, short-checked, long-checked, long-work}
 use borrow.Author.Needs.{needs}
-use Rattle.measure.proofs.indexed.Statement.{statement}
-use Rattle.measure.proofs.indexed.Tie as tie
+use Rattle.intake.proofs.indexed.Statement.{statement}
+use Rattle.intake.proofs.indexed.Tie as tie
 
 accepted : (c : tie.After-enum-told) → checked (c .before .before .before .before .before .args .field) (c .before .before .before .before .before .args .edge) (c .before .before .before .before .before .args .grid) (c .before .before .before .before .before .args .coords .now) ≡ Accepted
 accepted c = sym (c .before .before .check .ensures) ∙ c .enum-told .given .1

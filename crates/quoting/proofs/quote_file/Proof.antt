@@ -7,8 +7,8 @@ use lib.Seq.{length-take-le}
 use Rattle.buffer.proofs.WroteLaws.{wrote-as}
 use Rattle.quoting.proofs.TextLaws.{file-room, refused-text, read-text}
 use borrow.Author.Needs.{needs}
-use Rattle.quoting.proofs.quote.Statement.{statement}
-use Rattle.quoting.proofs.quote.Tie as tie
+use Rattle.quoting.proofs.quote_file.Statement.{statement}
+use Rattle.quoting.proofs.quote_file.Tie as tie
 
 read-requires : tie.Need-read-requires
 read-requires c κs = search needs
@@ -55,8 +55,8 @@ same-length-5 c = search needs
 returns-2 : tie.Need-returns-2
 returns-2 c = let s = c .before .before .before .before .before .before .before .before .before .before .before .before .before .before .before in wrote-as (refused-text (s .args .bytes .now) (length (s .args .coords .now)) (length (s .args .work .now)) (c .before .before .before .before .before .read3 .given .0 .0) (sym (c .before .before .before .before .before .before .before .before .before .read .ensures .0) ∙ c .before .before .before .before .before .read3 .given .1)) (c .before .before .refuse .ensures)
 
-pub quote-spec : {M : Type 1} → statement M
-quote-spec =
+pub quote-file-spec : {M : Type 1} → statement M
+quote-file-spec =
     tie.close
     (tie.spec
     read-requires

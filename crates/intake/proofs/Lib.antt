@@ -1,0 +1,2 @@
+pub mod IntakeLaws
+pub mod Refused
