@@ -1,57 +1,29 @@
--- The window, the scan of a line, and what a line gives.
+-- The scan of a line, and what a line gives.
 use mathlib.Core.Path.{_≡_, refl, sym, _∙_, ap, ap₂, subst}
 use mathlib.Core.Logic.{_≢_}
-use mathlib.Core.Bool.{Bool, true, false, cond}
-use mathlib.Core.List.{List, [], _∷_, _++_, append-nil}
+use mathlib.Core.Bool.{cond}
+use mathlib.Core.List.{List, [], _++_, append-nil}
 use Prim.Native.Nat.{ℕ, zero, suc, _+_, _-_, _*_, _<_, _≤_}
 use native.Mathlib.Omega.{arith}
 use native.Mathlib.Numerals.{add-one}
 use native.Mathlib.Nat.{le-refl}
-use lib.Dec.{leb, eqb}
-use lib.ListN.{length, getD}
+use lib.ListN.{getD}
 use borrow.Author.Tests.{eq-eqb, ne-eqb, le-leb, lt-leb}
-use Rattle.job.specs.Job.{shotAt}
 use Rattle.lattice.specs.Shots.{Shot}
 use Rattle.lattice.specs.Listing.{Corner, join}
 use Rattle.lattice.specs.CornerSums.{Room}
 use Rattle.lattice.specs.declared.sums.CornerSums.{CornerSums}
 use Rattle.lattice.proofs.CornerSumLaws.{room-more}
-use Rattle.rows.specs.Runs.{runTo, shotsIn}
+use Rattle.rows.specs.Runs.{shotsIn}
 use Rattle.rows.specs.Rows.{Ends}
 use Rattle.chains.specs.Chains.{Started}
 use Rattle.chains.proofs.Laws.{ends-next}
-use Rattle.fours.specs.Fours.{lowOf, fourOf, Filled, Still, FirstChange}
+use Rattle.fours.specs.Fours.{lowOf, fourOf, Filled, Still}
 use Rattle.tally.specs.Found.{Found, state, found, spot}
 use Rattle.tally.proofs.Laws.{found-append, room-spot}
-use Rattle.line.specs.declared.Window.{Window}
 use Rattle.line.specs.Line.{turn, since, lineFrom}
-use Rattle.line.specs.Window.{Frames, Framed, FramedAt, Widened}
-use Rattle.line.specs.Promise.{Prepared, LineIn, LineOut}
+use Rattle.line.specs.Promise.{LineIn, LineOut}
 use Rattle.line.proofs.Outside.{row-none, row-is}
-
--- ---- the window
-framed-wider : (y : ℕ) {lo lo' hi hi' : ℕ} → lo' ≤ lo → hi ≤ hi' → (ts : List Shot) → Framed y lo hi ts → Framed y lo' hi' ts
-framed-wider y h k [] f = tt
-framed-wider y h k (t ∷ ts) f = ((λ a b. let r = f .0 a b in (omega arith, omega arith)), framed-wider y h k ts (f .1))
-
-module _ (y : ℕ) (t : Shot) (w : Window) (top : w .hi ≤ 1024) where
-  pub widened-below : y < t .y → Widened y t w w
-  widened-below h = record { lower = omega arith; upper = omega arith; top = top; frames = λ a b. absurd (omega arith) }
-
-  pub widened-above : t .y + t .edge < y → Widened y t w w
-  widened-above h = record { lower = omega arith; upper = omega arith; top = top; frames = λ a b. absurd (omega arith) }
-
-  pub widened-to : {w' : Window} → w' .lo ≤ w .lo → w' .lo ≤ t .z → w .hi ≤ w' .hi → t .z + t .edge ≤ w' .hi → w' .hi ≤ 1024 → Widened y t w w'
-  widened-to a b c d f = record { lower = a; upper = c; top = f; frames = λ _ _. (b, d) }
-
-pub window-none : (e : ℕ) (c run : List ℕ) (y lo hi : ℕ) → Framed y lo hi (runTo e c run 0)
-unfolding runTo
-window-none e c run y lo hi = tt
-
-pub window-more : (e : ℕ) (c run : List ℕ) (q y : ℕ) (w w' : Window) → Framed y (w .lo) (w .hi) (runTo e c run q) → Widened y (shotAt e c (getD run q 0)) w w'
-    → Framed y (w' .lo) (w' .hi) (runTo e c run (q + 1))
-unfolding runTo
-window-more e c run q y w w' f r = rw add-one (r .frames, framed-wider y (r .lower) (r .upper) (runTo e c run q) f)
 
 -- ---- the scan
 since-none : (lo : ℕ) (f : ℕ → List Corner) (k : ℕ) → k ≤ lo → join k (since lo f) ≡ []
@@ -105,27 +77,27 @@ room-point t b {t'} x y z p n m hx hy hz e h r =
     room-more t' (n + 1) m h (subst (λ (g : Found). Room (g .sums) (n + 1)) (sym e) (room-spot (state t b) x y z p n hx hy hz r))
 
 -- ---- a line
-module _ (c : List ℕ) (e x y : ℕ) (run : List ℕ) {faces heads links u0 u1 u0' u1' : List ℕ} {t : CornerSums} (a : LineIn c e x y run faces heads links u0 u1 t)
-    (s0 : Started x y (shotsIn e c run) u0 u0') (s1 : Started (x + 1) y (shotsIn e c run) u1 u1') (lo hi : ℕ) (g : Framed y lo hi (shotsIn e c faces)) where
+module _ (c : List ℕ) (e x y lo hi : ℕ) (run : List ℕ) {heads links u0 u1 u0' u1' : List ℕ} {t : CornerSums} (a : LineIn c e x y lo hi run heads links u0 u1 t)
+    (s0 : Started x y (shotsIn e c run) u0 u0') (s1 : Started (x + 1) y (shotsIn e c run) u1 u1') where
   pub line-empty : hi < lo → (b : List ℕ) → LineOut x y (shotsIn e c run) u0' u1' (state t b) (state t b)
   unfolding found
   line-empty h b = record {
     lower = ends-next x (shotsIn e c run) y (a .lower) s0;
     upper = ends-next (x + 1) (shotsIn e c run) y (a .upper) s1;
-    is = sym (ap (found (state t b)) (row-none x y lo hi (shotsIn e c run) (a .plane .faced y lo hi g) h));
+    is = sym (ap (found (state t b)) (row-none x y lo hi (shotsIn e c run) (a .window) h));
     room = room-own t 1076889600 1025 (a .room);
   }
 
-  pub line-full : hi ≤ 1024 → {low four : List ℕ} → Filled lo (hi + 2) (lowOf y u0 u1) low → Filled lo (hi + 2) (fourOf y low u0' u1') four
+  pub line-full : {low four : List ℕ} → Filled lo (hi + 2) (lowOf y u0 u1) low → Filled lo (hi + 2) (fourOf y low u0' u1') four
       → {t' : CornerSums} {b b' : List ℕ} → state t' b' ≡ found (state t b) (join (hi + 1) (lineFrom lo x y four)) → Room t' (t .corners + 1025)
       → LineOut x y (shotsIn e c run) u0' u1' (state t b) (state t' b')
-  line-full h l f {t'} {b} {b'} r m =
+  line-full l f {t'} {b} {b'} r m =
       let ts : List Shot = shotsIn e c run in
       let l0 : Ends x (y + 1) ts u0' = ends-next x ts y (a .lower) s0 in
       let l1 : Ends (x + 1) (y + 1) ts u1' = ends-next (x + 1) ts y (a .upper) s1 in
       record {
         lower = l0;
         upper = l1;
-        is = r ∙ ap (found (state t b)) (row-is x y lo hi ts (a .plane .faced y lo hi g) (a .lower) l0 (a .upper) l1 l f h);
+        is = r ∙ ap (found (state t b)) (row-is x y lo hi ts (a .window) (a .lower) l0 (a .upper) l1 l f (a .top));
         room = m;
       }

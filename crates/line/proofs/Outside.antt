@@ -19,7 +19,7 @@ use Rattle.lattice.proofs.SameSolid.{join-nil, join-end, here-none}
 use Rattle.rows.specs.Rows.{Ends}
 use Rattle.fours.specs.Fours.{lowOf, fourOf, Filled}
 use Rattle.line.specs.Line.{turn, since, lineFrom}
-use Rattle.line.specs.Window.{Frames, FaceAt, FramedAt}
+use Rattle.windows.specs.Windows.{Frames, FaceAt, FramedAt}
 use Rattle.line.proofs.Patterns.{turn-here}
 
 join-below : (n : ℕ) {f g : ℕ → List Corner} → ((i : ℕ) → i < n → f i ≡ g i) → join n f ≡ join n g

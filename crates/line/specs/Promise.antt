@@ -11,21 +11,22 @@ use Rattle.rows.specs.Runs.{InRun, shotsIn}
 use Rattle.rows.specs.Rows.{Ends}
 use Rattle.chains.specs.Chains.{begins, Chained}
 use Rattle.tally.specs.Found.{Found, found}
-use Rattle.line.specs.Window.{Framed, FramedAt}
+use Rattle.windows.specs.Windows.{FramedAt}
 
--- what all lines of the plane x share: a run, of which `faces` has all shots with a face on the plane, and the run's chains
-pub record Prepared (c : List ℕ) (e x : ℕ) (run faces heads links : List ℕ) : Type 0 where
+-- what all lines of the plane x share: a run and its chains
+pub record Prepared (c : List ℕ) (e x : ℕ) (run heads links : List ℕ) : Type 0 where
   pub in-run : InRun 1024 e c run
-  pub in-faces : InRun 1024 e c faces
-  pub faced : (y lo hi : ℕ) → Framed y lo hi (shotsIn e c faces) → FramedAt x y lo hi (shotsIn e c run)
   pub chained : Chained (begins c run) (length run) heads links
   pub heads-size : length heads ≡ 1026
   pub links-size : length run ≤ length links
   pub x-in : x ≤ 1024
 
-pub record LineIn (c : List ℕ) (e x y : ℕ) (run faces heads links u0 u1 : List ℕ) (t : CornerSums) : Type 0 where
-  pub plane : Prepared c e x run faces heads links
+-- the window from lo to hi frames the shots that have a face on the plane
+pub record LineIn (c : List ℕ) (e x y lo hi : ℕ) (run heads links u0 u1 : List ℕ) (t : CornerSums) : Type 0 where
+  pub plane : Prepared c e x run heads links
   pub y-in : y ≤ 1024
+  pub window : FramedAt x y lo hi (shotsIn e c run)
+  pub top : hi ≤ 1024
   pub lower : Ends x y (shotsIn e c run) u0
   pub upper : Ends (x + 1) y (shotsIn e c run) u1
   pub room : Room t 1076889600

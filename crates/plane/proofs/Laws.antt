@@ -3,7 +3,7 @@ use mathlib.Core.Path.{_≡_, refl, sym, _∙_, ap, ap₂, subst, fun-ext}
 use mathlib.Core.Logic.{_≢_, _⊎_, ⊎-elim, inl, inr}
 use mathlib.Core.Bool.{Bool, true, false, cond, _&&_, _||_}
 use mathlib.Core.List.{List, [], _∷_, _++_}
-use Prim.Native.Nat.{ℕ, zero, suc, _+_, _*_, _<_, _≤_}
+use Prim.Native.Nat.{ℕ, zero, suc, _+_, _-_, _*_, _<_, _≤_}
 use native.Mathlib.Omega.{arith}
 use native.Mathlib.Numerals.{add-one}
 use lib.Dec.{T, leb, eqb, le→leb}
@@ -31,11 +31,11 @@ use Rattle.marks.specs.Marks.{MarkedMore, Marked}
 use Rattle.marks.proofs.Laws as marks
 use Rattle.tally.specs.Found.{Found, state, found}
 use Rattle.tally.proofs.Laws.{found-append}
-use Rattle.line.specs.Window.{Frames, FaceAt, Framed, FramedAt}
+use Rattle.windows.specs.Windows.{Frames, FaceAt, Framed, FramedAt, Rows, Windows}
 use Rattle.line.specs.Promise.{Prepared, LineIn, LineOut}
 use Rattle.line.proofs.Laws.{room-own}
 use Rattle.line.proofs.Outside.{touch, row-none}
-use Rattle.plane.specs.Plane.{linesTo, planeOf, Faces, PlaneOut}
+use Rattle.plane.specs.Plane.{linesTo, planeOf, Faces, WindowsAt, PlaneOut}
 
 -- ---- marks
 pub marked-start : (e : ℕ) (c run row : List ℕ) → Marked y-axis (runTo e c run 0) row
@@ -53,10 +53,10 @@ unfolding any
 no-start y [] h = refl
 no-start y (t ∷ ts) h = rw (ne-eqb (t .y) y (h .0)) (no-start y ts (h .2))
 
-pub line-skip : (c : List ℕ) (e x y : ℕ) (run : List ℕ) {faces heads links u0 u1 : List ℕ} {t : CornerSums} → LineIn c e x y run faces heads links u0 u1 t
+pub line-skip : (c : List ℕ) (e x y lo hi : ℕ) (run : List ℕ) {heads links u0 u1 : List ℕ} {t : CornerSums} → LineIn c e x y lo hi run heads links u0 u1 t
     → NoFace y-axis y (shotsIn e c run) → (b : List ℕ) → LineOut x y (shotsIn e c run) u0 u1 (state t b) (state t b)
 unfolding found
-line-skip c e x y run {faces} {heads} {links} {u0} {u1} {t} a h b =
+line-skip c e x y lo hi run {heads} {links} {u0} {u1} {t} a h b =
     let ts : List Shot = shotsIn e c run in
     record {
       lower = ends-next x ts y (a .lower) (started-none x y ts u0 (no-start y ts h));
@@ -128,6 +128,21 @@ module _ (c : List ℕ) (e x : ℕ) (run faces : List ℕ) (n : ℕ) (h : n ≤ 
         is = sym (ap (found (state t b)) (join-nil (m + 1) (λ y. row-none x y 1 0 ts (framed-kept x y 1 0 ts (subst (Framed y 1 0) none tt)) (omega arith))));
         room = room-own t k 1050625 r;
       }
+
+-- the windows of the lines, from the shots with a face on the plane
+pub windows-blank : Windows (replicate 1026 0) (replicate 1026 0) []
+windows-blank = record {
+  rows = record {
+    low-size = length-replicate {A = ℕ} 1026 0;
+    high-size = length-replicate {A = ℕ} 1026 0;
+    low-in = λ y. omega (arith, zeros 1026 y);
+    high-in = λ y. omega (arith, zeros 1026 y);
+  };
+  framed = λ y. tt;
+}
+
+pub windows-at : (c : List ℕ) (e x : ℕ) (run faces : List ℕ) {lows highs : List ℕ} → Faces c e x run faces → Windows lows highs (shotsIn e c faces) → WindowsAt x lows highs (shotsIn e c run)
+windows-at c e x run faces {lows} {highs} f w = record { rows = w .rows; framed-at = λ y. f .faced y (1025 - getD lows y 0) (getD highs y 0) (w .framed y) }
 
 -- ---- the shots that touch the plane
 and-both : (a b : Bool) → T a → T b → T (a && b)

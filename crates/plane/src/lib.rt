@@ -1,5 +1,6 @@
 // The corners of one plane, the points (x, .., ..): line by line, from the shots of a run that touch the plane; only lines on a face
-// across y are looked at, and nothing at all where no shot has a face on the plane. Stands on `line`, `selection` and `marks`.
+// across y are looked at, and nothing at all where no shot has a face on the plane. Stands on `line`,
+// `windows`, `selection` and `marks`.
 ghost use mathlib.Core.Path.{_≡_};
 ghost use Prim.Native.Nat.{_+_, _≤_};
 ghost use lib.ListN.{length};
@@ -10,7 +11,7 @@ ghost use Rattle.rows.specs.Runs.{InList, InRun, shotsIn};
 ghost use Rattle.marks.specs.Marks.{MarkedMore, Marked};
 ghost use Rattle.tally.specs.Found.{state};
 ghost use Rattle.line.specs.Promise.{Prepared, LineIn, LineOut};
-ghost use Rattle.plane.specs.Plane.{UnlessMarked, Faces, PlaneOut};
+ghost use Rattle.plane.specs.Plane.{UnlessMarked, Faces, PlaneOut, WindowsAt};
 use lattice::sums::CornerSums;
 
 fn wide(x: u16) -> usize
@@ -46,8 +47,9 @@ fn line_if(
     x: u16,
     y: u16,
     mark: u8,
+    lo: usize,
+    hi: usize,
     run: &[u16],
-    faces: &[u16],
     heads: &[u16],
     links: &[u16],
     u0: &mut [u16],
@@ -55,13 +57,13 @@ fn line_if(
     t: CornerSums,
     buf: &mut [u8],
 ) -> CornerSums
-    requires { ⌜ LineIn (now c) e x y (now run) (now faces) (now heads) (now links) (now u0) (now u1) t × UnlessMarked mark y (shotsIn e (now c) (now run)) ⌝ }
+    requires { ⌜ LineIn (now c) e x y lo hi (now run) (now heads) (now links) (now u0) (now u1) t × UnlessMarked mark y (shotsIn e (now c) (now run)) ⌝ }
     ensures { λ r. ⌜ LineOut x y (shotsIn e (now (c .entry)) (now (run .entry))) (now (u0 .exit)) (now (u1 .exit)) (state t (now (buf .entry))) (state r (now (buf .exit))) ⌝ }
 {
     if mark == 0 {
         return t;
     }
-    line::line(c, e, x, y, run, faces, heads, links, u0, u1, t, buf)
+    line::line(c, e, x, y, lo, hi, run, heads, links, u0, u1, t, buf)
 }
 
 // The lines of the plane x from 0 to the side of the field. The loop counts in the width of an index, and a line takes y in the width of
@@ -72,14 +74,15 @@ fn lines(
     field: u16,
     x: u16,
     run: &[u16],
-    faces: &[u16],
+    lows: &[u16],
+    highs: &[u16],
     heads: &[u16],
     links: &[u16],
     row: &[u8],
     t: CornerSums,
     buf: &mut [u8],
 ) -> CornerSums
-    requires { ⌜ Prepared (now c) e x (now run) (now faces) (now heads) (now links) × Marked y-axis (shotsIn e (now c) (now run)) (now row) × (length (now row) ≡ 1026) × (field ≤ 1024) × Room t 1075840000 ⌝ }
+    requires { ⌜ Prepared (now c) e x (now run) (now heads) (now links) × WindowsAt x (now lows) (now highs) (shotsIn e (now c) (now run)) × Marked y-axis (shotsIn e (now c) (now run)) (now row) × (length (now row) ≡ 1026) × (field ≤ 1024) × Room t 1075840000 ⌝ }
     ensures { λ r. ⌜ PlaneOut field x (shotsIn e (now (c .entry)) (now (run .entry))) (state t (now (buf .entry))) (state r (now (buf .exit))) ⌝ }
 {
     let mut u0 = [0u16; 1026];
@@ -94,8 +97,9 @@ fn lines(
             x,
             y as u16,
             row[y],
+            windows::lowest(lows, y),
+            windows::highest(highs, y),
             run,
-            faces,
             heads,
             links,
             &mut u0,
@@ -127,7 +131,23 @@ fn plane(
     chains::link_all(c, run, &mut heads, links);
     let mut row = [0u8; 1026];
     mark_run(c, e, run, &mut row);
-    lines(c, e, field, x, run, faces, &heads, links, &row, t, buf)
+    let mut lows = [0u16; 1026];
+    let mut highs = [0u16; 1026];
+    windows::frame_all(c, e, faces, &mut lows, &mut highs);
+    lines(
+        c,
+        e,
+        field,
+        x,
+        run,
+        &lows,
+        &highs,
+        &heads,
+        links,
+        &row,
+        t,
+        buf,
+    )
 }
 
 // The same, where the faces are yet to be selected; nothing is looked at where there are none.

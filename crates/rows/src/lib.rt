@@ -22,7 +22,7 @@ fn greater(a: u16, b: u16) -> u16
 }
 
 // Raises u[a..b] to at least v.
-fn raise(u: &mut [u16], a: usize, b: usize, v: u16)
+pub fn raise(u: &mut [u16], a: usize, b: usize, v: u16)
     requires { ⌜ (a ≤ b) × (b ≤ length (now u)) ⌝ }
     ensures { λ _. ⌜ Raised (now (u .entry)) a b v (now (u .exit)) ⌝ }
 {

@@ -1,4 +1,5 @@
-use mathlib.Core.Path.{_≡_, refl, _∙_}
+-- Line after line, with the rows of ends up to the line.
+use mathlib.Core.Path.{_≡_, refl}
 use Prim.Native.Nat.{_≤_, _-_, _+_, _*_}
 use native.Mathlib.Omega.{arith}
 use lib.ListN.{length}
@@ -17,64 +18,74 @@ use Rattle.plane.proofs.lines.Reads as reads
 use Rattle.plane.proofs.lines.Lts as lts
 use Rattle.plane.proofs.line_if.Reads as line-if-reads
 use Rattle.plane.proofs.wide.Reads as wide-reads
+use Rattle.windows.proofs.highest.Reads as highest-reads
+use Rattle.windows.proofs.lowest.Reads as lowest-reads
 
 abbrev Inv-loop : tie.InvT-loop
-Inv-loop c e field x run faces heads links row buf₀ u0₀ u1₀ s₀ end y₀ buf u0 u1 s y = (y ≤ end) × Ends x y (shotsIn e c run) u0 × Ends (x + 1) y (shotsIn e c run) u1 × (state s buf ≡ found (state s₀ buf₀) (linesTo y x (shotsIn e c run))) × Room s (s₀ .corners + y * 1025) × (length buf ≡ length buf₀)
+Inv-loop c e field x run lows highs heads links row buf₀ u0₀ u1₀ s₀ end y₀ buf u0 u1 s y = (y ≤ end) × Ends x y (shotsIn e c run) u0 × Ends (x + 1) y (shotsIn e c run) u1 × (state s buf ≡ found (state s₀ buf₀) (linesTo y x (shotsIn e c run))) × Room s (s₀ .corners + y * 1025) × (length buf ≡ length buf₀)
 
 abbrev μ-loop : tie.MeasureT-loop
-μ-loop c e field x run faces heads links row buf₀ u0₀ u1₀ s₀ end y₀ buf u0 u1 s y = end - y
+μ-loop c e field x run lows highs heads links row buf₀ u0₀ u1₀ s₀ end y₀ buf u0 u1 s y = end - y
 
--- src/lib.rt:88:15
+-- src/lib.rt:91:15
 wide-requires : tie.Need-wide-requires Inv-loop μ-loop
 wide-requires c κs = search needs
 
--- src/lib.rt:88:15
+-- src/lib.rt:91:15
 add-end : tie.Need-add-end Inv-loop μ-loop
 add-end c = search needs
 
--- src/lib.rt:90:5
+-- src/lib.rt:93:5
 loop-holds : tie.Need-loop-holds Inv-loop μ-loop
-loop-holds c = (omega arith, ends-start _ _, ends-start _ _, lines-none _ _ _, room-own _ _ _ (c .before .before .before .before .before .before .before .before .pre .4), refl)
+loop-holds c = (omega arith, ends-start _ _, ends-start _ _, lines-none _ _ _, room-own _ _ _ (c .before .before .before .before .before .before .before .before .before .pre .5), refl)
 
--- src/lib.rt:95:13
+-- src/lib.rt:98:13
 cast-line-if : tie.Need-cast-line-if Inv-loop μ-loop
 cast-line-if c = search needs
 
--- src/lib.rt:96:13
+-- src/lib.rt:99:13
 shared-slice-read-line-if : tie.Need-shared-slice-read-line-if Inv-loop μ-loop
 shared-slice-read-line-if c = search needs
 
+-- src/lib.rt:100:13
+lowest-requires : tie.Need-lowest-requires Inv-loop μ-loop
+lowest-requires c κs = (omega (arith, c .before .before .before .before .before .before .before .before .before .before .before .before .pre .1 .rows .low-size), c .before .before .before .before .before .before .before .before .before .before .before .before .pre .1 .rows .low-in _)
+
 -- src/lib.rt:101:13
+highest-requires : tie.Need-highest-requires Inv-loop μ-loop
+highest-requires c κs = omega (arith, c .before .before .before .before .before .before .before .before .before .before .before .before .before .pre .1 .rows .high-size)
+
+-- src/lib.rt:105:13
 slice-aggregate-line-if : tie.Need-slice-aggregate-line-if Inv-loop μ-loop
 slice-aggregate-line-if c = search needs
 
--- src/lib.rt:102:13
+-- src/lib.rt:106:13
 slice-aggregate-line-if-2 : tie.Need-slice-aggregate-line-if-2 Inv-loop μ-loop
 slice-aggregate-line-if-2 c = search needs
 
--- src/lib.rt:91:9
+-- src/lib.rt:94:9
 line-if-requires : tie.Need-line-if-requires Inv-loop μ-loop
-line-if-requires c κs = (record { plane = c .before .before .before .before .before .before .before .before .before .before .before .before .before .before .pre .0; y-in = omega arith; lower = c .before .before .before .before .before .loop .inv .1; upper = c .before .before .before .before .before .loop .inv .2; room = room-more _ _ _ (omega (arith, c .before .before .before .before .before .before .before .before .before .before .before .before .before .before .pre .4 .few)) (c .before .before .before .before .before .loop .inv .4) }, record { none = c .before .before .before .before .before .before .before .before .before .before .before .before .before .before .pre .1 .at _ })
+line-if-requires c κs = (record { plane = c .before .before .before .before .before .before .before .before .before .before .before .before .before .before .before .before .before .pre .0; y-in = omega arith; window = rw (c .before .before .before .before .lowest .ensures, c .before .before .before .highest .ensures) (c .before .before .before .before .before .before .before .before .before .before .before .before .before .before .before .before .before .pre .1 .framed-at _); top = omega (arith, c .before .before .before .highest .ensures, c .before .before .before .before .before .before .before .before .before .before .before .before .before .before .before .before .before .pre .1 .rows .high-in (c .before .before .before .before .before .before .before .loop .y)); lower = c .before .before .before .before .before .before .before .loop .inv .1; upper = c .before .before .before .before .before .before .before .loop .inv .2; room = room-more _ _ _ (omega (arith, c .before .before .before .before .before .before .before .before .before .before .before .before .before .before .before .before .before .pre .5 .few)) (c .before .before .before .before .before .before .before .loop .inv .4) }, record { none = c .before .before .before .before .before .before .before .before .before .before .before .before .before .before .before .before .before .pre .2 .at _ })
 
--- src/lib.rt:106:9
+-- src/lib.rt:110:9
 add-y : tie.Need-add-y Inv-loop μ-loop
 add-y c = search needs
 
--- src/lib.rt:90:5
+-- src/lib.rt:93:5
 loop-less : tie.Need-loop-less Inv-loop μ-loop
 loop-less c = search needs
 
--- src/lib.rt:90:5
+-- src/lib.rt:93:5
 loop-again : tie.Need-loop-again Inv-loop μ-loop
-loop-again c = (omega arith, c .before .before .before .before .line-if .ensures .lower, c .before .before .before .before .line-if .ensures .upper, lines-more _ _ _ _ (c .before .before .before .before .before .before .before .before .before .before .loop .inv .3) (c .before .before .before .before .line-if .ensures .is), room-more _ _ _ (omega (arith, c .before .before .before .before .before .before .before .before .before .before .loop .inv .4 .few)) (c .before .before .before .before .line-if .ensures .room), search needs)
+loop-again c = (omega arith, c .before .before .before .before .line-if .ensures .lower, c .before .before .before .before .line-if .ensures .upper, lines-more _ _ _ _ (c .before .before .before .before .before .before .before .before .before .before .before .before .loop .inv .3) (c .before .before .before .before .line-if .ensures .is), room-more _ _ _ (omega (arith, c .before .before .before .before .before .before .before .before .before .before .before .before .loop .inv .4 .few)) (c .before .before .before .before .line-if .ensures .room), search needs)
 
--- src/lib.rt:69:1
+-- src/lib.rt:71:1
 same-length : tie.Need-same-length Inv-loop μ-loop
 same-length c = search needs
 
--- src/lib.rt:69:1
+-- src/lib.rt:71:1
 returns : tie.Need-returns Inv-loop μ-loop
-returns c = lines-all _ _ _ _ (c .before .loop .y) (omega arith) (c .before .before .before .before .before .before .before .before .before .before .pre .3) (c .before .loop .inv .3) (c .before .loop .inv .4)
+returns c = lines-all _ _ _ _ (c .before .loop .y) (omega arith) (c .before .before .before .before .before .before .before .before .before .before .before .pre .4) (c .before .loop .inv .3) (c .before .loop .inv .4)
 
 pub lines-spec : {M : Type 1} → statement M
 lines-spec =
@@ -87,6 +98,8 @@ lines-spec =
     loop-holds
     cast-line-if
     shared-slice-read-line-if
+    lowest-requires
+    highest-requires
     slice-aggregate-line-if
     slice-aggregate-line-if-2
     line-if-requires

@@ -1,10 +1,10 @@
--- The window of a line: the range of z of the shots that can change a pattern across the plane.
+-- The window of a line: the range of z of the shots that can change a pattern across the plane, and the rows that hold the windows of all lines.
 use mathlib.Core.Path.{_≡_}
 use mathlib.Core.Logic.{_⊎_}
 use mathlib.Core.List.{List, [], _∷_}
-use Prim.Native.Nat.{ℕ, _+_, _≤_}
+use Prim.Native.Nat.{ℕ, _+_, _-_, _≤_}
+use lib.ListN.{length, getD}
 use Rattle.lattice.specs.Shots.{Shot}
-use Rattle.line.specs.declared.Window.{Window}
 
 -- a shot that touches y lies between lo and hi on z
 abbrev pub Frames : ℕ → ℕ → ℕ → Shot → Type 0
@@ -23,9 +23,14 @@ abbrev pub FramedAt : ℕ → ℕ → ℕ → ℕ → List Shot → Type 0
 FramedAt x y lo hi [] = Unit {0}
 FramedAt x y lo hi (t ∷ ts) = (FaceAt x t → Frames y lo hi t) × FramedAt x y lo hi ts
 
--- w' is w, widened to hold t if that touches y
-pub record Widened (y : ℕ) (t : Shot) (w w' : Window) : Type 0 where
-  pub lower : w' .lo ≤ w .lo
-  pub upper : w .hi ≤ w' .hi
-  pub top : w' .hi ≤ 1024
-  pub frames : Frames y (w' .lo) (w' .hi) t
+-- two rows that hold a window for each line
+pub record Rows (lows highs : List ℕ) : Type 0 where
+  pub low-size : length lows ≡ 1026
+  pub high-size : length highs ≡ 1026
+  pub low-in : (y : ℕ) → getD lows y 0 ≤ 1025
+  pub high-in : (y : ℕ) → getD highs y 0 ≤ 1024
+
+-- the window of each line frames these shots
+pub record Windows (lows highs : List ℕ) (ts : List Shot) : Type 0 where
+  pub rows : Rows lows highs
+  pub framed : (y : ℕ) → Framed y (1025 - getD lows y 0) (getD highs y 0) ts
