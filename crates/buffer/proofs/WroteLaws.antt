@@ -1,5 +1,5 @@
 -- Lent slices: nothing, one number, and one list after another written at a place.
-use mathlib.Core.Path.{_≡_, refl, sym, ap, _∙_}
+use mathlib.Core.Path.{_≡_, refl, sym, ap, _∙_, subst}
 use mathlib.Core.List.{List, [], _∷_, _++_, append-assoc}
 use Prim.Native.Nat.{ℕ, zero, suc, _+_, _≤_, _<_}
 use native.Mathlib.Nat.{add-zero}
@@ -14,6 +14,10 @@ wrote-none w at h = record { next = sym (add-zero at); room = h; is = sym (take-
 
 pub wrote-one : (w : List ℕ) (at a : ℕ) → at < length w → Wrote w (set w at a) at (at + 1) (a ∷ [])
 wrote-one w at a h = record { next = refl; room = omega arith; is = rw (add-one at) (set-split w at a h) }
+
+-- the same list, said otherwise
+pub wrote-as : {w w' : List ℕ} {at r : ℕ} {xs ys : List ℕ} → xs ≡ ys → Wrote w w' at r xs → Wrote w w' at r ys
+wrote-as {w} {w'} {at} {r} e h = subst (Wrote w w' at r) e h
 
 module _ {w w' : List ℕ} {at r : ℕ} {xs : List ℕ} (a : Wrote w w' at r xs) where
   front : length (take at w ++ xs) ≡ r

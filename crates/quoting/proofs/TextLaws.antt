@@ -1,10 +1,9 @@
 -- The text of a file, by what reading it and measuring its list answer.
-use mathlib.Core.Path.{_≡_, refl, sym, _∙_, ap, subst}
+use mathlib.Core.Path.{_≡_, refl, sym, _∙_, ap}
 use mathlib.Core.List.{List}
 use Prim.Native.Nat.{ℕ, _*_, _/_, _≤_}
 use native.Mathlib.Omega.{arith}
 use lib.ListN.{length, take}
-use Rattle.buffer.specs.Wrote.{Wrote}
 use Rattle.job.specs.declared.Refusal.{Refusal}
 use Rattle.shotfile.specs.Files.{File, file, refused, fileIn}
 use Rattle.shotfile.specs.Calls.{readAnswer, readCoords}
@@ -15,10 +14,6 @@ use Rattle.shotfile.proofs.Shortest.{file-parts}
 use Rattle.shotfile.proofs.RoundTrip.{accepted-file}
 use Rattle.measure.specs.Answers.{measureAnswer}
 use Rattle.quoting.specs.Quoting.{refusalText, answerText, fileText, quoteText}
-
--- the same list, written otherwise
-pub wrote-as : {w w' : List ℕ} {at r : ℕ} {xs ys : List ℕ} → xs ≡ ys → Wrote w w' at r xs → Wrote w w' at r ys
-wrote-as {w} {w'} {at} {r} e h = subst (Wrote w w' at r) e h
 
 -- a file that is read has places for its shots
 pub file-room : (s : List ℕ) (places F E G n : ℕ) → readAnswer (fileIn places s) ≡ Read F E G n → 3 * n ≤ places

@@ -1,8 +1,9 @@
--- What the quoting program prints: document 01, the end of 'Jobs with known totals'. Text is a list of ASCII codes.
+-- What the quoting program prints: document 01, the end of 'Jobs with known totals'. A space is 32, the end of a line 10, the digit 0 is 48.
 use mathlib.Core.Bool.{Bool, true, false, cond}
 use mathlib.Core.List.{List, [], _∷_, _++_}
 use Prim.Native.Nat.{ℕ, zero, suc, _+_, _/_, _%_}
 use lib.Dec.{ltb}
+use Rattle.report.specs.Text.{text}
 use Rattle.lattice.specs.declared.sums.Totals.{Totals}
 
 -- a number in decimal, with at most n digits
@@ -18,21 +19,21 @@ decimal a = digits 20 a
 abbrev pub line : List ℕ → ℕ → List ℕ
 line name a = name ++ (32 ∷ (decimal a ++ (10 ∷ [])))
 
--- "volume", "area", "edge", "corners", "refused"
+-- the names
 abbrev pub volumeWord : List ℕ
-volumeWord = 118 ∷ 111 ∷ 108 ∷ 117 ∷ 109 ∷ 101 ∷ []
+volumeWord = text "volume"
 
 abbrev pub areaWord : List ℕ
-areaWord = 97 ∷ 114 ∷ 101 ∷ 97 ∷ []
+areaWord = text "area"
 
 abbrev pub edgeWord : List ℕ
-edgeWord = 101 ∷ 100 ∷ 103 ∷ 101 ∷ []
+edgeWord = text "edge"
 
 abbrev pub cornersWord : List ℕ
-cornersWord = 99 ∷ 111 ∷ 114 ∷ 110 ∷ 101 ∷ 114 ∷ 115 ∷ []
+cornersWord = text "corners"
 
 abbrev pub refusedWord : List ℕ
-refusedWord = 114 ∷ 101 ∷ 102 ∷ 117 ∷ 115 ∷ 101 ∷ 100 ∷ []
+refusedWord = text "refused"
 
 -- one name and decimal value a line
 unfoldable pub quoteLines : Totals → List ℕ

@@ -1,5 +1,6 @@
-// What the quoting program prints, put into a lent slice: the four lines of a quote, and the one line of a refusal.
-// specs/Lines.antt says what the lines are. Stands on `buffer` and on the totals of `lattice`.
+// What the quoting program prints, put into a lent slice: the four lines of a quote, and the one line of a refusal; and the parts of
+// which this and every other text is made: a byte, a word, a decimal number, a line of a word and a number.
+// specs/Text.antt says what a text is, specs/Lines.antt what the lines are. Stands on `buffer` and on the totals of `lattice`.
 ghost use mathlib.Core.List.{[], _∷_, _++_};
 ghost use mathlib.Core.Path.{_≡_};
 ghost use Prim.Native.Nat.{_+_, _%_, _≤_, _<_};
@@ -9,7 +10,7 @@ ghost use Rattle.report.specs.Lines.{digits, line, quoteLines, refusalLi
 use lattice::sums::Totals;
 
 // Puts one byte at a place, and gives the place after it.
-fn put_byte(out: &mut [u8], at: usize, b: u8) -> usize
+pub fn put_byte(out: &mut [u8], at: usize, b: u8) -> usize
     requires { ⌜ at < length (now out) ⌝ }
     ensures { λ r. ⌜ Wrote (now (out .entry)) (now (out .exit)) at r (b ∷ []) ⌝ }
 {
@@ -18,7 +19,7 @@ fn put_byte(out: &mut [u8], at: usize, b: u8) -> usize
 }
 
 // Puts the bytes of a word at a place.
-fn put_word(out: &mut [u8], at: usize, word: &[u8]) -> usize
+pub fn put_word(out: &mut [u8], at: usize, word: &[u8]) -> usize
     requires { ⌜ at + length (now word) ≤ length (now out) ⌝ }
     ensures { λ r. ⌜ Wrote (now (out .entry)) (now (out .exit)) at r (now (word .entry)) ⌝ }
 {
@@ -39,7 +40,7 @@ fn digit(a: u64) -> u8
 }
 
 // Puts a number in decimal, with at most n digits.
-fn put_digits(out: &mut [u8], at: usize, n: usize, a: u64) -> usize
+pub fn put_digits(out: &mut [u8], at: usize, n: usize, a: u64) -> usize
     requires { ⌜ at + n ≤ length (now out) ⌝ }
     ensures { λ r. ⌜ Wrote (now (out .entry)) (now (out .exit)) at r (digits n a) ⌝ }
 {
@@ -54,7 +55,7 @@ fn put_digits(out: &mut [u8], at: usize, n: usize, a: u64) -> usize
 }
 
 // Puts a line: a word, a space, a decimal value.
-fn put_line(out: &mut [u8], at: usize, word: &[u8], a: u64) -> usize
+pub fn put_line(out: &mut [u8], at: usize, word: &[u8], a: u64) -> usize
     requires { ⌜ at + length (now word) + 22 ≤ length (now out) ⌝ }
     ensures { λ r. ⌜ Wrote (now (out .entry)) (now (out .exit)) at r (line (now (word .entry)) a) ⌝ }
 {

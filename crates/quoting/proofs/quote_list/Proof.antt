@@ -1,7 +1,7 @@
 -- Each answer of measuring has its text.
 use mathlib.Core.Path.{sym, _∙_, ap}
 use Rattle.quoting.specs.Quoting.{answerText}
-use Rattle.quoting.proofs.TextLaws.{wrote-as}
+use Rattle.buffer.proofs.WroteLaws.{wrote-as}
 use borrow.Author.Needs.{needs}
 use Rattle.quoting.proofs.quote_list.Statement.{statement}
 use Rattle.quoting.proofs.quote_list.Tie as tie

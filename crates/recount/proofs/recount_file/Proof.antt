@@ -4,7 +4,8 @@ use mathlib.Core.Path.{_≡_, sym, _∙_}
 use native.Mathlib.Omega.{arith}
 use lib.ListN.{length}
 use lib.Seq.{length-take-le}
-use Rattle.recount.proofs.TextLaws.{wrote-as, file-room, refused-text, read-text}
+use Rattle.buffer.proofs.WroteLaws.{wrote-as}
+use Rattle.recount.proofs.TextLaws.{file-room, refused-text, read-text}
 use borrow.Author.Needs.{needs}
 use Rattle.recount.proofs.recount_file.Statement.{statement}
 use Rattle.recount.proofs.recount_file.Tie as tie

@@ -1,7 +1,7 @@
 -- Each answer of the recount has its text.
 use mathlib.Core.Path.{sym, _∙_, ap}
 use Rattle.recount.specs.Recounting.{answerText}
-use Rattle.recount.proofs.TextLaws.{wrote-as}
+use Rattle.buffer.proofs.WroteLaws.{wrote-as}
 use borrow.Author.Needs.{needs}
 use Rattle.recount.proofs.recount_list.Statement.{statement}
 use Rattle.recount.proofs.recount_list.Tie as tie

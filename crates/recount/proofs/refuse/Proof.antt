@@ -1,7 +1,7 @@
 -- The number and the detail are those of the refusal.
 use mathlib.Core.Path.{ap₂}
 use Rattle.report.specs.Lines.{refusalLine}
-use Rattle.recount.proofs.TextLaws.{wrote-as}
+use Rattle.buffer.proofs.WroteLaws.{wrote-as}
 use borrow.Author.Needs.{needs}
 use Rattle.recount.proofs.refuse.Statement.{statement}
 use Rattle.recount.proofs.refuse.Tie as tie
