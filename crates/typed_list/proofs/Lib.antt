@@ -2,3 +2,4 @@ pub mod Cutting
 pub mod Numbers
 pub mod Saying
 pub mod Listing
+pub mod Examples

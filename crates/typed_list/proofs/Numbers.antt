@@ -7,8 +7,9 @@ use native.Mathlib.Omega.{arith}
 use lib.Dec.{leb, eqb}
 use lib.ListN.{length, drop, getD, drop-of-length-le}
 use borrow.Author.Tests.{leb-true, le-leb, lt-leb, eq-eqb, ne-eqb}
+use Rattle.report.specs.Lines.{valueFrom}
 use Rattle.typed_list.specs.declared.entry.Number.the-variants.{Is, NoDigit, TooLarge}
-use Rattle.typed_list.specs.Entries.{digit, digitsOnly, valueFrom, numberOf, same}
+use Rattle.typed_list.specs.Entries.{digit, digitsOnly, numberOf, same}
 use Rattle.typed_list.proofs.Cutting.{here}
 
 -- ---- digits
@@ -51,7 +52,7 @@ module _ (w : List ℕ) (i : ℕ) where
     digits-all e = both (digit (getD w i 0)) (digitsOnly (drop (i + 1) w)) (sym digits-here ∙ e)
 
 -- ---- what they are worth
-value-cons : (v b : ℕ) (s : List ℕ) → valueFrom v (b ∷ s) ≡ valueFrom (10 * v + (b - 48)) s
+value-cons : (v b : ℕ) (s : List ℕ) → valueFrom v (b ∷ s) ≡ valueFrom (v * 10 + (b - 48)) s
 unfolding valueFrom
 value-cons v b s = refl
 
@@ -62,9 +63,9 @@ value-none v = refl
 pub value-least : (v : ℕ) (s : List ℕ) → v ≤ valueFrom v s
 unfolding valueFrom
 value-least v [] = omega arith
-value-least v (b ∷ s) = omega (arith, value-least (10 * v + (b - 48)) s)
+value-least v (b ∷ s) = omega (arith, value-least (v * 10 + (b - 48)) s)
 
-pub value-on : (w : List ℕ) (v i : ℕ) → i < length w → valueFrom v (drop i w) ≡ valueFrom (10 * v + (getD w i 0 - 48)) (drop (i + 1) w)
+pub value-on : (w : List ℕ) (v i : ℕ) → i < length w → valueFrom v (drop i w) ≡ valueFrom (v * 10 + (getD w i 0 - 48)) (drop (i + 1) w)
 value-on w v i h = ap (valueFrom v) (here w i h) ∙ value-cons v (getD w i 0) (drop (i + 1) w)
 
 pub value-end : (w : List ℕ) (v i : ℕ) → length w ≤ i → valueFrom v (drop i w) ≡ v

@@ -3,6 +3,7 @@ use mathlib.Core.Path.{_≡_}
 use mathlib.Core.Bool.{true, false}
 use mathlib.Core.List.{List, [], _∷_}
 use Prim.Native.Nat.{ℕ}
+use Rattle.report.specs.Text.{text}
 use Rattle.typed_list.specs.declared.entry.Setting.{Setting}
 use Rattle.typed_list.specs.declared.entry.Setting.the-variants.{Field, Edge, Grid}
 use Rattle.typed_list.specs.declared.entry.Command.{Command}
@@ -12,30 +13,30 @@ use Rattle.typed_list.specs.declared.entry.Number.the-variants.{Is, NoDi
 use Rattle.typed_list.specs.declared.entry.Mistake.the-variants.{UnknownWord, TooFewWords, TooManyWords, NoNumber, LargeNumber}
 use Rattle.typed_list.specs.declared.entry.Entry.{Entry}
 use Rattle.typed_list.specs.declared.entry.Entry.the-variants.{Nothing, Setting as Settled, Shot, Wrong}
-use Rattle.typed_list.specs.Entries.{numberOf, same, fieldWord, edgeWord, gridWord, shotWord, commandOf, onNumber, settingOf, shotOf, commanded, entryOf}
+use Rattle.typed_list.specs.Entries.{numberOf, same, commandOf, onNumber, settingOf, shotOf, commanded, entryOf}
 
 -- ---- the first word
 module _ (w : List ℕ) where
-  pub is-field : same w fieldWord ≡ true → Set Field ≡ commandOf w
+  pub is-field : same w (text "field") ≡ true → Set Field ≡ commandOf w
   unfolding commandOf
   is-field e = rw e
 
-  module _ (a : same w fieldWord ≡ false) where
-    pub is-edge : same w edgeWord ≡ true → Set Edge ≡ commandOf w
+  module _ (a : same w (text "field") ≡ false) where
+    pub is-edge : same w (text "edge") ≡ true → Set Edge ≡ commandOf w
     unfolding commandOf
     is-edge e = rw (a, e)
 
-    module _ (b : same w edgeWord ≡ false) where
-      pub is-grid : same w gridWord ≡ true → Set Grid ≡ commandOf w
+    module _ (b : same w (text "edge") ≡ false) where
+      pub is-grid : same w (text "grid") ≡ true → Set Grid ≡ commandOf w
       unfolding commandOf
       is-grid e = rw (a, b, e)
 
-      module _ (c : same w gridWord ≡ false) where
-        pub is-shot : same w shotWord ≡ true → Shoot ≡ commandOf w
+      module _ (c : same w (text "grid") ≡ false) where
+        pub is-shot : same w (text "shot") ≡ true → Shoot ≡ commandOf w
         unfolding commandOf
         is-shot e = rw (a, b, c, e)
 
-        pub is-unknown : same w shotWord ≡ false → Unknown ≡ commandOf w
+        pub is-unknown : same w (text "shot") ≡ false → Unknown ≡ commandOf w
         unfolding commandOf
         is-unknown e = rw (a, b, c, e)
 

@@ -1,8 +1,10 @@
 -- What a line says: a setting, a shot, nothing, or a mistake.
 use mathlib.Core.Bool.{Bool, true, false, cond, _&&_}
 use mathlib.Core.List.{List, [], _∷_}
-use Prim.Native.Nat.{ℕ, _+_, _-_, _*_}
+use Prim.Native.Nat.{ℕ}
 use lib.Dec.{leb, eqb}
+use Rattle.report.specs.Text.{text}
+use Rattle.report.specs.Lines.{valueFrom}
 use Rattle.typed_list.specs.declared.entry.Setting.{Setting}
 use Rattle.typed_list.specs.declared.entry.Setting.the-variants.{Field, Edge, Grid}
 use Rattle.typed_list.specs.declared.entry.Command.{Command}
@@ -22,41 +24,25 @@ unfoldable pub digitsOnly : List ℕ → Bool
 digitsOnly [] = true
 digitsOnly (b ∷ s) = digit b && digitsOnly s
 
--- what digits are worth after others that are worth v
-unfoldable pub valueFrom : ℕ → List ℕ → ℕ
-valueFrom v [] = v
-valueFrom v (b ∷ s) = valueFrom (10 * v + (b - 48)) s
-
 -- a number is decimal digits only, and at most 65,535; zeros may lead
 unfoldable pub numberOf : List ℕ → Number
 numberOf word = cond (digitsOnly word) (cond (leb (valueFrom 0 word) 65535) (Is (valueFrom 0 word)) TooLarge) NoDigit
 
 -- ---- the first word
+-- whether two words have the same bytes
 unfoldable pub same : List ℕ → List ℕ → Bool
 same [] [] = true
 same [] (b ∷ t) = false
 same (a ∷ s) [] = false
 same (a ∷ s) (b ∷ t) = eqb a b && same s t
 
--- "field", "edge", "grid", "shot"
-abbrev pub fieldWord : List ℕ
-fieldWord = 102 ∷ 105 ∷ 101 ∷ 108 ∷ 100 ∷ []
-
-abbrev pub edgeWord : List ℕ
-edgeWord = 101 ∷ 100 ∷ 103 ∷ 101 ∷ []
-
-abbrev pub gridWord : List ℕ
-gridWord = 103 ∷ 114 ∷ 105 ∷ 100 ∷ []
-
-abbrev pub shotWord : List ℕ
-shotWord = 115 ∷ 104 ∷ 111 ∷ 116 ∷ []
-
+-- `field`, `edge` and `grid` give a setting, `shot` adds a shot
 unfoldable pub commandOf : List ℕ → Command
 commandOf word =
-    cond (same word fieldWord) (Set Field)
-    (cond (same word edgeWord) (Set Edge)
-    (cond (same word gridWord) (Set Grid)
-    (cond (same word shotWord) Shoot Unknown)))
+    cond (same word (text "field")) (Set Field)
+    (cond (same word (text "edge")) (Set Edge)
+    (cond (same word (text "grid")) (Set Grid)
+    (cond (same word (text "shot")) Shoot Unknown)))
 
 -- ---- the line
 -- what a number makes of a line, or the mistake that it is

@@ -99,7 +99,7 @@ fn number_of_digits(word: &[u8]) -> Number
     let mut v = 0;
     let mut i = 0;
     while i < word.len() {
-        v = 10 * v + digit_value(word[i]);
+        v = v * 10 + digit_value(word[i]);
         if 65535 < v {
             return Number::TooLarge;
         }

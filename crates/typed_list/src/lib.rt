@@ -1,6 +1,7 @@
 // A shot list as it is typed: plain text, a setting or a shot a line. `read_text` takes a text to a list with its settings, or to its
 // first mistake. specs/Words.antt says how a text is cut, specs/Entries.antt what a line says, specs/Lists.antt what the text says.
-// `word`, `entry` and `draft` are the parts of the reading. Stands on `buffer`.
+// `word`, `entry` and `draft` are the parts of the reading. Stands on `buffer`, and on `report` for
+// the bytes of a text and the worth of digits.
 mod draft;
 mod entry;
 mod word;

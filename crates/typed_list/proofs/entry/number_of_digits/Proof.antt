@@ -6,7 +6,8 @@ use native.Mathlib.Omega.{arith}
 use lib.ListN.{length, drop, getD}
 use borrow.Author.Needs.{needs}
 use Rattle.typed_list.specs.Words.{before}
-use Rattle.typed_list.specs.Entries.{digitsOnly, valueFrom}
+use Rattle.report.specs.Lines.{valueFrom}
+use Rattle.typed_list.specs.Entries.{digitsOnly}
 use Rattle.typed_list.proofs.Numbers.{digit-range, digits-all, value-least, value-on, value-end, number-large, number-is}
 use Rattle.typed_list.proofs.entry.number_of_digits.Statement.{statement}
 use Rattle.typed_list.proofs.entry.number_of_digits.Tie as tie
@@ -33,7 +34,7 @@ add-v : tie.Need-add-v Inv-loop μ-loop
 add-v c = omega (arith, c .digit-value .ensures, digit-range (getD (c .before .before .before .before .before .args .word .now) (c .before .before .before .loop .i) 0) (digits-all (c .before .before .before .before .before .args .word .now) (c .before .before .before .loop .i) (c .before .before .loop-test .taken) (c .before .before .before .loop .inv .2) .0) .1, c .before .before .before .loop .inv .1)
 
 returns : tie.Need-returns Inv-loop μ-loop
-returns c = number-large (c .before .before .before .before .before .before .args .word .now) (c .before .before .before .before .before .before .pre) (omega (arith, c .if1 .taken, c .before .digit-value .ensures, value-least (10 * c .before .before .before .before .loop .v + (getD (c .before .before .before .before .before .before .args .word .now) (c .before .before .before .before .loop .i) 0 - 48)) (drop (c .before .before .before .before .loop .i + 1) (c .before .before .before .before .before .before .args .word .now)), value-on (c .before .before .before .before .before .before .args .word .now) (c .before .before .before .before .loop .v) (c .before .before .before .before .loop .i) (c .before .before .before .loop-test .taken), c .before .before .before .before .loop .inv .3))
+returns c = number-large (c .before .before .before .before .before .before .args .word .now) (c .before .before .before .before .before .before .pre) (omega (arith, c .if1 .taken, c .before .digit-value .ensures, value-least (c .before .before .before .before .loop .v * 10 + (getD (c .before .before .before .before .before .before .args .word .now) (c .before .before .before .before .loop .i) 0 - 48)) (drop (c .before .before .before .before .loop .i + 1) (c .before .before .before .before .before .before .args .word .now)), value-on (c .before .before .before .before .before .before .args .word .now) (c .before .before .before .before .loop .v) (c .before .before .before .before .loop .i) (c .before .before .before .loop-test .taken), c .before .before .before .before .loop .inv .3))
 
 add-i : tie.Need-add-i Inv-loop μ-loop
 add-i c = search needs
@@ -42,7 +43,7 @@ loop-less : tie.Need-loop-less Inv-loop μ-loop
 loop-less c = search needs
 
 loop-again : tie.Need-loop-again Inv-loop μ-loop
-loop-again c = (omega arith, omega arith, digits-all (c .before .before .before .before .before .before .args .word .now) (c .before .before .before .before .loop .i) (c .before .before .before .loop-test .taken) (c .before .before .before .before .loop .inv .2) .1, ap (λ (k : ℕ). valueFrom (10 * c .before .before .before .before .loop .v + k) (drop (c .before .before .before .before .loop .i + 1) (c .before .before .before .before .before .before .args .word .now))) (c .before .digit-value .ensures) ∙ (sym (value-on (c .before .before .before .before .before .before .args .word .now) (c .before .before .before .before .loop .v) (c .before .before .before .before .loop .i) (c .before .before .before .loop-test .taken)) ∙ c .before .before .before .before .loop .inv .3))
+loop-again c = (omega arith, omega arith, digits-all (c .before .before .before .before .before .before .args .word .now) (c .before .before .before .before .loop .i) (c .before .before .before .loop-test .taken) (c .before .before .before .before .loop .inv .2) .1, ap (λ (k : ℕ). valueFrom (c .before .before .before .before .loop .v * 10 + k) (drop (c .before .before .before .before .loop .i + 1) (c .before .before .before .before .before .before .args .word .now))) (c .before .digit-value .ensures) ∙ (sym (value-on (c .before .before .before .before .before .before .args .word .now) (c .before .before .before .before .loop .v) (c .before .before .before .before .loop .i) (c .before .before .before .loop-test .taken)) ∙ c .before .before .before .before .loop .inv .3))
 
 cast-t9 : tie.Need-cast-t9 Inv-loop μ-loop
 cast-t9 c = search needs
