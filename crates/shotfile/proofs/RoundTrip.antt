@@ -25,7 +25,7 @@ use Rattle.shotfile.specs.declared.reader.ReadAnswer.the-variants.{Read}
 use Rattle.shotfile.specs.declared.writer.WriteAnswer.the-variants.{Written, Refused as Unwritten}
 use Rattle.shotfile.specs.Files.{File, file, refused, fileIn, fileOf, shortest}
 use Rattle.shotfile.specs.Calls.{readAnswer, readCoords, onChecked, writeAnswer, writeBytes}
-use Rattle.shotfile.proofs.ShotsRead.{reads-threes}
+use Rattle.shotfile.proofs.ShotsRead.{reads-threes, reads-room}
 use Rattle.shotfile.proofs.ReadBack.{Small, file-read}
 use Rattle.shotfile.proofs.WriteBack.{Bytes}
 use Rattle.shotfile.proofs.Shortest.{file-parts, file-least, file-same}
@@ -132,6 +132,16 @@ accepted-file s places F E G n e = go (fileIn (length places) s) refl e
           is = q ∙ rw (← p₁, ← p₂, ← p₃);
           stored = ap (λ (k : File). take (3 * n) (readCoords k places)) q ∙ take-at cs (drop (length cs) places) (3 * n) long;
         }
+
+-- a file that is read has places for its shots
+pub file-room : (s : List ℕ) (places F E G n : ℕ) → readAnswer (fileIn places s) ≡ Read F E G n → 3 * n ≤ places
+file-room s places F E G n e = go (fileIn places s) refl e
+  where
+    go : (k : File) → fileIn places s ≡ k → readAnswer k ≡ Read F E G n → 3 * n ≤ places
+    go (refused r) q e = let z : _≡_ {A = ℕ} 0 1 = cc in absurd (omega arith)
+    go (file f cs) q e =
+        let m : length cs / 3 ≡ n = cc in
+        omega (arith, m, reads-threes (file-parts s places q .rest), reads-room (file-parts s places q .rest))
 
 -- (b) where `read` accepts a file in its shortest form, and the list is valid, `write` of what was read, with room enough, answers the
 -- file's length and writes the file's bytes; the other places keep their values

@@ -5,7 +5,8 @@ use native.Mathlib.Omega.{arith}
 use lib.ListN.{length}
 use lib.Seq.{length-take-le}
 use Rattle.buffer.proofs.WroteLaws.{wrote-as}
-use Rattle.quoting.proofs.TextLaws.{file-room, refused-text, read-text}
+use Rattle.shotfile.proofs.RoundTrip.{file-room}
+use Rattle.quoting.proofs.TextLaws.{refused-text, read-text}
 use borrow.Author.Needs.{needs}
 use Rattle.quoting.proofs.quote.Statement.{statement}
 use Rattle.quoting.proofs.quote.Tie as tie

@@ -5,7 +5,8 @@ use native.Mathlib.Omega.{arith}
 use lib.ListN.{length}
 use lib.Seq.{length-take-le}
 use Rattle.buffer.proofs.WroteLaws.{wrote-as}
-use Rattle.recount.proofs.TextLaws.{file-room, refused-text, read-text}
+use Rattle.shotfile.proofs.RoundTrip.{file-room}
+use Rattle.recount.proofs.TextLaws.{refused-text, read-text}
 use borrow.Author.Needs.{needs}
 use Rattle.recount.proofs.recount_file.Statement.{statement}
 use Rattle.recount.proofs.recount_file.Tie as tie

@@ -1,0 +1,35 @@
+// The listing program: reads a shot file from standard input and prints it as text, one record a line, with the refusal at the end where
+// there is one. What it prints is `shottext::put_text`; here are only the system calls and the sizes.
+use input::Filled;
+use libc::STDERR_FILENO;
+use libc::STDOUT_FILENO;
+ghost use Prim.Native.Nat.{_≤_};
+ghost use lib.ListN.{length};
+
+// Prints the text of a file, by way of two buffers.
+fn print_by(bytes: &[u8], coords: &mut [u16], out: &mut [u8])
+    requires { ⌜ 524288 ≤ length (now out) ⌝ }
+{
+    let n = shottext::put_text(bytes, coords, out);
+    if !io::write_all(STDOUT_FILENO, &out[..n]) {
+        io::write_all(STDERR_FILENO, b"shots: standard output cannot be written\n");
+    }
+}
+
+// Prints the text of a file.
+fn print_text(bytes: &[u8]) {
+    let mut coords = [0u16; 12288];
+    let mut out = [0u8; 524288];
+    print_by(bytes, &mut coords, &mut out);
+}
+
+fn main() {
+    let mut bytes = [0u8; 28680];
+    let filled = input::fill(&mut bytes);
+    match filled {
+        Filled::Bytes(n) => print_text(&bytes[..n]),
+        Filled::Failed => {
+            io::write_all(STDERR_FILENO, b"shots: standard input cannot be read\n");
+        }
+    }
+}
