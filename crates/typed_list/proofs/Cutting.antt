@@ -91,11 +91,11 @@ code-part line {end} e =
 
 -- ---- lines
 -- the lines after a newline, if there is one
-pub linesAfter : List ℕ → List (List ℕ)
+unfoldable pub linesAfter : List ℕ → List (List ℕ)
 linesAfter [] = []
 linesAfter (b ∷ s) = linesOf s
 
-lines-cut : (line s : List ℕ) → linesFrom line s ≡ (line ++ before newline s) ∷ linesAfter (drop (length (before newline s)) s)
+pub lines-cut : (line s : List ℕ) → linesFrom line s ≡ (line ++ before newline s) ∷ linesAfter (drop (length (before newline s)) s)
 unfolding linesFrom before linesAfter
 lines-cut line [] = ap (λ l. l ∷ []) (sym (append-nil line))
 lines-cut line (b ∷ s) = go (newline b) (lines-cut (line ++ (b ∷ [])) s)
@@ -122,11 +122,11 @@ module _ (text : List ℕ) (at : ℕ) {end : ℕ} (e : end ≡ at + length (befo
   line-more h = line-first ∙ ap (λ l. part text at end ∷ linesAfter l) (here text end h)
 
 -- ---- words
-words-blank : (b : ℕ) (s : List ℕ) → blank b ≡ true → wordsOf (b ∷ s) ≡ wordsOf s
+pub words-blank : (b : ℕ) (s : List ℕ) → blank b ≡ true → wordsOf (b ∷ s) ≡ wordsOf s
 unfolding wordsFrom
 words-blank b s e = rw e
 
-words-cut : (word s : List ℕ) → wordsFrom word s ≡ ended (word ++ before blank s) (wordsOf (drop (length (before blank s)) s))
+pub words-cut : (word s : List ℕ) → wordsFrom word s ≡ ended (word ++ before blank s) (wordsOf (drop (length (before blank s)) s))
 unfolding wordsFrom before
 words-cut word [] = ap (λ l. ended l []) (sym (append-nil word))
 words-cut word (b ∷ s) = go (blank b) refl (words-cut (word ++ (b ∷ [])) s)
@@ -137,7 +137,7 @@ words-cut word (b ∷ s) = go (blank b) refl (words-cut (word ++ (b ∷ [])) s)
     go true q e = ap (λ l. ended l (wordsFrom [] s)) (sym (append-nil word)) ∙ ap (ended (word ++ [])) (sym (words-blank b s q))
     go false q e = e ∙ ap (λ l. ended l (wordsFrom [] (drop (length (before blank s)) s))) (append-assoc word (b ∷ []) (before blank s))
 
-words-none : wordsOf [] ≡ []
+pub words-none : wordsOf [] ≡ []
 unfolding wordsFrom
 words-none = refl
 
@@ -145,7 +145,7 @@ words-none = refl
 pub words-skip : (line : List ℕ) (i : ℕ) → i < length line → blank (getD line i 0) ≡ true → wordsOf (drop i line) ≡ wordsOf (drop (i + 1) line)
 words-skip line i h e = ap wordsOf (here line i h) ∙ words-blank (getD line i 0) (drop (i + 1) line) e
 
-ended-some : (word : List ℕ) (words : List (List ℕ)) → 0 < length word → ended word words ≡ word ∷ words
+pub ended-some : (word : List ℕ) (words : List (List ℕ)) → 0 < length word → ended word words ≡ word ∷ words
 ended-some [] words h = absurd (omega arith)
 ended-some (b ∷ word) words h = refl
 

@@ -3,3 +3,4 @@ pub mod Numbers
 pub mod Saying
 pub mod Listing
 pub mod Examples
+pub mod Printed

@@ -13,7 +13,7 @@ use Rattle.typed_list.specs.Entries.{digit, digitsOnly, numberOf, same}
 use Rattle.typed_list.proofs.Cutting.{here}
 
 -- ---- digits
-both : (a b : Bool) → a && b ≡ true → (a ≡ true) × (b ≡ true)
+pub both : (a b : Bool) → a && b ≡ true → (a ≡ true) × (b ≡ true)
 both true b e = (refl, e)
 both false b e = let z : _≡_ {A = ℕ} 0 1 = cc in absurd (omega arith)
 
