@@ -1,7 +1,6 @@
 -- Examples of what a text says, by computation: settings and shots, with comments and blanks, and mistakes.
 use mathlib.Core.Path.{_≡_, refl}
-use mathlib.Core.List.{List, [], _∷_, _++_}
-use Prim.Native.Nat.{ℕ}
+use mathlib.Core.List.{[], _∷_}
 use Prim.Native.String.{String}
 use Rattle.report.specs.Text.{text}
 use Rattle.report.specs.Lines.{valueFrom}

@@ -192,7 +192,7 @@ pub record Storing (all w w' : List ℕ) (n : ℕ) (rest : List ℕ) : Type 0 wh
   pub wrote : Wrote w w' 0 n (take n all)
   pub left : drop n all ≡ rest
 
-shots-cons : (l : List ℕ) (lines : List (List ℕ)) → shotsIn (l ∷ lines) ≡ coordsOf (lineEntry l) ++ shotsIn lines
+pub shots-cons : (l : List ℕ) (lines : List (List ℕ)) → shotsIn (l ∷ lines) ≡ coordsOf (lineEntry l) ++ shotsIn lines
 unfolding shotsIn
 shots-cons l lines = refl
 

@@ -1,21 +1,20 @@
 -- Text that is printed reads back: lines that end with a newline, words and decimal numbers with spaces between them, and comments. Assumes nothing.
-use mathlib.Core.Path.{_≡_, refl, sym, ap, subst, _∙_}
+use mathlib.Core.Path.{_≡_, refl, sym, ap, _∙_}
 use mathlib.Core.Bool.{Bool, true, false, not, cond, _&&_}
 use mathlib.Core.List.{List, [], _∷_, _++_, append-nil}
-use Prim.Native.Nat.{ℕ, zero, suc, _+_, _/_, _%_, _^_, _≤_, _<_}
+use Prim.Native.Nat.{ℕ, zero, suc, _+_, _/_, _%_, _≤_, _<_}
 use native.Mathlib.Omega.{arith}
-use lib.Dec.{ltb, leb, eqb}
+use lib.Dec.{ltb}
 use lib.ListN.{length, drop, length-append}
 use lib.Seq.{drop-append-seam}
 use borrow.Author.Tests.{le-leb, ne-eqb, not-true}
-use Rattle.report.specs.Text.{text}
 use Rattle.report.specs.Lines.{digits, decimal}
 use Rattle.report.proofs.LineLaws.{decimal-value}
 use Rattle.typed_list.specs.declared.entry.Setting.{Setting}
 use Rattle.typed_list.specs.declared.entry.Number.the-variants.{Is}
 use Rattle.typed_list.specs.declared.entry.Entry.the-variants.{Setting as Settled, Shot}
-use Rattle.typed_list.specs.Words.{before, newline, hash, blank, linesOf, uncommented, ended, wordsFrom, wordsOf}
-use Rattle.typed_list.specs.Entries.{digit, digitsOnly, numberOf, onNumber, settingOf, shotOf}
+use Rattle.typed_list.specs.Words.{before, newline, hash, blank, linesOf, ended, wordsOf}
+use Rattle.typed_list.specs.Entries.{digitsOnly, numberOf, onNumber, settingOf, shotOf}
 use Rattle.typed_list.proofs.Cutting.{linesAfter, lines-cut, words-cut, words-blank, words-none, ended-some}
 use Rattle.typed_list.proofs.Numbers.{both, number-is}
 
