@@ -78,7 +78,9 @@ refused-has t = subst Has (sym (lines-cut [] (text "refused " ++ t))) (here {m =
 
 refusal-has : (r : Refusal) (rest : List ℕ) → Has (linesOf (refusedLine r ++ rest))
 unfolding refusedLine
-refusal-has r rest = subst (λ (k : List ℕ). Has (linesOf k)) (parts (text "refused ") (decimal (numberOf r)) (place (numberOf r) (detailOf r) ++ (text ": " ++ (sentence r ++ text "\n")))) (refused-has (decimal (numberOf r) ++ ((place (numberOf r) (detailOf r) ++ (text ": " ++ (sentence r ++ text "\n"))) ++ rest)))
+refusal-has r rest =
+    let words : List ℕ = place (numberOf r) (detailOf r) ++ (text ": " ++ (sentence r ++ text "\n")) in
+    subst (λ (k : List ℕ). Has (linesOf k)) (parts (text "refused ") (decimal (numberOf r)) words) (refused-has (decimal (numberOf r) ++ (words ++ rest)))
   where
     parts : (a b c : List ℕ) → a ++ (b ++ (c ++ rest)) ≡ ((a ++ b) ++ c) ++ rest
     parts a b c = simp append-assoc
@@ -86,14 +88,24 @@ refusal-has r rest = subst (λ (k : List ℕ). Has (linesOf k)) (parts (text "re
 -- ---- settings and shots in front
 settings-keep : (m : ℕ) (f : Fields) (rest : List ℕ) → Has (linesOf rest) → Has (linesOf (settings m f ++ rest))
 unfolding settings settingLine
-settings-keep m f rest h = after (settings m f ++ rest) (settingLine (text "field ") (f .first) (m % 2) ++ (settingLine (text "edge ") (f .second) (m / 2 % 2) ++ (labelled (text "grid ") (f .third) ++ note (m / 4)))) rest h (parts (settingLine (text "field ") (f .first) (m % 2)) (settingLine (text "edge ") (f .second) (m / 2 % 2)) (labelled (text "grid ") (f .third)) (note (m / 4)) (text "\n"))
+settings-keep m f rest h =
+    let a : List ℕ = settingLine (text "field ") (f .first) (m % 2) in
+    let b : List ℕ = settingLine (text "edge ") (f .second) (m / 2 % 2) in
+    let c : List ℕ = labelled (text "grid ") (f .third) in
+    after (settings m f ++ rest) (a ++ (b ++ (c ++ note (m / 4)))) rest h (parts a b c (note (m / 4)) (text "\n"))
   where
     parts : (a b c d e : List ℕ) → (a ++ (b ++ (c ++ d))) ++ (e ++ rest) ≡ (a ++ (b ++ (c ++ (d ++ e)))) ++ rest
     parts a b c d e = simp append-assoc
 
 shot-keep : (f : Fields) (n at : ℕ) (rest : List ℕ) → Has (linesOf rest) → Has (linesOf (shotLine f n at ++ rest))
 unfolding shotLine
-shot-keep f n at rest h = after (shotLine f n at ++ rest) (labelled (text "shot ") (f .first) ++ (labelled (text " ") (f .second) ++ (labelled (text " ") (f .third) ++ (labelled (text " # number ") n ++ labelled (text ", byte ") at)))) rest h (parts (labelled (text "shot ") (f .first)) (labelled (text " ") (f .second)) (labelled (text " ") (f .third)) (labelled (text " # number ") n) (labelled (text ", byte ") at) (text "\n"))
+shot-keep f n at rest h =
+    let a : List ℕ = labelled (text "shot ") (f .first) in
+    let b : List ℕ = labelled (text " ") (f .second) in
+    let c : List ℕ = labelled (text " ") (f .third) in
+    let d : List ℕ = labelled (text " # number ") n in
+    let e : List ℕ = labelled (text ", byte ") at in
+    after (shotLine f n at ++ rest) (a ++ (b ++ (c ++ (d ++ e)))) rest h (parts a b c d e (text "\n"))
   where
     parts : (a b c d e g : List ℕ) → (a ++ (b ++ (c ++ (d ++ e)))) ++ (g ++ rest) ≡ (a ++ (b ++ (c ++ (d ++ (e ++ g))))) ++ rest
     parts a b c d e g = simp append-assoc

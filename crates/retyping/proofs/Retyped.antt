@@ -66,12 +66,12 @@ abbrev more : Draft → ℕ → Draft
 more d k = record { field = d .field; edge = d .edge; grid = d .grid; shots = d .shots + k }
 
 module _ (s : List ℕ) where
-  lines-end : (left n : ℕ) (c : Cursor) → length s ≤ c .at → shotLines left n s c ≡ []
+  pub lines-end : (left n : ℕ) (c : Cursor) → length s ≤ c .at → shotLines left n s c ≡ []
   unfolding shotLines
   lines-end zero n c h = rw (le-ltb (c .at) (length s) h)
   lines-end (suc left) n c h = rw (sym (step-end s c h))
 
-  lines-shot : (left n : ℕ) (c : Cursor) {f : Fields} {end : ℕ} → c .at < length s → recordAt s (c .at) (c .previous) ≡ Whole f end
+  pub lines-shot : (left n : ℕ) (c : Cursor) {f : Fields} {end : ℕ} → c .at < length s → recordAt s (c .at) (c .previous) ≡ Whole f end
       → shotLines (suc left) n s c ≡ shotLine f n (c .at) ++ shotLines left (n + 1) s (record { at = end; previous = f })
   unfolding shotLines
   lines-shot left n c {f} {end} h e = rw (sym (step-on s c h (Whole f end) (sym e)))
@@ -135,7 +135,7 @@ module _ (s : List ℕ) (places : ℕ) (f : Fields) (coords : List ℕ) (e : fil
   valid : Valid (f .first) (f .second) (f .third) coords
   valid = accepted-valid (f .first) (f .second) (f .third) coords .0 a
 
-  file-text : fileText places s ≡ settings (getD s 0 0) f ++ shotLines 4096 0 s (firstShot (file-parts s places e .end))
+  pub file-text : fileText places s ≡ settings (getD s 0 0) f ++ shotLines 4096 0 s (firstShot (file-parts s places e .end))
   unfolding fileText
   file-text =
       ap (recordsText places s) (file-parts s places e .header)
