@@ -1,3 +1,4 @@
 pub mod LineLaws
 pub mod ShotLaws
 pub mod TextLaws
+pub mod Listing
