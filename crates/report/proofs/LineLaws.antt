@@ -13,7 +13,7 @@ use lib.Seq.{take-suc, take-all}
 use borrow.Author.Tests.{lt-ltb, le-ltb}
 use Rattle.buffer.specs.Wrote.{Wrote}
 use Rattle.buffer.proofs.WroteLaws.{wrote-none, wrote-then}
-use Rattle.report.specs.Lines.{digits, decimal, line}
+use Rattle.report.specs.Lines.{digits, decimal, line, valueFrom}
 
 -- ---- a word, byte after byte
 pub word-more : {w w' w'' : List ℕ} {at r r' : ℕ} (word : List ℕ) (i : ℕ) → i < length word → Wrote w w' at r (take i word) → Wrote w' w'' r r' (getD word i 0 ∷ []) → Wrote w w'' at r' (take (i + 1) word)
@@ -64,10 +64,6 @@ line-length word a =
     omega (arith, length-append word (32 ∷ (digits 20 a ++ (10 ∷ []))), length-append (digits 20 a) (10 ∷ []), digits-length 20 a)
 
 -- ---- what a decimal number is worth
-pub valueFrom : ℕ → List ℕ → ℕ
-valueFrom v [] = v
-valueFrom v (d ∷ ds) = valueFrom (v * 10 + (d - 48)) ds
-
 value-append : (v : ℕ) (a b : List ℕ) → valueFrom v (a ++ b) ≡ valueFrom (valueFrom v a) b
 unfolding valueFrom
 value-append v [] b = refl

@@ -1,7 +1,7 @@
 -- What the quoting program prints: document 01, the end of 'Jobs with known totals'. A space is 32, the end of a line 10, the digit 0 is 48.
 use mathlib.Core.Bool.{Bool, true, false, cond}
 use mathlib.Core.List.{List, [], _∷_, _++_}
-use Prim.Native.Nat.{ℕ, zero, suc, _+_, _/_, _%_}
+use Prim.Native.Nat.{ℕ, zero, suc, _+_, _-_, _*_, _/_, _%_}
 use lib.Dec.{ltb}
 use Rattle.report.specs.Text.{text}
 use Rattle.lattice.specs.declared.sums.Totals.{Totals}
@@ -14,6 +14,11 @@ digits (suc n) a = cond (ltb a 10) [] (digits n (a / 10)) ++ ((48 + a % 10) ∷ 
 -- a 64-bit number has at most twenty
 abbrev pub decimal : ℕ → List ℕ
 decimal a = digits 20 a
+
+-- what decimal digits are worth, after digits that are worth v
+unfoldable pub valueFrom : ℕ → List ℕ → ℕ
+valueFrom v [] = v
+valueFrom v (d ∷ ds) = valueFrom (v * 10 + (d - 48)) ds
 
 -- a name, a space, a decimal value, and the end of the line
 abbrev pub line : List ℕ → ℕ → List ℕ

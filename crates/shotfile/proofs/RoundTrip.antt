@@ -39,7 +39,7 @@ abbrev settings : ℕ → ℕ → ℕ → Fields
 settings F E G = record { first = F; second = E; third = G }
 
 -- the coordinates of a valid list are of 16 bits
-small-coords : (F E : ℕ) (coords : List ℕ) → F ≤ 1024 → length coords % 3 ≡ 0 → AllInField F (shotsOf E coords) → Small coords
+pub small-coords : (F E : ℕ) (coords : List ℕ) → F ≤ 1024 → length coords % 3 ≡ 0 → AllInField F (shotsOf E coords) → Small coords
 unfolding shotsOf
 small-coords F E [] h t a = tt
 small-coords F E (x ∷ []) h t a = absurd (omega arith)

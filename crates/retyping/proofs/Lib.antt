@@ -1,0 +1,4 @@
+pub mod Lines
+pub mod Retyped
+pub mod Fits
+pub mod Refused

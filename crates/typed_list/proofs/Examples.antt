@@ -1,0 +1,37 @@
+-- Examples of what a text says, by computation: settings and shots, with comments and blanks, and mistakes.
+use mathlib.Core.Path.{_≡_, refl}
+use mathlib.Core.List.{[], _∷_}
+use Prim.Native.String.{String}
+use Rattle.report.specs.Text.{text}
+use Rattle.report.specs.Lines.{valueFrom}
+use Rattle.typed_list.specs.declared.entry.Mistake.the-variants.{UnknownWord, TooFewWords, TooManyWords, NoNumber, LargeNumber, SettingTwice, NoPlace}
+use Rattle.typed_list.specs.declared.Typed.{Typed}
+use Rattle.typed_list.specs.declared.Typed.the-variants.{List as Listed, Mistake as Mistaken}
+use Rattle.typed_list.specs.Words.{before, linesFrom, linesOf, wordsFrom}
+use Rattle.typed_list.specs.Entries.{digitsOnly, numberOf, same, commandOf, onNumber, settingOf, shotOf, commanded, entryOf}
+use Rattle.typed_list.specs.Lists.{nothingYet, settled, shotMore, then, typedFrom, typedList, shotsIn}
+
+-- with places for two shots
+abbrev says : String → Typed → Type 0
+says t answer = typedList 6 (text t) ≡ answer
+
+pub examples :
+    says "" (Listed 1024 16 8 0)
+    × says "\n\n" (Listed 1024 16 8 0)
+    × says "# nothing but a comment" (Listed 1024 16 8 0)
+    × says "field 8\nedge 2\ngrid 8 # default\nshot 0 0 0 # number 0, byte 7\nshot 1 1 1 # number 1, byte 8\n" (Listed 8 2 8 2)
+    × says "shot 1 1 1\n  field  0008#no blank before the comment" (Listed 8 16 8 1)
+    × says "field 65535" (Listed 65535 16 8 0)
+    × says "field 65536" (Mistaken 1 LargeNumber)
+    × says "field 8\nrefused 5 at byte 8" (Mistaken 2 UnknownWord)
+    × says "fields 8" (Mistaken 1 UnknownWord)
+    × says "\n\nfield" (Mistaken 3 TooFewWords)
+    × says "field 8 8" (Mistaken 1 TooManyWords)
+    × says "shot 1 2" (Mistaken 1 TooFewWords)
+    × says "shot 1 2 3 4" (Mistaken 1 TooManyWords)
+    × says "shot 1 -2 3" (Mistaken 1 NoNumber)
+    × says "edge 2\nedge 2" (Mistaken 2 SettingTwice)
+    × says "shot 1 1 1\nshot 1 1 1\nshot 1 1 1" (Mistaken 3 NoPlace)
+    × (shotsIn (linesOf (text "shot 1 2 3\nedge 2\nshot 4 5 6 # the second")) ≡ 1 ∷ 2 ∷ 3 ∷ 4 ∷ 5 ∷ 6 ∷ [])
+unfolding before linesFrom wordsFrom digitsOnly valueFrom numberOf same commandOf onNumber settingOf shotOf commanded entryOf nothingYet settled shotMore then typedFrom typedList shotsIn
+examples = (refl, refl, refl, refl, refl, refl, refl, refl, refl, refl, refl, refl, refl, refl, refl, refl, refl)

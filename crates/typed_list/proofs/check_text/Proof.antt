@@ -1,0 +1,81 @@
+-- The invariant: what the text says is what the lines from `at` on say after those above.
+use mathlib.Core.Path.{_≡_, sym, _∙_}
+use Prim.Native.Nat.{_+_, _-_, _≤_}
+use native.Mathlib.Omega.{arith}
+use lib.ListN.{length, drop}
+use borrow.Author.Needs.{needs}
+use Rattle.typed_list.specs.Lists.{typedFrom, typedList}
+use Rattle.typed_list.specs.Words.{linesOf, newline}
+use Rattle.typed_list.proofs.Cutting.{before-within, line-first, line-last, line-more}
+use Rattle.typed_list.proofs.Listing.{typed-end, typed-stops, typed-goes, typed-start}
+use Rattle.typed_list.proofs.check_text.Statement.{statement}
+use Rattle.typed_list.proofs.check_text.Tie as tie
+
+abbrev Inv-loop : tie.InvT-loop
+Inv-loop text places d₀ at₀ line₀ d at line = (at ≤ length text) × (line ≤ at + 1) × (typedFrom places d line (linesOf (drop at text)) ≡ typedList places text)
+
+abbrev μ-loop : tie.MeasureT-loop
+μ-loop text places d₀ at₀ line₀ d at line = length text - at
+
+nothing-yet-requires : tie.Need-nothing-yet-requires Inv-loop μ-loop
+nothing-yet-requires c κs = search needs
+
+loop-holds : tie.Need-loop-holds Inv-loop μ-loop
+loop-holds c = (omega arith, omega arith, typed-start (c .before .before .args .places) (c .before .before .args .text .now) (c .nothing-yet .ensures))
+
+until-requires : tie.Need-until-requires Inv-loop μ-loop
+until-requires c κs = search needs
+
+line-at-requires : tie.Need-line-at-requires Inv-loop μ-loop
+line-at-requires c κs = (omega (arith, c .until .ensures), before-within newline (c .before .before .before .before .args .text .now) (c .before .loop .at) (c .until .ensures) (c .before .loop .inv .0))
+
+then-requires : tie.Need-then-requires Inv-loop μ-loop
+then-requires c κs = search needs
+
+enum-known-next : tie.Need-enum-known-next Inv-loop μ-loop
+enum-known-next c = search needs
+
+enum-known-mistake : tie.Need-enum-known-mistake Inv-loop μ-loop
+enum-known-mistake c = search needs
+
+returns : tie.Need-returns Inv-loop μ-loop
+returns c = sym (typed-stops (c .before .before .before .before .before .before .before .before .before .args .places) (c .before .before .before .before .before .before .loop .d) (c .before .before .before .before .before .before .loop .line) (line-first (c .before .before .before .before .before .before .before .before .before .args .text .now) (c .before .before .before .before .before .before .loop .at) (c .before .before .before .before .before .until .ensures)) (c .before .before .before .before .line-at .ensures) (sym (c .before .mistake .given .1) ∙ c .before .before .before .then .ensures)) ∙ c .before .before .before .before .before .before .loop .inv .2
+
+list-of-requires : tie.Need-list-of-requires Inv-loop μ-loop
+list-of-requires c κs = search needs
+
+returns-2 : tie.Need-returns-2 Inv-loop μ-loop
+returns-2 c = c .list-of .ensures ∙ (sym (typed-end (c .before .before .before .before .before .before .before .before .before .before .before .args .places) (c .before .before .before .next .given .0 .0) (c .before .before .before .before .before .before .before .before .loop .line + 1)) ∙ (sym (typed-goes (c .before .before .before .before .before .before .before .before .before .before .before .args .places) (c .before .before .before .before .before .before .before .before .loop .d) (c .before .before .before .before .before .before .before .before .loop .line) (line-last (c .before .before .before .before .before .before .before .before .before .before .before .args .text .now) (c .before .before .before .before .before .before .before .before .loop .at) (c .before .before .before .before .before .before .before .until .ensures) (c .before .if1 .taken)) (c .before .before .before .before .before .before .line-at .ensures) (sym (c .before .before .before .next .given .1) ∙ c .before .before .before .before .before .then .ensures)) ∙ c .before .before .before .before .before .before .before .before .loop .inv .2))
+
+add-at : tie.Need-add-at Inv-loop μ-loop
+add-at c = search needs
+
+add-line : tie.Need-add-line Inv-loop μ-loop
+add-line c = search needs
+
+loop-less : tie.Need-loop-less Inv-loop μ-loop
+loop-less c = search needs
+
+loop-again : tie.Need-loop-again Inv-loop μ-loop
+loop-again c = (omega (arith, c .before .before .before .before .before .before .until .ensures), omega (arith, c .before .before .before .before .before .before .until .ensures, c .before .before .before .before .before .before .before .loop .inv .1), sym (typed-goes (c .before .before .before .before .before .before .before .before .before .before .args .places) (c .before .before .before .before .before .before .before .loop .d) (c .before .before .before .before .before .before .before .loop .line) (line-more (c .before .before .before .before .before .before .before .before .before .before .args .text .now) (c .before .before .before .before .before .before .before .loop .at) (c .before .before .before .before .before .before .until .ensures) (c .if1 .left)) (c .before .before .before .before .before .line-at .ensures) (sym (c .before .before .next .given .1) ∙ c .before .before .before .before .then .ensures)) ∙ c .before .before .before .before .before .before .before .loop .inv .2)
+
+pub check-text-spec : {M : Type 1} → statement M
+check-text-spec =
+    tie.close
+    (tie.spec
+    Inv-loop
+    μ-loop
+    nothing-yet-requires
+    loop-holds
+    until-requires
+    line-at-requires
+    then-requires
+    enum-known-next
+    enum-known-mistake
+    returns
+    list-of-requires
+    returns-2
+    add-at
+    add-line
+    loop-less
+    loop-again)

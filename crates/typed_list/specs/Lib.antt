@@ -1,0 +1,4 @@
+pub mod Words
+pub mod Entries
+pub mod Lists
+pub mod Cursors

@@ -1,0 +1,92 @@
+-- What a text says: a list with its settings, or its first mistake.
+use mathlib.Core.Bool.{true, false, cond}
+use mathlib.Core.List.{List, [], _∷_, _++_}
+use Prim.Native.Nat.{ℕ, suc, _+_, _*_}
+use lib.Dec.{ltb, leb}
+use lib.ListN.{length, drop}
+use Rattle.typed_list.specs.declared.entry.Setting.{Setting}
+use Rattle.typed_list.specs.declared.entry.Setting.the-variants.{Field, Edge, Grid}
+use Rattle.typed_list.specs.declared.entry.Mistake.the-variants.{SettingTwice, TooManyShots, NoPlace}
+use Rattle.typed_list.specs.declared.entry.Entry.{Entry}
+use Rattle.typed_list.specs.declared.entry.Entry.the-variants.{Nothing, Setting as Settled, Shot, Wrong}
+use Rattle.typed_list.specs.declared.draft.Given.{Given}
+use Rattle.typed_list.specs.declared.draft.Draft.{Draft}
+use Rattle.typed_list.specs.declared.draft.Next.{Next}
+use Rattle.typed_list.specs.declared.draft.Next.the-variants.{Goes, Stops}
+use Rattle.typed_list.specs.declared.Typed.{Typed}
+use Rattle.typed_list.specs.declared.Typed.the-variants.{List as Listed, Mistake as Mistaken}
+use Rattle.typed_list.specs.Words.{linesOf, uncommented, wordsOf}
+use Rattle.typed_list.specs.Entries.{entryOf}
+
+-- what a line says
+abbrev pub lineEntry : List ℕ → Entry
+lineEntry line = entryOf (wordsOf (uncommented line))
+
+-- ---- the lines above
+-- a setting that no line has given yet, and one that a line gave
+abbrev pub absent : ℕ → Given
+absent n = record { number = n; given = false }
+
+abbrev pub given : ℕ → Given
+given n = record { number = n; given = true }
+
+-- before the first line: the shot file's defaults, and no shots
+unfoldable pub nothingYet : Draft
+nothingYet = record { field = absent 1024; edge = absent 16; grid = absent 8; shots = 0 }
+
+-- a setting stands at most once
+unfoldable pub settled : Draft → Setting → ℕ → Next
+settled d Field n = cond (d .field .given) (Stops SettingTwice) (Goes (record { field = given n; edge = d .edge; grid = d .grid; shots = d .shots }))
+settled d Edge n = cond (d .edge .given) (Stops SettingTwice) (Goes (record { field = d .field; edge = given n; grid = d .grid; shots = d .shots }))
+settled d Grid n = cond (d .grid .given) (Stops SettingTwice) (Goes (record { field = d .field; edge = d .edge; grid = given n; shots = d .shots }))
+
+-- at most 4,096 shots, and no more than there are places for
+unfoldable pub shotMore : ℕ → Draft → Next
+shotMore places d =
+    cond (ltb (d .shots) 4096)
+    (cond (leb (3 * d .shots + 3) places)
+    (Goes (record { field = d .field; edge = d .edge; grid = d .grid; shots = d .shots + 1 }))
+    (Stops NoPlace))
+    (Stops TooManyShots)
+
+-- the lines above and one more
+unfoldable pub then : ℕ → Draft → Entry → Next
+then places d Nothing = Goes d
+then places d (Settled s n) = settled d s n
+then places d (Shot x y z) = shotMore places d
+then places d (Wrong m) = Stops m
+
+-- ---- the text
+-- the list of all lines
+abbrev pub listed : Draft → Typed
+listed d = Listed (d .field .number) (d .edge .number) (d .grid .number) (d .shots)
+
+abbrev pub onNext : Next → ℕ → (Draft → Typed) → Typed
+onNext (Goes d) line more = more d
+onNext (Stops m) line more = Mistaken line m
+
+-- the lines from a number on, after those above; the first mistake decides
+unfoldable pub typedFrom : ℕ → Draft → ℕ → List (List ℕ) → Typed
+typedFrom places d line [] = listed d
+typedFrom places d line (l ∷ lines) = onNext (then places d (lineEntry l)) line (λ d'. typedFrom places d' (suc line) lines)
+
+-- lines are counted from 1; for the shots' coordinates there are so many places
+unfoldable pub typedList : ℕ → List ℕ → Typed
+typedList places text = typedFrom places nothingYet 1 (linesOf text)
+
+-- ---- the coordinates
+abbrev pub coordsOf : Entry → List ℕ
+coordsOf Nothing = []
+coordsOf (Settled s n) = []
+coordsOf (Shot x y z) = x ∷ y ∷ z ∷ []
+coordsOf (Wrong m) = []
+
+-- the coordinates of the shots of these lines
+unfoldable pub shotsIn : List (List ℕ) → List ℕ
+shotsIn [] = []
+shotsIn (l ∷ lines) = coordsOf (lineEntry l) ++ shotsIn lines
+
+-- the first places are the shots' coordinates, and the others keep their values, as all do after a mistake
+unfoldable pub stored : Typed → List ℕ → List ℕ → List ℕ
+stored (Listed field edge grid shots) text places = shotsIn (linesOf text) ++ drop (length (shotsIn (linesOf text))) places
+stored (Mistaken line m) text places = places

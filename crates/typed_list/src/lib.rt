@@ -1,0 +1,155 @@
+// A shot list as it is typed: plain text, a setting or a shot a line. `read_text` takes a text to a list with its settings, or to its
+// first mistake. specs/Words.antt says how a text is cut, specs/Entries.antt what a line says, specs/Lists.antt what the text says.
+// `word`, `entry` and `draft` are the parts of the reading. Stands on `buffer`, and on `report` for
+// the bytes of a text and the worth of digits.
+mod draft;
+mod entry;
+mod word;
+
+use crate::draft::Draft;
+use crate::draft::Next;
+use crate::draft::nothing_yet;
+use crate::draft::then;
+use crate::entry::Entry;
+use crate::entry::read_line;
+use crate::word::End;
+use crate::word::until;
+pub use entry::Mistake;
+ghost use mathlib.Core.Path.{_≡_};
+ghost use mathlib.Core.List.{[], _∷_, _++_};
+ghost use Prim.Native.Nat.{_+_, _≤_};
+ghost use lib.ListN.{length, drop};
+ghost use Rattle.buffer.specs.Wrote.{Wrote};
+ghost use Rattle.typed_list.specs.Words.{part, linesOf};
+ghost use Rattle.typed_list.specs.Lists.{lineEntry, listed, coordsOf, shotsIn, typedList, stored};
+
+// What a text says.
+pub enum Typed {
+    // The settings, and how many shots were stored.
+    List {
+        field: u16,
+        edge: u16,
+        grid: u16,
+        shots: usize,
+    },
+    // The first mistake, with its line, from 1.
+    Mistake {
+        line: usize,
+        mistake: Mistake,
+    },
+}
+
+// What the line from one place up to another says.
+fn line_at(text: &[u8], start: usize, end: usize) -> Entry
+    requires { ⌜ start ≤ end ⌝ }
+    requires { ⌜ end ≤ length (now text) ⌝ }
+    ensures { λ r. ⌜ r ≡ lineEntry (part (now (text .entry)) start end) ⌝ }
+{
+    read_line(&text[start..end])
+}
+
+// What the whole text says, where there are so many places for coordinates.
+fn check_text(text: &[u8], places: usize) -> Typed
+    ensures { λ r. ⌜ r ≡ typedList places (now (text .entry)) ⌝ }
+{
+    let mut d = nothing_yet();
+    let mut at = 0;
+    let mut line = 1;
+    loop {
+        let end = until(text, at, End::Line);
+        let entry = line_at(text, at, end);
+        match then(d, places, entry) {
+            Next::Goes(next) => {
+                d = next;
+            }
+            Next::Stops(mistake) => {
+                return Typed::Mistake {
+                    line: line,
+                    mistake: mistake,
+                };
+            }
+        }
+        if text.len() <= end {
+            return list_of(d);
+        }
+        at = end + 1;
+        line += 1;
+    }
+}
+
+// The list that all lines say.
+fn list_of(d: Draft) -> Typed
+    ensures { λ r. ⌜ r ≡ listed d ⌝ }
+{
+    let field = d.field;
+    let edge = d.edge;
+    let grid = d.grid;
+    Typed::List {
+        field: field.number,
+        edge: edge.number,
+        grid: grid.number,
+        shots: d.shots,
+    }
+}
+
+// Puts the coordinates of an entry at a place, if it is a shot, and gives the place after them.
+fn store_entry(coords: &mut [u16], at: usize, entry: Entry) -> usize
+    requires { ⌜ at + length (coordsOf entry) ≤ length (now coords) ⌝ }
+    ensures { λ r. ⌜ Wrote (now (coords .entry)) (now (coords .exit)) at r (coordsOf entry) ⌝ }
+{
+    match entry {
+        Entry::Nothing => at,
+        Entry::Setting {
+            which: _,
+            number: _,
+        } => at,
+        Entry::Shot { x, y, z } => {
+            coords[at] = x;
+            coords[at + 1] = y;
+            coords[at + 2] = z;
+            at + 3
+        }
+        Entry::Wrong(_) => at,
+    }
+}
+
+// Stores the coordinates of the shots of a text.
+fn store_text(text: &[u8], coords: &mut [u16])
+    requires { ⌜ length (shotsIn (linesOf (now text))) ≤ length (now coords) ⌝ }
+    ensures { λ _. ⌜ now (coords .exit) ≡ shotsIn (linesOf (now (text .entry))) ++ drop (length (shotsIn (linesOf (now (text .entry))))) (now (coords .entry)) ⌝ }
+{
+    let mut n = 0;
+    let mut at = 0;
+    loop {
+        let end = until(text, at, End::Line);
+        let entry = line_at(text, at, end);
+        n = store_entry(coords, n, entry);
+        if text.len() <= end {
+            return;
+        }
+        at = end + 1;
+    }
+}
+
+// Reads a text, and stores the coordinates of its shots unless it has a mistake.
+pub fn read_text(text: &[u8], coords: &mut [u16]) -> Typed
+    ensures answer { λ r. ⌜ r ≡ typedList (length (now (coords .entry))) (now (text .entry)) ⌝ }
+    ensures coordinates { λ _. ⌜ now (coords .exit) ≡ stored (typedList (length (now (coords .entry))) (now (text .entry))) (now (text .entry)) (now (coords .entry)) ⌝ }
+{
+    let typed = check_text(text, coords.len());
+    match typed {
+        Typed::List {
+            field: _,
+            edge: _,
+            grid: _,
+            shots: _,
+        } => {
+            store_text(text, coords);
+            typed
+        }
+        Typed::Mistake {
+            line: _,
+            mistake: _,
+        } => typed,
+    }
+}

@@ -1,0 +1,65 @@
+-- The file is a part of the buffer that it was written into.
+use mathlib.Core.Path.{sym, _∙_}
+use native.Mathlib.Omega.{arith}
+use lib.Seq.{length-take-le}
+use borrow.Author.Needs.{needs}
+use Rattle.write_shots.proofs.Fits.{written-within}
+use Rattle.write_shots.proofs.write_list.Statement.{statement}
+use Rattle.write_shots.proofs.write_list.Tie as tie
+
+slice-aggregate-write : tie.Need-slice-aggregate-write
+slice-aggregate-write c = search needs
+
+write-requires : tie.Need-write-requires
+write-requires c κs = search needs
+
+enum-known-answer : tie.Need-enum-known-answer
+enum-known-answer c = search needs
+
+array-share-prefix-bytes : tie.Need-array-share-prefix-bytes
+array-share-prefix-bytes c = omega (arith, written-within _ _ _ _ _ (sym (c .before .before .before .before .write .ensures .0) ∙ c .before .answer .given .1) (c .before .before .before .before .write .ensures .1), c .before .before .before .before .write .kept .1 .1 .1 .1 .0)
+
+slice-aggregate-write-all : tie.Need-slice-aggregate-write-all
+slice-aggregate-write-all c = sym (length-take-le (c .before .before .answer .given .0 .0) (c .before .before .before .before .before .write .last .1 .1 .1 .1 .0) (written-within _ _ _ _ _ (sym (c .before .before .before .before .before .write .ensures .0) ∙ c .before .before .answer .given .1) (c .before .before .before .before .before .write .ensures .1)))
+
+write-all-requires : tie.Need-write-all-requires
+write-all-requires c κs = search needs
+
+slice-aggregate-say : tie.Need-slice-aggregate-say
+slice-aggregate-say c = search needs
+
+say-requires : tie.Need-say-requires
+say-requires c κs = search needs
+
+enum-known-answer-2 : tie.Need-enum-known-answer-2
+enum-known-answer-2 c = search needs
+
+tell-refusal-requires : tie.Need-tell-refusal-requires
+tell-refusal-requires c κs = search needs
+
+returns : tie.Need-returns
+returns c = search needs
+
+returns-2 : tie.Need-returns-2
+returns-2 c = search needs
+
+returns-3 : tie.Need-returns-3
+returns-3 c = search needs
+
+pub write-list-spec : {M : Type 1} → statement M
+write-list-spec =
+    tie.close
+    (tie.spec
+    slice-aggregate-write
+    write-requires
+    enum-known-answer
+    array-share-prefix-bytes
+    slice-aggregate-write-all
+    write-all-requires
+    slice-aggregate-say
+    say-requires
+    enum-known-answer-2
+    tell-refusal-requires
+    returns
+    returns-2
+    returns-3)
