@@ -379,15 +379,23 @@ fn borders() {
     show(b"far past it", usual(), &[0, 0, 65535]);
 }
 
-// Settings at the ends of their ranges.
-fn ranges() {
+// Field sides at the ends of their range.
+fn field_range() {
     show(b"field 0", of(0, 2, 2), &[0, 0, 0]);
     show(b"field 1", of(1, 1, 1), &[0, 0, 0]);
     show(b"field 1024", of(1024, 2, 2), &[0, 0, 0]);
     show(b"field 1025", of(1025, 2, 1), &[0, 0, 0]);
+}
+
+// Shot edges at the ends of their range.
+fn edge_range() {
     show(b"edge 0", of(8, 0, 2), &[0, 0, 0]);
     show(b"edge 8", of(8, 8, 2), &[0, 0, 0]);
     show(b"edge 9", of(8, 9, 2), &[0, 0, 0]);
+}
+
+// Grid sizes at the ends of their range, and one that does not divide the field side.
+fn grid_range() {
     show(b"grid 0", of(8, 2, 0), &[0, 0, 0]);
     show(b"grid 3", of(8, 2, 3), &[0, 0, 0]);
     show(b"grid 64", of(64, 1, 64), &[0, 0, 0]);
@@ -468,7 +476,9 @@ fn main() {
     hollow();
     whole_field();
     borders();
-    ranges();
+    field_range();
+    edge_range();
+    grid_range();
     work_needs();
     listing_needs();
     broken_shots();

@@ -66,7 +66,7 @@ pub(crate) fn add_if(holds: bool, counts: Counts, which: usize) -> Counts {
     counts
 }
 
-pub(crate) fn print_number(n: u64) {
+fn print_number(n: u64) {
     io::write_all(1, b" ");
     io::print_decimal(1, n);
 }
@@ -112,11 +112,52 @@ pub(crate) fn judge(
 }
 
 // Prints a count on a line of its own.
-pub(crate) fn print_count(name: &[u8], counts: Counts, which: usize) {
+fn print_count(name: &[u8], counts: Counts, which: usize) {
     if 17 <= which {
         return;
     }
     io::write_all(1, name);
     print_number(counts.of[which] as u64);
     io::write_all(1, b"\n");
+}
+
+// Prints what was tried.
+fn print_tried(counts: Counts) {
+    print_count(b"lists", counts, LISTS);
+    print_count(b"shots", counts, SHOTS);
+    print_count(b"corner points", counts, POINTS);
+}
+
+// Prints how many of the lists have which kinds of shots.
+fn print_kinds(counts: Counts) {
+    print_count(b"lists with a repeat", counts, REPEATS);
+    print_count(b"lists with a shared face", counts, FACES);
+    print_count(b"lists with a shared edge", counts, EDGES);
+    print_count(b"lists with a shared corner", counts, CORNERS);
+    print_count(b"lists with a shot at the border", counts, BORDERS);
+}
+
+// Prints how often the same was found.
+fn print_agreements(counts: Counts) {
+    print_count(b"measured as listed", counts, MEASURED);
+    print_count(b"recounted as listed", counts, RECOUNTED);
+    print_count(b"summed from the listing", counts, SUMMED);
+    print_count(b"listed the same in another order", counts, SHUFFLED);
+    print_count(b"listed the same in another grid", counts, REGRIDDED);
+}
+
+// Prints what a shot more or another shot changed.
+fn print_changes(counts: Counts) {
+    print_count(b"same cells, the same listing", counts, UNCHANGED);
+    print_count(b"other cells, another listing", counts, CHANGED);
+    print_count(b"of them with the same figures", counts, TWINS);
+    print_count(b"disagreements", counts, DISAGREEMENTS);
+}
+
+// Prints all counts.
+pub(crate) fn print_all(counts: Counts) {
+    print_tried(counts);
+    print_kinds(counts);
+    print_agreements(counts);
+    print_changes(counts);
 }

@@ -368,51 +368,6 @@ fn try_lists(lists: usize) -> Counts {
     counts
 }
 
-// Prints what was tried.
-fn print_tried(counts: Counts) {
-    counts::print_count(b"lists", counts, counts::LISTS);
-    counts::print_count(b"shots", counts, counts::SHOTS);
-    counts::print_count(b"corner points", counts, counts::POINTS);
-}
-
-// Prints how many of the lists have which kinds of shots.
-fn print_kinds(counts: Counts) {
-    counts::print_count(b"lists with a repeat", counts, counts::REPEATS);
-    counts::print_count(b"lists with a shared face", counts, counts::FACES);
-    counts::print_count(b"lists with a shared edge", counts, counts::EDGES);
-    counts::print_count(b"lists with a shared corner", counts, counts::CORNERS);
-    counts::print_count(b"lists with a shot at the border", counts, counts::BORDERS);
-}
-
-// Prints how often the same was found.
-fn print_agreements(counts: Counts) {
-    counts::print_count(b"measured as listed", counts, counts::MEASURED);
-    counts::print_count(b"recounted as listed", counts, counts::RECOUNTED);
-    counts::print_count(b"summed from the listing", counts, counts::SUMMED);
-    counts::print_count(
-        b"listed the same in another order",
-        counts,
-        counts::SHUFFLED,
-    );
-    counts::print_count(
-        b"listed the same in another grid",
-        counts,
-        counts::REGRIDDED,
-    );
-}
-
-// Prints what a shot more or another shot changed.
-fn print_changes(counts: Counts) {
-    counts::print_count(b"same cells, the same listing", counts, counts::UNCHANGED);
-    counts::print_count(b"other cells, another listing", counts, counts::CHANGED);
-    counts::print_count(b"of them with the same figures", counts, counts::TWINS);
-    counts::print_count(b"disagreements", counts, counts::DISAGREEMENTS);
-}
-
 fn main() {
-    let counts = try_lists(4096);
-    print_tried(counts);
-    print_kinds(counts);
-    print_agreements(counts);
-    print_changes(counts);
+    counts::print_all(try_lists(4096));
 }
