@@ -86,9 +86,13 @@ fn print_coords(coords: &[u16]) {
 
 // Prints a list that disagrees.
 fn print_list(settings: Settings, coords: &[u16]) {
+    io::write_all(1, b" disagrees, field");
     print_coord(settings.field);
+    io::write_all(1, b" edge");
     print_coord(settings.edge);
+    io::write_all(1, b" grid");
     print_coord(settings.grid);
+    io::write_all(1, b" other grid");
     print_coord(settings.other);
     print_coords(coords);
     io::write_all(1, b"\n");
