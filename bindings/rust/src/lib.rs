@@ -82,22 +82,7 @@ pub struct Corner {
 
 /// Measures a list. Success leaves the grid index in the first entries of `work`; nothing else changes.
 pub fn measure(list: &List, work: &mut [u32]) -> Result<Totals, Refusal> {
-    let mut answer = [0; 6];
-    // SAFETY: each pointer comes from a slice with the length beside it, and no two of them overlap.
-    let written = unsafe {
-        raw::heqdanu_measure(
-            list.field,
-            list.edge,
-            list.grid,
-            list.coords.as_ptr(),
-            list.coords.len(),
-            work.as_mut_ptr(),
-            work.len(),
-            answer.as_mut_ptr(),
-            answer.len(),
-        )
-    };
-    totals(written, answer)
+    measure_by(raw::heqdanu_measure, list, work)
 }
 
 /// Measures a list and stores its corner points, [`RECORD`] bytes each, in the first bytes of `listing`. Success and
@@ -125,10 +110,15 @@ pub fn list(list: &List, work: &mut [u32], listing: &mut [u8]) -> Result<Totals,
 
 /// Measures a list once more, cell by cell: slow, for fields up to a few hundred. The same promises as [`measure`].
 pub fn recount(list: &List, work: &mut [u32]) -> Result<Totals, Refusal> {
+    measure_by(raw::heqdanu_recount, list, work)
+}
+
+/// Measures a list by one of the calls that do.
+fn measure_by(call: raw::Measuring, list: &List, work: &mut [u32]) -> Result<Totals, Refusal> {
     let mut answer = [0; 6];
     // SAFETY: each pointer comes from a slice with the length beside it, and no two of them overlap.
     let written = unsafe {
-        raw::heqdanu_recount(
+        call(
             list.field,
             list.edge,
             list.grid,

@@ -1,5 +1,9 @@
 //! The calls as the archive has them. `include/heqdanu.h` says what each does with its buffers.
 
+/// `heqdanu_measure`, or `heqdanu_recount`, which has the same promises.
+pub type Measuring =
+    unsafe extern "C" fn(u16, u16, u16, *const u16, usize, *mut u32, usize, *mut u64, usize) -> u8;
+
 #[allow(missing_docs)]
 extern "C" {
     pub fn heqdanu_measure(

@@ -9,26 +9,25 @@ const INPUTS: [(&str, &[u8]); 4] = [
     ("write_shots", b"shot 1 2 3\n"),
 ];
 
-#[test]
-fn no_standard_output() {
+/// That every program prints nothing and says what it cannot do.
+fn complains(redirections: [&str; 2], words: &str) {
     for (name, input) in INPUTS {
-        for redirection in [">&-", ">/dev/full"] {
+        for redirection in redirections {
             let told = with(name, redirection, input);
             assert_eq!(told.text(), "", "{name} {redirection}");
-            assert_eq!(told.complaint, format!("{name}: standard output cannot be written\n"), "{name} {redirection}");
+            assert_eq!(told.complaint, format!("{name}: {words}\n"), "{name} {redirection}");
         }
     }
 }
 
 #[test]
+fn no_standard_output() {
+    complains([">&-", ">/dev/full"], "standard output cannot be written");
+}
+
+#[test]
 fn no_standard_input() {
-    for (name, input) in INPUTS {
-        for redirection in ["<&-", "</"] {
-            let told = with(name, redirection, input);
-            assert_eq!(told.text(), "", "{name} {redirection}");
-            assert_eq!(told.complaint, format!("{name}: standard input cannot be read\n"), "{name} {redirection}");
-        }
-    }
+    complains(["<&-", "</"], "standard input cannot be read");
 }
 
 #[test]
