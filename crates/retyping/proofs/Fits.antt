@@ -13,9 +13,9 @@ use Rattle.job.specs.Checking.{checked}
 use Rattle.job.proofs.Conditions.{accepted-valid}
 use Rattle.report.specs.Text.{text}
 use Rattle.report.specs.Lines.{digits, decimal}
-use Rattle.shotfile.specs.declared.record.Fields.{Fields}
+use Rattle.records.specs.declared.Fields.{Fields}
 use Rattle.shotfile.specs.declared.reader.Cursor.{Cursor}
-use Rattle.shotfile.specs.Records.{headerAbsent}
+use Rattle.records.specs.Records.{headerAbsent}
 use Rattle.shotfile.specs.Files.{file, firstShot, fileIn}
 use Rattle.shotfile.proofs.ShotsRead.{Reads, done, shot}
 use Rattle.shotfile.proofs.Shortest.{file-parts}

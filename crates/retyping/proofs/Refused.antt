@@ -14,13 +14,13 @@ use Rattle.job.specs.Checking.{checked}
 use Rattle.job.specs.Refusals.{numberOf, detailOf}
 use Rattle.report.specs.Text.{text}
 use Rattle.report.specs.Lines.{decimal}
-use Rattle.shotfile.specs.declared.record.Fields.{Fields}
-use Rattle.shotfile.specs.declared.record.Taken.{Taken}
-use Rattle.shotfile.specs.declared.record.Taken.the-variants.{Whole, Refused}
+use Rattle.records.specs.declared.Fields.{Fields}
+use Rattle.records.specs.declared.Taken.{Taken}
+use Rattle.records.specs.declared.Taken.the-variants.{Whole, Refused}
 use Rattle.shotfile.specs.declared.reader.Cursor.{Cursor}
 use Rattle.shotfile.specs.declared.reader.Step.{Step}
 use Rattle.shotfile.specs.declared.reader.Step.the-variants.{Shot as Step-shot, Refused as Stopped, End}
-use Rattle.shotfile.specs.Records.{headerAbsent, recordAt}
+use Rattle.records.specs.Records.{headerAbsent, recordAt}
 use Rattle.shotfile.specs.Files.{Rest, shots, faulty, withShot, onStep, stepAt, shotsFrom, file, refused, withSettings, onHeader, firstShot, fileIn}
 use Rattle.shotfile.proofs.Shortest.{file-parts}
 use Rattle.shottext.specs.Text.{labelled, note, settingLine, settings, shotLine, place, refusedLine, stepLine, shotLines, listVerdict, verdict, recordsText, fileText}

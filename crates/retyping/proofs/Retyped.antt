@@ -13,10 +13,10 @@ use Rattle.job.specs.Job.{Valid}
 use Rattle.job.specs.Checking.{checked}
 use Rattle.job.proofs.Conditions.{accepted-valid}
 use Rattle.report.specs.Text.{text}
-use Rattle.shotfile.specs.declared.record.Fields.{Fields}
-use Rattle.shotfile.specs.declared.record.Taken.the-variants.{Whole}
+use Rattle.records.specs.declared.Fields.{Fields}
+use Rattle.records.specs.declared.Taken.the-variants.{Whole}
 use Rattle.shotfile.specs.declared.reader.Cursor.{Cursor}
-use Rattle.shotfile.specs.Records.{recordAt}
+use Rattle.records.specs.Records.{recordAt}
 use Rattle.shotfile.specs.Files.{File, file, firstShot, fileIn, fileOf, shortest}
 use Rattle.shotfile.proofs.Steps.{step-end, step-on}
 use Rattle.shotfile.proofs.ShotsRead.{Reads, done, shot, reads-room}

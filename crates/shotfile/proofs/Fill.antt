@@ -15,12 +15,7 @@ module _ {A : Type 0} where
   pub fill-none : (all before : List A) → Filled all before before 0
   fill-none all before = record { room = omega arith; is = refl }
 
-  -- two and three stores one after the other
-  pub two-stores : (l : List A) (i : ℕ) (a b : A) → i + 2 ≤ length l → set (set l i a) (i + 1) b ≡ take i l ++ ((a ∷ b ∷ []) ++ drop (i + 2) l)
-  two-stores l i a b h =
-      let e : i + 1 ≡ suc i = omega arith in
-      rw e (sets-eq (a ∷ b ∷ []) l i h ∙ append-assoc (take i l) (a ∷ b ∷ []) (drop (i + 2) l))
-
+  -- three stores one after the other
   pub three-stores : (l : List A) (i : ℕ) (a b c : A) → i + 3 ≤ length l → set (set (set l i a) (i + 1) b) (i + 2) c ≡ take i l ++ ((a ∷ b ∷ c ∷ []) ++ drop (i + 3) l)
   three-stores l i a b c h =
       let e₁ : i + 1 ≡ suc i = omega arith in

@@ -1,10 +1,8 @@
 pub mod Fill
-pub mod Taking
 pub mod Steps
 pub mod Storing
 pub mod ShotsRead
 pub mod Reading
-pub mod Putting
 pub mod Writing
 pub mod ReadBack
 pub mod WriteBack

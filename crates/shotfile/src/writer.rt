@@ -1,16 +1,16 @@
 // Writing a shot file in its shortest form. Document 01, 'Shot file' and 'When a job is refused'.
-use crate::record::Fields;
-use crate::record::first_absent;
-use crate::record::header_absent;
-use crate::record::put_record;
-use crate::record::record_length;
 use job::Checked;
 use job::Refusal;
+use records::Fields;
+use records::first_absent;
+use records::header_absent;
+use records::put_record;
+use records::record_length;
 ghost use mathlib.Core.Path.{_≡_};
 ghost use mathlib.Core.List.{_++_};
 ghost use Prim.Native.Nat.{_≤_, _<_, _/_};
 ghost use lib.ListN.{length, drop};
-ghost use Rattle.shotfile.specs.Records.{firstAbsent};
+ghost use Rattle.records.specs.Records.{firstAbsent};
 ghost use Rattle.shotfile.specs.Files.{coordsAt, shotRecords, fileOf};
 ghost use Rattle.shotfile.specs.Calls.{writeChecked, writeAnswer, writeBytes};
 

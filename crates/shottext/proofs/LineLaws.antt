@@ -11,7 +11,7 @@ use Rattle.buffer.specs.Wrote.{Wrote}
 use Rattle.buffer.proofs.WroteLaws.{wrote-none, wrote-as}
 use Rattle.job.specs.declared.Refusal.{Refusal}
 use Rattle.job.specs.Refusals.{numberOf, detailOf}
-use Rattle.shotfile.specs.declared.record.Fields.{Fields}
+use Rattle.records.specs.declared.Fields.{Fields}
 use Rattle.report.specs.Text.{text}
 use Rattle.report.specs.Lines.{decimal}
 use Rattle.report.proofs.LineLaws.{digits-length}

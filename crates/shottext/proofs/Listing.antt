@@ -12,12 +12,12 @@ use borrow.Author.Tests.{le-ltb}
 use Rattle.job.specs.declared.Refusal.{Refusal}
 use Rattle.job.specs.declared.Refusal.the-variants.{TooManyShots, NoPlace}
 use Rattle.job.specs.Checking.{checked}
-use Rattle.shotfile.specs.declared.record.Fields.{Fields}
-use Rattle.shotfile.specs.declared.record.Taken.{Taken}
-use Rattle.shotfile.specs.declared.record.Taken.the-variants.{Whole, Refused}
+use Rattle.records.specs.declared.Fields.{Fields}
+use Rattle.records.specs.declared.Taken.{Taken}
+use Rattle.records.specs.declared.Taken.the-variants.{Whole, Refused}
 use Rattle.shotfile.specs.declared.reader.Cursor.{Cursor}
 use Rattle.shotfile.specs.declared.reader.Step.the-variants.{End}
-use Rattle.shotfile.specs.Records.{headerAbsent, recordAt}
+use Rattle.records.specs.Records.{headerAbsent, recordAt}
 use Rattle.shotfile.specs.Files.{stepOf, stepAt, Rest, shots, faulty, withShot, onStep, shotsFrom, File, file, refused, firstShot, withSettings, onHeader, fileIn}
 use Rattle.shottext.specs.Text.{settings, shotLine, refusedLine, stepLine, shotLines, listVerdict, verdict, recordsText, fileText}
 

@@ -12,15 +12,15 @@ use Rattle.job.specs.declared.Checked.the-variants.{Accepted}
 use Rattle.job.specs.declared.Refusal.{Refusal}
 use Rattle.job.specs.declared.Refusal.the-variants.{CutShort}
 use Rattle.job.specs.Checking.{checked}
-use Rattle.shotfile.specs.declared.record.Fields.{Fields}
-use Rattle.shotfile.specs.declared.record.Taken.{Taken}
-use Rattle.shotfile.specs.declared.record.Taken.the-variants.{Whole, Refused}
+use Rattle.records.specs.declared.Fields.{Fields}
+use Rattle.records.specs.declared.Taken.{Taken}
+use Rattle.records.specs.declared.Taken.the-variants.{Whole, Refused}
 use Rattle.shotfile.specs.declared.reader.ReadAnswer.{ReadAnswer}
 use Rattle.shotfile.specs.declared.reader.ReadAnswer.the-variants.{Read, Refused as Unread}
-use Rattle.shotfile.specs.Records.{headerAbsent, firstAbsent, recordAt}
+use Rattle.records.specs.Records.{headerAbsent, firstAbsent, recordAt}
 use Rattle.shotfile.specs.Files.{File, file, refused, fileIn}
 use Rattle.shotfile.specs.Calls.{readAnswer, readCoords}
-use Rattle.shotfile.proofs.Taking.{no-map}
+use Rattle.records.proofs.Taking.{no-map}
 use Rattle.shotfile.proofs.RoundTrip.{accepted-file}
 use Rattle.shottext.specs.Text.{settings, refusedLine, shotLines, listVerdict, verdict, recordsText, fileText}
 

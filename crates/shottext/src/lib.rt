@@ -8,10 +8,10 @@ use job::Refusal;
 use lines::put_refused;
 use lines::put_settings;
 use lines::put_shot;
+use records::Taken;
 use shotfile::Cursor;
 use shotfile::ReadAnswer;
 use shotfile::Step;
-use shotfile::Taken;
 ghost use mathlib.Core.Path.{_≡_};
 ghost use Prim.Native.Nat.{_+_, _≤_};
 ghost use lib.ListN.{length};
@@ -96,11 +96,11 @@ pub fn put_text(bytes: &[u8], coords: &mut [u16], out: &mut [u8]) -> usize
     requires { ⌜ 524288 ≤ length (now out) ⌝ }
     ensures { λ r. ⌜ Wrote (now (out .entry)) (now (out .exit)) 0 r (fileText (length (now (coords .entry))) (now (bytes .entry))) ⌝ }
 {
-    let absent = shotfile::header_absent();
-    match shotfile::take_record(bytes, 0, absent) {
+    let absent = records::header_absent();
+    match records::take_record(bytes, 0, absent) {
         Taken::Whole { fields, end } => {
             let set = put_settings(out, 0, bytes[0], fields);
-            let previous = shotfile::first_absent();
+            let previous = records::first_absent();
             let start = Cursor {
                 at: end,
                 previous: previous,

@@ -1,9 +1,9 @@
 // The lines of a shot file's text, each put at a place of a lent slice; the answer is the place after the line.
 use job::Refusal;
+use records::Fields;
 use report::put_byte;
 use report::put_digits;
 use report::put_word;
-use shotfile::Fields;
 use wording::put_sentence;
 ghost use Prim.Native.Nat.{_+_, _≤_};
 ghost use lib.ListN.{length};

@@ -6,9 +6,9 @@ use native.Mathlib.Omega.{arith}
 use lib.ListN.{length, getD}
 use borrow.Author.Tests.{le-ltb, lt-ltb, le-leb, lt-leb, eq-eqb, ne-eqb}
 use Rattle.job.specs.declared.Refusal.the-variants.{UnknownBit, CutShort}
-use Rattle.shotfile.specs.declared.record.Fields.{Fields}
-use Rattle.shotfile.specs.declared.record.Taken.the-variants.{Whole, Refused}
-use Rattle.shotfile.specs.Records.{wordAt, fieldAt, endAt, fieldsAt, recordAt}
+use Rattle.records.specs.declared.Fields.{Fields}
+use Rattle.records.specs.declared.Taken.the-variants.{Whole, Refused}
+use Rattle.records.specs.Records.{wordAt, fieldAt, endAt, fieldsAt, recordAt}
 
 module _ (s : List ℕ) (at b absent : ℕ) where
   pub field-absent : b ≡ 0 → absent ≡ fieldAt s at b absent

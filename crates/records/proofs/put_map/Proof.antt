@@ -1,9 +1,9 @@
 -- `put_map` writes the three bits as one byte. Assumes nothing.
 use native.Mathlib.Omega.{arith}
-use Rattle.shotfile.proofs.Putting.{bit-small, put-map}
+use Rattle.records.proofs.Putting.{bit-small, put-map}
 use borrow.Author.Needs.{needs}
-use Rattle.shotfile.proofs.record.put_map.Statement.{statement}
-use Rattle.shotfile.proofs.record.put_map.Tie as tie
+use Rattle.records.proofs.put_map.Statement.{statement}
+use Rattle.records.proofs.put_map.Tie as tie
 
 bit-requires : tie.Need-bit-requires
 bit-requires c κs = search needs

@@ -1,8 +1,8 @@
 -- `take_record` answers `recordAt`: each way out is one law of `Taking`. Assumes nothing.
-use Rattle.shotfile.proofs.Taking.{no-map, unknown-bit, cut-short, taken-whole}
+use Rattle.records.proofs.Taking.{no-map, unknown-bit, cut-short, taken-whole}
 use borrow.Author.Needs.{needs}
-use Rattle.shotfile.proofs.record.take_record.Statement.{statement}
-use Rattle.shotfile.proofs.record.take_record.Tie as tie
+use Rattle.records.proofs.take_record.Statement.{statement}
+use Rattle.records.proofs.take_record.Tie as tie
 
 returns : tie.Need-returns
 returns c = no-map _ _ _ (c .if1 .taken)

@@ -1,10 +1,11 @@
 // One record of a shot file: a map byte, then the 16-bit fields whose bits stand in it, least byte first. Document 01, 'Shot file'.
+// specs/Records.antt says how a record is read and what its shortest form is. Stands on `buffer` and on `job`, whose refusals it gives.
 use job::Refusal;
 ghost use mathlib.Core.Path.{_≡_};
 ghost use mathlib.Core.List.{[], _∷_};
 ghost use Prim.Native.Nat.{_≤_, _<_, _+_, _*_};
 ghost use lib.ListN.{length};
-ghost use Rattle.shotfile.specs.Records.{fieldAt, recordAt, headerAbsent, firstAbsent, bitOf, fieldOf, mapOf, recordOf};
+ghost use Rattle.records.specs.Records.{fieldAt, recordAt, headerAbsent, firstAbsent, bitOf, fieldOf, mapOf, recordOf};
 ghost use Rattle.buffer.specs.Wrote.{Wrote};
 
 // What the header says where it leaves out the field side, the shot edge or the grid size.

@@ -1,9 +1,9 @@
 -- A record is its map and its three fields. Assumes nothing.
 use native.Mathlib.Omega.{arith}
-use Rattle.shotfile.proofs.Putting.{field-most, record-size}
+use Rattle.records.proofs.Putting.{field-most, record-size}
 use borrow.Author.Needs.{needs}
-use Rattle.shotfile.proofs.record.record_length.Statement.{statement}
-use Rattle.shotfile.proofs.record.record_length.Tie as tie
+use Rattle.records.proofs.record_length.Statement.{statement}
+use Rattle.records.proofs.record_length.Tie as tie
 
 field-length-requires : tie.Need-field-length-requires
 field-length-requires c κs = search needs

@@ -2,10 +2,10 @@
 use mathlib.Core.Path.{ap}
 use native.Mathlib.Omega.{arith}
 use lib.ListN.{length, length-set}
-use Rattle.shotfile.proofs.Putting.{field-some, put-absent, put-there}
+use Rattle.records.proofs.Putting.{field-some, put-absent, put-there}
 use borrow.Author.Needs.{needs}
-use Rattle.shotfile.proofs.record.put_field.Statement.{statement}
-use Rattle.shotfile.proofs.record.put_field.Tie as tie
+use Rattle.records.proofs.put_field.Statement.{statement}
+use Rattle.records.proofs.put_field.Tie as tie
 
 returns : tie.Need-returns
 returns c = put-absent _ _ _ _ (c .if1 .taken) (c .before .pre)

@@ -1,9 +1,9 @@
 -- A field is the number at its place or what its absence means. Assumes nothing.
 use mathlib.Core.Path.{_∙_}
-use Rattle.shotfile.proofs.Taking.{field-absent, field-there}
+use Rattle.records.proofs.Taking.{field-absent, field-there}
 use borrow.Author.Needs.{needs}
-use Rattle.shotfile.proofs.record.field.Statement.{statement}
-use Rattle.shotfile.proofs.record.field.Tie as tie
+use Rattle.records.proofs.field.Statement.{statement}
+use Rattle.records.proofs.field.Tie as tie
 
 returns : tie.Need-returns
 returns c = field-absent _ _ _ _ (c .if1 .taken)

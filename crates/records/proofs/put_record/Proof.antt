@@ -1,8 +1,8 @@
 -- `put_record` writes the map and the three fields, one after the other. Assumes nothing.
 use Rattle.buffer.proofs.WroteLaws.{wrote-length}
-use Rattle.shotfile.proofs.Putting.{room-map, room-first, room-second, room-third, put-all}
-use Rattle.shotfile.proofs.record.put_record.Statement.{statement}
-use Rattle.shotfile.proofs.record.put_record.Tie as tie
+use Rattle.records.proofs.Putting.{room-map, room-first, room-second, room-third, put-all}
+use Rattle.records.proofs.put_record.Statement.{statement}
+use Rattle.records.proofs.put_record.Tie as tie
 
 put-map-requires : tie.Need-put-map-requires
 put-map-requires c κs = room-map (c .before .before .args .absent) (c .before .before .args .fields) (c .before .before .args .bytes .now) _ (c .before .before .pre)

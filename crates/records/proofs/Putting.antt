@@ -1,17 +1,23 @@
 -- The shortest record: its length, and how it is written field by field. Assumes nothing.
-use mathlib.Core.Path.{_≡_, refl, ap}
+use mathlib.Core.Path.{_≡_, refl, ap, _∙_}
 use mathlib.Core.Bool.{Bool, true, false, cond}
-use mathlib.Core.List.{List, [], _∷_, _++_}
-use Prim.Native.Nat.{ℕ, _+_, _*_, _/_, _%_, _≤_, _<_}
+use mathlib.Core.List.{List, [], _∷_, _++_, append-assoc}
+use Prim.Native.Nat.{ℕ, suc, _+_, _*_, _/_, _%_, _≤_, _<_}
 use native.Mathlib.Omega.{arith}
 use lib.Dec.{eqb}
-use lib.ListN.{length, set, length-append}
+use lib.ListN.{length, take, drop, set, length-append}
+use lib.Seq.{sets-eq}
 use borrow.Author.Tests.{eq-eqb, ne-eqb}
-use Rattle.shotfile.specs.declared.record.Fields.{Fields}
-use Rattle.shotfile.specs.Records.{bitOf, fieldOf, mapOf, recordOf}
+use Rattle.records.specs.declared.Fields.{Fields}
+use Rattle.records.specs.Records.{bitOf, fieldOf, mapOf, recordOf}
 use Rattle.buffer.specs.Wrote.{Wrote}
 use Rattle.buffer.proofs.WroteLaws.{wrote-none, wrote-one, wrote-length, wrote-then}
-use Rattle.shotfile.proofs.Fill.{two-stores}
+
+-- two stores one after the other
+two-stores : (l : List ℕ) (i a b : ℕ) → i + 2 ≤ length l → set (set l i a) (i + 1) b ≡ take i l ++ ((a ∷ b ∷ []) ++ drop (i + 2) l)
+two-stores l i a b h =
+    let e : i + 1 ≡ suc i = omega arith in
+    rw e (sets-eq (a ∷ b ∷ []) l i h ∙ append-assoc (take i l) (a ∷ b ∷ []) (drop (i + 2) l))
 
 -- ---- a field
 module _ (absent v : ℕ) where

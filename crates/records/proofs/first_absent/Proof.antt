@@ -1,8 +1,8 @@
 -- `first_absent` is the definition's constant. Assumes nothing.
 use mathlib.Core.Path.{refl}
-use Rattle.shotfile.specs.Records.{firstAbsent}
-use Rattle.shotfile.proofs.record.first_absent.Statement.{statement}
-use Rattle.shotfile.proofs.record.first_absent.Tie as tie
+use Rattle.records.specs.Records.{firstAbsent}
+use Rattle.records.proofs.first_absent.Statement.{statement}
+use Rattle.records.proofs.first_absent.Tie as tie
 
 returns : tie.Need-returns
 unfolding firstAbsent

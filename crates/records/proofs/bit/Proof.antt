@@ -1,7 +1,7 @@
 -- A bit is 0 where the number is what its absence means. Assumes nothing.
-use Rattle.shotfile.proofs.Putting.{bit-absent, bit-there}
-use Rattle.shotfile.proofs.record.bit.Statement.{statement}
-use Rattle.shotfile.proofs.record.bit.Tie as tie
+use Rattle.records.proofs.Putting.{bit-absent, bit-there}
+use Rattle.records.proofs.bit.Statement.{statement}
+use Rattle.records.proofs.bit.Tie as tie
 
 returns : tie.Need-returns
 returns c = bit-absent _ _ (c .if1 .taken)

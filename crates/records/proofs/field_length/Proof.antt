@@ -1,9 +1,9 @@
 -- A field takes no byte or two. Assumes nothing.
 use mathlib.Core.Path.{sym, ap}
 use lib.ListN.{length}
-use Rattle.shotfile.proofs.Putting.{field-none, field-some}
-use Rattle.shotfile.proofs.record.field_length.Statement.{statement}
-use Rattle.shotfile.proofs.record.field_length.Tie as tie
+use Rattle.records.proofs.Putting.{field-none, field-some}
+use Rattle.records.proofs.field_length.Statement.{statement}
+use Rattle.records.proofs.field_length.Tie as tie
 
 returns : tie.Need-returns
 returns c = sym (ap length (field-none _ _ (c .if1 .taken)))

@@ -6,9 +6,9 @@ use Prim.Native.Nat.{ℕ, _+_, _*_, _/_, _%_}
 use lib.Dec.{ltb, leb, eqb}
 use lib.ListN.{length, getD}
 use Rattle.job.specs.declared.Refusal.the-variants.{UnknownBit, CutShort}
-use Rattle.shotfile.specs.declared.record.Fields.{Fields}
-use Rattle.shotfile.specs.declared.record.Taken.{Taken}
-use Rattle.shotfile.specs.declared.record.Taken.the-variants.{Whole, Refused}
+use Rattle.records.specs.declared.Fields.{Fields}
+use Rattle.records.specs.declared.Taken.{Taken}
+use Rattle.records.specs.declared.Taken.the-variants.{Whole, Refused}
 
 -- what the header's absent fields mean: a field side of 1,024, a shot edge of 16, a grid size of 8
 unfoldable pub headerAbsent : Fields

@@ -1,8 +1,8 @@
 -- `header_absent` is the definition's constant. Assumes nothing.
 use mathlib.Core.Path.{refl}
-use Rattle.shotfile.specs.Records.{headerAbsent}
-use Rattle.shotfile.proofs.record.header_absent.Statement.{statement}
-use Rattle.shotfile.proofs.record.header_absent.Tie as tie
+use Rattle.records.specs.Records.{headerAbsent}
+use Rattle.records.proofs.header_absent.Statement.{statement}
+use Rattle.records.proofs.header_absent.Tie as tie
 
 returns : tie.Need-returns
 unfolding headerAbsent
