@@ -1,17 +1,11 @@
 -- What was read is a part of the buffer.
-use mathlib.Core.Path.{_≡_, sym, subst}
-use Prim.Native.Nat.{ℕ, _≤_}
+use mathlib.Core.Path.{sym}
 use native.Mathlib.Omega.{arith}
 use lib.Seq.{length-take-le}
-use Rattle.input.specs.Filled.{Between}
-use Rattle.input.specs.declared.Filled.{Filled}
-use Rattle.input.specs.declared.Filled.the-variants.{Bytes}
+use Rattle.input.proofs.FilledLaws.{filled-within}
 use borrow.Author.Needs.{needs}
 use Rattle.recount.proofs.main.Statement.{statement}
 use Rattle.recount.proofs.main.Tie as tie
-
-at-most : {f : Filled} {n most : ℕ} → f ≡ Bytes n → Between 0 most f → n ≤ most
-at-most {f} {n} {most} e h = let r : Between 0 most (Bytes n) = subst (Between 0 most) e h in r .1
 
 slice-aggregate-fill : tie.Need-slice-aggregate-fill
 slice-aggregate-fill c = search needs
@@ -23,10 +17,10 @@ enum-known-filled : tie.Need-enum-known-filled
 enum-known-filled c = search needs
 
 array-share-prefix-bytes : tie.Need-array-share-prefix-bytes
-array-share-prefix-bytes c = let f = c .before .before .before .before .fill in omega (arith, at-most (c .before .filled .given .1) (f .ensures), f .kept .0)
+array-share-prefix-bytes c = let f = c .before .before .before .before .fill in omega (arith, filled-within (c .before .filled .given .1) (f .ensures), f .kept .0)
 
 slice-aggregate-print-recount : tie.Need-slice-aggregate-print-recount
-slice-aggregate-print-recount c = let f = c .before .before .before .before .before .fill in sym (length-take-le (c .before .before .filled .given .0 .0) (f .last .0) (omega (arith, at-most (c .before .before .filled .given .1) (f .ensures), f .kept .0)))
+slice-aggregate-print-recount c = let f = c .before .before .before .before .before .fill in sym (length-take-le (c .before .before .filled .given .0 .0) (f .last .0) (omega (arith, filled-within (c .before .before .filled .given .1) (f .ensures), f .kept .0)))
 
 print-recount-requires : tie.Need-print-recount-requires
 print-recount-requires c κs = search needs

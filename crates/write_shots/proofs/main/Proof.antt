@@ -3,7 +3,7 @@ use mathlib.Core.Path.{sym}
 use native.Mathlib.Omega.{arith}
 use lib.Seq.{length-take-le}
 use borrow.Author.Needs.{needs}
-use Rattle.write_shots.proofs.Fits.{filled-within}
+use Rattle.input.proofs.FilledLaws.{filled-within}
 use Rattle.write_shots.proofs.main.Statement.{statement}
 use Rattle.write_shots.proofs.main.Tie as tie
 
