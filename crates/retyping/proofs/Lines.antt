@@ -8,7 +8,7 @@ use lib.Dec.{eqb}
 use lib.ListN.{length}
 use Rattle.report.specs.Text.{text}
 use Rattle.report.specs.Lines.{decimal}
-use Rattle.shottext.specs.Text.{note, settingLine, shotLine}
+use Rattle.shotlines.specs.Lines.{note, settingLine, shotLine}
 use Rattle.typed_list.specs.declared.entry.Setting.{Setting}
 use Rattle.typed_list.specs.declared.entry.Command.{Command}
 use Rattle.typed_list.specs.declared.entry.Command.the-variants.{Set}

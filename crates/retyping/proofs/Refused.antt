@@ -23,7 +23,8 @@ use Rattle.shotfile.specs.declared.reader.Step.the-variants.{Shot as Step-shot,
 use Rattle.records.specs.Records.{headerAbsent, recordAt}
 use Rattle.shotfile.specs.Files.{Rest, shots, faulty, withShot, onStep, stepAt, shotsFrom, file, refused, withSettings, onHeader, firstShot, fileIn}
 use Rattle.shotfile.proofs.Shortest.{file-parts}
-use Rattle.shottext.specs.Text.{labelled, note, settingLine, settings, shotLine, place, refusedLine, stepLine, shotLines, listVerdict, verdict, recordsText, fileText}
+use Rattle.shotlines.specs.Lines.{labelled, note, settingLine, settings, shotLine, place, refusedLine}
+use Rattle.shottext.specs.Text.{stepLine, shotLines, listVerdict, verdict, recordsText, fileText}
 use Rattle.wording.specs.Sentences.{sentence}
 use Rattle.typed_list.specs.declared.entry.Mistake.{Mistake}
 use Rattle.typed_list.specs.declared.entry.Mistake.the-variants.{UnknownWord}

@@ -24,7 +24,8 @@ use Rattle.shotfile.proofs.Shortest.{file-parts}
 use Rattle.shotfile.proofs.ReadBack.{Small}
 use Rattle.shotfile.proofs.RoundTrip.{small-coords, written-read}
 use Rattle.shotfile.proofs.WriteBack.{Bytes}
-use Rattle.shottext.specs.Text.{settingLine, settings, shotLine, shotLines, listVerdict, verdict, recordsText, fileText}
+use Rattle.shotlines.specs.Lines.{settingLine, settings, shotLine}
+use Rattle.shottext.specs.Text.{shotLines, listVerdict, verdict, recordsText, fileText}
 use Rattle.typed_list.specs.declared.entry.Entry.{Entry}
 use Rattle.typed_list.specs.declared.draft.Draft.{Draft}
 use Rattle.typed_list.specs.declared.draft.Next.the-variants.{Goes}

@@ -1,9 +1,9 @@
 -- The note where the bit is clear.
 use Rattle.buffer.proofs.WroteLaws.{wrote-as}
-use Rattle.shottext.proofs.LineLaws.{note-clear, note-set}
+use Rattle.shotlines.proofs.LineLaws.{note-clear, note-set}
 use borrow.Author.Needs.{needs}
-use Rattle.shottext.proofs.lines.put_note.Statement.{statement}
-use Rattle.shottext.proofs.lines.put_note.Tie as tie
+use Rattle.shotlines.proofs.put_note.Statement.{statement}
+use Rattle.shotlines.proofs.put_note.Tie as tie
 
 slice-aggregate-put-word : tie.Need-slice-aggregate-put-word
 slice-aggregate-put-word c = search needs

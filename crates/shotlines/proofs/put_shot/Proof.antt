@@ -2,11 +2,11 @@
 use native.Mathlib.Omega.{arith}
 use Rattle.buffer.proofs.WroteLaws.{wrote-then}
 use Rattle.report.specs.Text.{text}
-use Rattle.shottext.specs.Text.{shotLine}
-use Rattle.shottext.proofs.LineLaws.{labelled-length}
+use Rattle.shotlines.specs.Lines.{shotLine}
+use Rattle.shotlines.proofs.LineLaws.{labelled-length}
 use borrow.Author.Needs.{needs}
-use Rattle.shottext.proofs.lines.put_shot.Statement.{statement}
-use Rattle.shottext.proofs.lines.put_shot.Tie as tie
+use Rattle.shotlines.proofs.put_shot.Statement.{statement}
+use Rattle.shotlines.proofs.put_shot.Tie as tie
 
 slice-aggregate-put-labelled : tie.Need-slice-aggregate-put-labelled
 slice-aggregate-put-labelled c = search needs

@@ -1,4 +1,6 @@
-// The lines of a shot file's text, each put at a place of a lent slice; the answer is the place after the line.
+// The lines of a shot file's text: a setting, a shot with its number and place, a refusal with its sentence. Each is put at a place of a lent
+// slice, and the answer is the place after the line; every other place keeps its value. specs/Lines.antt says what the lines are.
+// Stands on `records` and `job`, whose fields and refusals it puts, and on `report`, `wording` and `buffer` for the bytes of a text.
 use job::Refusal;
 use records::Fields;
 use report::put_byte;
@@ -8,7 +10,7 @@ use wording::put_sentence;
 ghost use Prim.Native.Nat.{_+_, _≤_};
 ghost use lib.ListN.{length};
 ghost use Rattle.buffer.specs.Wrote.{Wrote};
-ghost use Rattle.shottext.specs.Text.{labelled, note, settingLine, settings, shotLine, place, refusedLine};
+ghost use Rattle.shotlines.specs.Lines.{labelled, note, settingLine, settings, shotLine, place, refusedLine};
 
 // Puts a label and a decimal value.
 fn put_labelled(out: &mut [u8], at: usize, label: &[u8], a: u64) -> usize

@@ -1,9 +1,9 @@
 -- Each way out is one case of the definition.
 use Rattle.buffer.proofs.WroteLaws.{wrote-as}
-use Rattle.shottext.proofs.LineLaws.{place-shot, place-byte, no-place-low, no-place-high}
+use Rattle.shotlines.proofs.LineLaws.{place-shot, place-byte, no-place-low, no-place-high}
 use borrow.Author.Needs.{needs}
-use Rattle.shottext.proofs.lines.put_place.Statement.{statement}
-use Rattle.shottext.proofs.lines.put_place.Tie as tie
+use Rattle.shotlines.proofs.put_place.Statement.{statement}
+use Rattle.shotlines.proofs.put_place.Tie as tie
 
 slice-aggregate-put-labelled : tie.Need-slice-aggregate-put-labelled
 slice-aggregate-put-labelled c = search needs

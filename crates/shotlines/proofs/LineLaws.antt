@@ -1,5 +1,5 @@
 -- The lines of a shot file's text, by what stands in them; how long they are.
-use mathlib.Core.Path.{_≡_, refl, sym, ap, _∙_}
+use mathlib.Core.Path.{_≡_, sym}
 use mathlib.Core.Bool.{Bool, true, false, cond}
 use mathlib.Core.List.{List, [], _++_}
 use Prim.Native.Nat.{ℕ, _+_, _/_, _%_, _≤_, _<_}
@@ -17,7 +17,7 @@ use Rattle.report.specs.Lines.{decimal}
 use Rattle.report.proofs.LineLaws.{digits-length}
 use Rattle.wording.specs.Sentences.{sentence}
 use Rattle.wording.proofs.SentenceLaws.{sentence-length}
-use Rattle.shottext.specs.Text.{labelled, note, settingLine, settings, shotLine, place, refusedLine}
+use Rattle.shotlines.specs.Lines.{labelled, note, settingLine, settings, shotLine, place, refusedLine}
 
 pub labelled-length : (label : List ℕ) (a : ℕ) → length (labelled label a) ≤ length label + 20
 labelled-length label a = omega (arith, length-append label (decimal a), digits-length 20 a)

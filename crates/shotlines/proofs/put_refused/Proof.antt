@@ -4,11 +4,11 @@ use native.Mathlib.Omega.{arith}
 use Rattle.buffer.proofs.WroteLaws.{wrote-then, wrote-as}
 use Rattle.report.specs.Text.{text}
 use Rattle.wording.proofs.SentenceLaws.{sentence-length}
-use Rattle.shottext.specs.Text.{labelled, place, refusedLine}
-use Rattle.shottext.proofs.LineLaws.{labelled-length, place-length}
+use Rattle.shotlines.specs.Lines.{labelled, place, refusedLine}
+use Rattle.shotlines.proofs.LineLaws.{labelled-length, place-length}
 use borrow.Author.Needs.{needs}
-use Rattle.shottext.proofs.lines.put_refused.Statement.{statement}
-use Rattle.shottext.proofs.lines.put_refused.Tie as tie
+use Rattle.shotlines.proofs.put_refused.Statement.{statement}
+use Rattle.shotlines.proofs.put_refused.Tie as tie
 
 number-requires : tie.Need-number-requires
 number-requires c κs = search needs

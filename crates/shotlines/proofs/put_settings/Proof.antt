@@ -3,11 +3,11 @@ use Prim.Native.Nat.{_/_, _%_}
 use native.Mathlib.Omega.{arith}
 use Rattle.buffer.proofs.WroteLaws.{wrote-then}
 use Rattle.report.specs.Text.{text}
-use Rattle.shottext.specs.Text.{settings}
-use Rattle.shottext.proofs.LineLaws.{setting-length}
+use Rattle.shotlines.specs.Lines.{settings}
+use Rattle.shotlines.proofs.LineLaws.{setting-length}
 use borrow.Author.Needs.{needs}
-use Rattle.shottext.proofs.lines.put_settings.Statement.{statement}
-use Rattle.shottext.proofs.lines.put_settings.Tie as tie
+use Rattle.shotlines.proofs.put_settings.Statement.{statement}
+use Rattle.shotlines.proofs.put_settings.Tie as tie
 
 slice-aggregate-put-setting : tie.Need-slice-aggregate-put-setting
 slice-aggregate-put-setting c = search needs

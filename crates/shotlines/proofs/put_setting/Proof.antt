@@ -1,11 +1,11 @@
 -- The name with its value, the note and the end of the line follow one another.
 use native.Mathlib.Omega.{arith}
 use Rattle.buffer.proofs.WroteLaws.{wrote-then}
-use Rattle.shottext.specs.Text.{settingLine}
-use Rattle.shottext.proofs.LineLaws.{labelled-length, note-length}
+use Rattle.shotlines.specs.Lines.{settingLine}
+use Rattle.shotlines.proofs.LineLaws.{labelled-length, note-length}
 use borrow.Author.Needs.{needs}
-use Rattle.shottext.proofs.lines.put_setting.Statement.{statement}
-use Rattle.shottext.proofs.lines.put_setting.Tie as tie
+use Rattle.shotlines.proofs.put_setting.Statement.{statement}
+use Rattle.shotlines.proofs.put_setting.Tie as tie
 
 put-labelled-requires : tie.Need-put-labelled-requires
 put-labelled-requires c κs = search needs

@@ -1,8 +1,8 @@
 -- The label, and the digits after it.
 use Rattle.buffer.proofs.WroteLaws.{wrote-then}
 use borrow.Author.Needs.{needs}
-use Rattle.shottext.proofs.lines.put_labelled.Statement.{statement}
-use Rattle.shottext.proofs.lines.put_labelled.Tie as tie
+use Rattle.shotlines.proofs.put_labelled.Statement.{statement}
+use Rattle.shotlines.proofs.put_labelled.Tie as tie
 
 put-word-requires : tie.Need-put-word-requires
 put-word-requires c κs = search needs
