@@ -22,7 +22,8 @@ use Rattle.shotfile.proofs.Shortest.{file-parts}
 use Rattle.shotfile.proofs.WriteBack.{parts}
 use Rattle.shotfile.proofs.ReadBack.{Small}
 use Rattle.shotfile.proofs.RoundTrip.{small-coords}
-use Rattle.shottext.specs.Text.{note, settingLine, settings, shotLine, shotLines, fileText}
+use Rattle.shotlines.specs.Lines.{note, settingLine, settings, shotLine}
+use Rattle.shottext.specs.Text.{shotLines, fileText}
 use Rattle.retyping.proofs.Retyped.{lines-end, lines-shot, file-text}
 
 -- ---- numbers with few digits

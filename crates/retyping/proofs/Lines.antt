@@ -8,17 +8,16 @@ use lib.Dec.{eqb}
 use lib.ListN.{length}
 use Rattle.report.specs.Text.{text}
 use Rattle.report.specs.Lines.{decimal}
-use Rattle.shottext.specs.Text.{note, settingLine, shotLine}
-use Rattle.typed_list.specs.declared.entry.Setting.{Setting}
-use Rattle.typed_list.specs.declared.entry.Command.{Command}
-use Rattle.typed_list.specs.declared.entry.Command.the-variants.{Set}
-use Rattle.typed_list.specs.declared.entry.Entry.{Entry}
-use Rattle.typed_list.specs.declared.entry.Entry.the-variants.{Setting as Settled, Shot}
-use Rattle.typed_list.specs.Words.{before, newline, hash, blank, linesOf, wordsOf}
-use Rattle.typed_list.specs.Entries.{same, commandOf, commanded, entryOf}
-use Rattle.typed_list.specs.Lists.{lineEntry}
-use Rattle.typed_list.proofs.Cutting.{words-none}
-use Rattle.typed_list.proofs.Printed.{Free, no-pass, free-append, freely, free-tested, before-append, line-printed, word-printed, word-last, decimal-newline, decimal-hash, decimal-blank, decimal-some, setting-printed, shot-printed}
+use Rattle.shotlines.specs.Lines.{note, settingLine, shotLine}
+use Rattle.typed_line.specs.declared.entry.Setting.{Setting}
+use Rattle.typed_line.specs.declared.entry.Command.{Command}
+use Rattle.typed_line.specs.declared.entry.Command.the-variants.{Set}
+use Rattle.typed_line.specs.declared.entry.Entry.{Entry}
+use Rattle.typed_line.specs.declared.entry.Entry.the-variants.{Setting as Settled, Shot}
+use Rattle.typed_line.specs.Words.{before, newline, hash, blank, linesOf, wordsOf}
+use Rattle.typed_line.specs.Entries.{same, commandOf, commanded, entryOf, lineEntry}
+use Rattle.typed_line.proofs.Cutting.{words-none}
+use Rattle.typed_line.proofs.Printed.{Free, no-pass, free-append, freely, free-tested, before-append, line-printed, word-printed, word-last, decimal-newline, decimal-hash, decimal-blank, decimal-some, setting-printed, shot-printed}
 
 -- a text begins with a line that says an entry, and then the rest follows
 pub record Line (t rest : List ℕ) (entry : Entry) : Type 0 where

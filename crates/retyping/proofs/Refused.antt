@@ -23,20 +23,21 @@ use Rattle.shotfile.specs.declared.reader.Step.the-variants.{Shot as Step-shot,
 use Rattle.records.specs.Records.{headerAbsent, recordAt}
 use Rattle.shotfile.specs.Files.{Rest, shots, faulty, withShot, onStep, stepAt, shotsFrom, file, refused, withSettings, onHeader, firstShot, fileIn}
 use Rattle.shotfile.proofs.Shortest.{file-parts}
-use Rattle.shottext.specs.Text.{labelled, note, settingLine, settings, shotLine, place, refusedLine, stepLine, shotLines, listVerdict, verdict, recordsText, fileText}
+use Rattle.shotlines.specs.Lines.{labelled, note, settingLine, settings, shotLine, place, refusedLine}
+use Rattle.shottext.specs.Text.{stepLine, shotLines, listVerdict, verdict, recordsText, fileText}
 use Rattle.wording.specs.Sentences.{sentence}
-use Rattle.typed_list.specs.declared.entry.Mistake.{Mistake}
-use Rattle.typed_list.specs.declared.entry.Mistake.the-variants.{UnknownWord}
-use Rattle.typed_list.specs.declared.entry.Entry.the-variants.{Wrong}
+use Rattle.typed_line.specs.declared.entry.Mistake.{Mistake}
+use Rattle.typed_line.specs.declared.entry.Mistake.the-variants.{UnknownWord}
+use Rattle.typed_line.specs.declared.entry.Entry.the-variants.{Wrong}
 use Rattle.typed_list.specs.declared.draft.Draft.{Draft}
 use Rattle.typed_list.specs.declared.draft.Next.{Next}
 use Rattle.typed_list.specs.declared.draft.Next.the-variants.{Goes, Stops}
 use Rattle.typed_list.specs.declared.Typed.{Typed}
 use Rattle.typed_list.specs.declared.Typed.the-variants.{Mistake as Mistaken}
-use Rattle.typed_list.specs.Words.{before, newline, linesFrom, linesOf, wordsFrom}
-use Rattle.typed_list.specs.Entries.{same, commandOf, commanded, entryOf}
-use Rattle.typed_list.specs.Lists.{lineEntry, nothingYet, then, onNext, typedFrom, typedList}
-use Rattle.typed_list.proofs.Cutting.{lines-cut}
+use Rattle.typed_line.specs.Words.{before, newline, linesFrom, linesOf, wordsFrom}
+use Rattle.typed_line.specs.Entries.{same, commandOf, commanded, entryOf, lineEntry}
+use Rattle.typed_list.specs.Lists.{nothingYet, then, onNext, typedFrom, typedList}
+use Rattle.typed_line.proofs.Cutting.{lines-cut}
 use Rattle.typed_list.proofs.Listing.{then-wrong}
 
 -- ---- a wrong line among lines

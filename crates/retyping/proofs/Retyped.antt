@@ -24,17 +24,18 @@ use Rattle.shotfile.proofs.Shortest.{file-parts}
 use Rattle.shotfile.proofs.ReadBack.{Small}
 use Rattle.shotfile.proofs.RoundTrip.{small-coords, written-read}
 use Rattle.shotfile.proofs.WriteBack.{Bytes}
-use Rattle.shottext.specs.Text.{settingLine, settings, shotLine, shotLines, listVerdict, verdict, recordsText, fileText}
-use Rattle.typed_list.specs.declared.entry.Entry.{Entry}
+use Rattle.shotlines.specs.Lines.{settingLine, settings, shotLine}
+use Rattle.shottext.specs.Text.{shotLines, listVerdict, verdict, recordsText, fileText}
+use Rattle.typed_line.specs.declared.entry.Entry.{Entry}
 use Rattle.typed_list.specs.declared.draft.Draft.{Draft}
 use Rattle.typed_list.specs.declared.draft.Next.the-variants.{Goes}
 use Rattle.typed_list.specs.declared.Typed.{Typed}
 use Rattle.typed_list.specs.declared.Typed.the-variants.{List as Listed}
-use Rattle.typed_list.specs.Words.{before, linesFrom, linesOf, wordsFrom}
-use Rattle.typed_list.specs.Entries.{same, commandOf, entryOf}
+use Rattle.typed_line.specs.Words.{before, linesFrom, linesOf, wordsFrom}
+use Rattle.typed_line.specs.Entries.{same, commandOf, entryOf}
 use Rattle.typed_list.specs.Lists.{given, nothingYet, then, listed, typedFrom, typedList, coordsOf, shotsIn}
 use Rattle.typed_list.proofs.Listing.{field-once, edge-once, grid-once, shots-room, then-setting, then-shot, typed-goes, typed-start, shots-cons}
-use Rattle.typed_list.proofs.Printed.{freely}
+use Rattle.typed_line.proofs.Printed.{freely}
 use Rattle.retyping.proofs.Lines.{Line, Plain, plain, setting-line, shot-line}
 
 -- a text says a list after the lines above, and these are the coordinates of its shots

@@ -1,4 +1,3 @@
-pub mod LineLaws
 pub mod ShotLaws
 pub mod TextLaws
 pub mod Listing

@@ -19,7 +19,8 @@ use Rattle.shotfile.specs.declared.reader.Cursor.{Cursor}
 use Rattle.shotfile.specs.declared.reader.Step.the-variants.{End}
 use Rattle.records.specs.Records.{headerAbsent, recordAt}
 use Rattle.shotfile.specs.Files.{stepOf, stepAt, Rest, shots, faulty, withShot, onStep, shotsFrom, File, file, refused, firstShot, withSettings, onHeader, fileIn}
-use Rattle.shottext.specs.Text.{settings, shotLine, refusedLine, stepLine, shotLines, listVerdict, verdict, recordsText, fileText}
+use Rattle.shotlines.specs.Lines.{settings, shotLine, refusedLine}
+use Rattle.shottext.specs.Text.{stepLine, shotLines, listVerdict, verdict, recordsText, fileText}
 
 -- the lines of shots with these coordinates, the first of them shot n, whose maps are at these places
 abbrev pub linesOf : ℕ → List ℕ → List ℕ → List ℕ

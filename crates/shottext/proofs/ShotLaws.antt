@@ -13,8 +13,9 @@ use Rattle.shotfile.specs.declared.reader.Cursor.{Cursor}
 use Rattle.shotfile.specs.declared.reader.Step.{Step}
 use Rattle.shotfile.specs.declared.reader.Step.the-variants.{Shot, Refused as Stopped, End}
 use Rattle.shotfile.specs.Files.{stepAt}
-use Rattle.shottext.specs.Text.{shotLine, refusedLine, stepLine, shotLines}
-use Rattle.shottext.proofs.LineLaws.{refused-length, shot-length}
+use Rattle.shotlines.specs.Lines.{shotLine, refusedLine}
+use Rattle.shottext.specs.Text.{stepLine, shotLines}
+use Rattle.shotlines.proofs.LineLaws.{refused-length, shot-length}
 
 -- ---- the shots from a cursor on, by what stands there
 module _ (s : List ℕ) (c : Cursor) (n : ℕ) where

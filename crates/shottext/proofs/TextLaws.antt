@@ -15,14 +15,14 @@ use Rattle.job.specs.Checking.{checked}
 use Rattle.records.specs.declared.Fields.{Fields}
 use Rattle.records.specs.declared.Taken.{Taken}
 use Rattle.records.specs.declared.Taken.the-variants.{Whole, Refused}
-use Rattle.shotfile.specs.declared.reader.ReadAnswer.{ReadAnswer}
 use Rattle.shotfile.specs.declared.reader.ReadAnswer.the-variants.{Read, Refused as Unread}
 use Rattle.records.specs.Records.{headerAbsent, firstAbsent, recordAt}
 use Rattle.shotfile.specs.Files.{File, file, refused, fileIn}
 use Rattle.shotfile.specs.Calls.{readAnswer, readCoords}
 use Rattle.records.proofs.Taking.{no-map}
 use Rattle.shotfile.proofs.RoundTrip.{accepted-file}
-use Rattle.shottext.specs.Text.{settings, refusedLine, shotLines, listVerdict, verdict, recordsText, fileText}
+use Rattle.shotlines.specs.Lines.{settings, refusedLine}
+use Rattle.shottext.specs.Text.{shotLines, listVerdict, verdict, recordsText, fileText}
 
 -- ---- the verdict on a list
 pub accepted-verdict : {k : Checked} (w : List ℕ) (at : ℕ) → Accepted ≡ k → at + 128 ≤ length w → Wrote w w at at (listVerdict k)

@@ -1,17 +1,15 @@
 // A shot file as plain text, one record a line, put into a lent slice: what the program `shots` prints. The settings, the shots with their
 // numbers and places, and, at the end, why the file or its list is refused, if it is. specs/Text.antt says what the text is.
-// `lines` has the single lines. Stands on `shotfile` and `job`, and on `report`, `wording` and `buffer` for the bytes of a text.
-pub mod lines;
-
+// Stands on `shotlines`, which has the single lines, on `shotfile`, `records` and `job`, and on `buffer`.
 use job::Checked;
 use job::Refusal;
-use lines::put_refused;
-use lines::put_settings;
-use lines::put_shot;
 use records::Taken;
 use shotfile::Cursor;
 use shotfile::ReadAnswer;
 use shotfile::Step;
+use shotlines::put_refused;
+use shotlines::put_settings;
+use shotlines::put_shot;
 ghost use mathlib.Core.Path.{_≡_};
 ghost use Prim.Native.Nat.{_+_, _≤_};
 ghost use lib.ListN.{length};

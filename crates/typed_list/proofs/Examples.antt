@@ -4,11 +4,11 @@ use mathlib.Core.List.{[], _∷_}
 use Prim.Native.String.{String}
 use Rattle.report.specs.Text.{text}
 use Rattle.report.specs.Lines.{valueFrom}
-use Rattle.typed_list.specs.declared.entry.Mistake.the-variants.{UnknownWord, TooFewWords, TooManyWords, NoNumber, LargeNumber, SettingTwice, NoPlace}
+use Rattle.typed_line.specs.declared.entry.Mistake.the-variants.{UnknownWord, TooFewWords, TooManyWords, NoNumber, LargeNumber, SettingTwice, NoPlace}
 use Rattle.typed_list.specs.declared.Typed.{Typed}
 use Rattle.typed_list.specs.declared.Typed.the-variants.{List as Listed, Mistake as Mistaken}
-use Rattle.typed_list.specs.Words.{before, linesFrom, linesOf, wordsFrom}
-use Rattle.typed_list.specs.Entries.{digitsOnly, numberOf, same, commandOf, onNumber, settingOf, shotOf, commanded, entryOf}
+use Rattle.typed_line.specs.Words.{before, linesFrom, linesOf, wordsFrom}
+use Rattle.typed_line.specs.Entries.{digitsOnly, numberOf, same, commandOf, onNumber, settingOf, shotOf, commanded, entryOf}
 use Rattle.typed_list.specs.Lists.{nothingYet, settled, shotMore, then, typedFrom, typedList, shotsIn}
 
 -- with places for two shots

@@ -11,18 +11,19 @@ use lib.Seq.{sets-eq, take-add, drop-drop, take-at, drop-at, take-all}
 use borrow.Author.Tests.{lt-ltb, le-ltb, le-leb, lt-leb, leb-true}
 use Rattle.buffer.specs.Wrote.{Wrote}
 use Rattle.buffer.proofs.WroteLaws.{wrote-none, wrote-then, wrote-length}
-use Rattle.typed_list.specs.declared.entry.Setting.{Setting}
-use Rattle.typed_list.specs.declared.entry.Setting.the-variants.{Field, Edge, Grid}
-use Rattle.typed_list.specs.declared.entry.Mistake.{Mistake}
-use Rattle.typed_list.specs.declared.entry.Mistake.the-variants.{SettingTwice, TooManyShots, NoPlace}
-use Rattle.typed_list.specs.declared.entry.Entry.{Entry}
-use Rattle.typed_list.specs.declared.entry.Entry.the-variants.{Nothing, Setting as Settled, Shot, Wrong}
+use Rattle.typed_line.specs.declared.entry.Setting.{Setting}
+use Rattle.typed_line.specs.declared.entry.Setting.the-variants.{Field, Edge, Grid}
+use Rattle.typed_line.specs.declared.entry.Mistake.{Mistake}
+use Rattle.typed_line.specs.declared.entry.Mistake.the-variants.{SettingTwice, TooManyShots, NoPlace}
+use Rattle.typed_line.specs.declared.entry.Entry.{Entry}
+use Rattle.typed_line.specs.declared.entry.Entry.the-variants.{Nothing, Setting as Settled, Shot, Wrong}
 use Rattle.typed_list.specs.declared.draft.Draft.{Draft}
 use Rattle.typed_list.specs.declared.draft.Next.{Next}
 use Rattle.typed_list.specs.declared.draft.Next.the-variants.{Goes, Stops}
 use Rattle.typed_list.specs.declared.Typed.the-variants.{List as Listed, Mistake as Mistaken}
-use Rattle.typed_list.specs.Lists.{lineEntry, nothingYet, given, settled, shotMore, then, listed, onNext, typedFrom, typedList, coordsOf, shotsIn, stored}
-use Rattle.typed_list.specs.Words.{linesOf}
+use Rattle.typed_line.specs.Entries.{lineEntry}
+use Rattle.typed_list.specs.Lists.{nothingYet, given, settled, shotMore, then, listed, onNext, typedFrom, typedList, coordsOf, shotsIn, stored}
+use Rattle.typed_line.specs.Words.{linesOf}
 
 -- ---- a setting more
 module _ (d : Draft) (n : ℕ) {which : Setting} where

@@ -1,4 +1,1 @@
-pub mod Words
-pub mod Entries
 pub mod Lists
-pub mod Cursors

@@ -4,23 +4,19 @@ use mathlib.Core.List.{List, [], _∷_, _++_}
 use Prim.Native.Nat.{ℕ, suc, _+_, _*_}
 use lib.Dec.{ltb, leb}
 use lib.ListN.{length, drop}
-use Rattle.typed_list.specs.declared.entry.Setting.{Setting}
-use Rattle.typed_list.specs.declared.entry.Setting.the-variants.{Field, Edge, Grid}
-use Rattle.typed_list.specs.declared.entry.Mistake.the-variants.{SettingTwice, TooManyShots, NoPlace}
-use Rattle.typed_list.specs.declared.entry.Entry.{Entry}
-use Rattle.typed_list.specs.declared.entry.Entry.the-variants.{Nothing, Setting as Settled, Shot, Wrong}
+use Rattle.typed_line.specs.declared.entry.Setting.{Setting}
+use Rattle.typed_line.specs.declared.entry.Setting.the-variants.{Field, Edge, Grid}
+use Rattle.typed_line.specs.declared.entry.Mistake.the-variants.{SettingTwice, TooManyShots, NoPlace}
+use Rattle.typed_line.specs.declared.entry.Entry.{Entry}
+use Rattle.typed_line.specs.declared.entry.Entry.the-variants.{Nothing, Setting as Settled, Shot, Wrong}
 use Rattle.typed_list.specs.declared.draft.Given.{Given}
 use Rattle.typed_list.specs.declared.draft.Draft.{Draft}
 use Rattle.typed_list.specs.declared.draft.Next.{Next}
 use Rattle.typed_list.specs.declared.draft.Next.the-variants.{Goes, Stops}
 use Rattle.typed_list.specs.declared.Typed.{Typed}
 use Rattle.typed_list.specs.declared.Typed.the-variants.{List as Listed, Mistake as Mistaken}
-use Rattle.typed_list.specs.Words.{linesOf, uncommented, wordsOf}
-use Rattle.typed_list.specs.Entries.{entryOf}
-
--- what a line says
-abbrev pub lineEntry : List ℕ → Entry
-lineEntry line = entryOf (wordsOf (uncommented line))
+use Rattle.typed_line.specs.Words.{linesOf}
+use Rattle.typed_line.specs.Entries.{lineEntry}
 
 -- ---- the lines above
 -- a setting that no line has given yet, and one that a line gave

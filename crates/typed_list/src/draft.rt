@@ -1,7 +1,7 @@
 // What the lines above say, and one line more.
-use crate::entry::Entry;
-use crate::entry::Mistake;
-use crate::entry::Setting;
+use typed_line::Entry;
+use typed_line::Mistake;
+use typed_line::Setting;
 ghost use mathlib.Core.Path.{_≡_};
 ghost use Rattle.typed_list.specs.Lists.{nothingYet, settled, shotMore, then};
 

@@ -1,27 +1,25 @@
 // A shot list as it is typed: plain text, a setting or a shot a line. `read_text` takes a text to a list with its settings, or to its
-// first mistake. specs/Words.antt says how a text is cut, specs/Entries.antt what a line says, specs/Lists.antt what the text says.
-// `word`, `entry` and `draft` are the parts of the reading. Stands on `buffer`, and on `report` for
-// the bytes of a text and the worth of digits.
+// first mistake. specs/Lists.antt says what the lines above say, one more, and the text. `draft` has the lines above.
+// Stands on `typed_line`, which reads a single line, and on `buffer`; its examples also on `report`.
 mod draft;
-mod entry;
-mod word;
 
 use crate::draft::Draft;
 use crate::draft::Next;
 use crate::draft::nothing_yet;
 use crate::draft::then;
-use crate::entry::Entry;
-use crate::entry::read_line;
-use crate::word::End;
-use crate::word::until;
-pub use entry::Mistake;
+use typed_line::End;
+use typed_line::Entry;
+use typed_line::Mistake;
+use typed_line::read_line;
+use typed_line::until;
 ghost use mathlib.Core.Path.{_≡_};
 ghost use mathlib.Core.List.{[], _∷_, _++_};
 ghost use Prim.Native.Nat.{_+_, _≤_};
 ghost use lib.ListN.{length, drop};
 ghost use Rattle.buffer.specs.Wrote.{Wrote};
-ghost use Rattle.typed_list.specs.Words.{part, linesOf};
-ghost use Rattle.typed_list.specs.Lists.{lineEntry, listed, coordsOf, shotsIn, typedList, stored};
+ghost use Rattle.typed_line.specs.Words.{part, linesOf};
+ghost use Rattle.typed_line.specs.Entries.{lineEntry};
+ghost use Rattle.typed_list.specs.Lists.{listed, coordsOf, shotsIn, typedList, stored};
 
 // What a text says.
 pub enum Typed {

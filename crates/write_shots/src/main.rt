@@ -6,7 +6,7 @@ use job::Refusal;
 use libc::STDERR_FILENO;
 use libc::STDOUT_FILENO;
 use shotfile::writer::WriteAnswer;
-use typed_list::Mistake;
+use typed_line::Mistake;
 use typed_list::Typed;
 
 fn say(words: &[u8]) {

@@ -3,7 +3,7 @@ use mathlib.Core.Path.{sym, _∙_}
 use native.Mathlib.Omega.{arith}
 use lib.ListN.{length, getD}
 use Rattle.buffer.proofs.WroteLaws.{wrote-then, wrote-as}
-use Rattle.shottext.proofs.LineLaws.{settings-length}
+use Rattle.shotlines.proofs.LineLaws.{settings-length}
 use Rattle.shottext.proofs.TextLaws.{text-whole, text-refused, has-map}
 use borrow.Author.Needs.{needs}
 use Rattle.shottext.proofs.put_text.Statement.{statement}

@@ -5,8 +5,8 @@ use native.Mathlib.Omega.{arith}
 use lib.ListN.{length, drop}
 use borrow.Author.Needs.{needs}
 use Rattle.typed_list.specs.Lists.{typedFrom, typedList}
-use Rattle.typed_list.specs.Words.{linesOf, newline}
-use Rattle.typed_list.proofs.Cutting.{before-within, line-first, line-last, line-more}
+use Rattle.typed_line.specs.Words.{linesOf, newline}
+use Rattle.typed_line.proofs.Cutting.{before-within, line-first, line-last, line-more}
 use Rattle.typed_list.proofs.Listing.{typed-end, typed-stops, typed-goes, typed-start}
 use Rattle.typed_list.proofs.check_text.Statement.{statement}
 use Rattle.typed_list.proofs.check_text.Tie as tie

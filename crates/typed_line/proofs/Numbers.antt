@@ -1,0 +1,122 @@
+-- A number's digits one after another. Assumes nothing.
+use mathlib.Core.Path.{_≡_, refl, sym, ap, _∙_}
+use mathlib.Core.Bool.{Bool, true, false, _&&_}
+use mathlib.Core.List.{List, [], _∷_}
+use Prim.Native.Nat.{ℕ, _+_, _-_, _*_, _≤_, _<_}
+use native.Mathlib.Omega.{arith}
+use lib.Dec.{leb, eqb}
+use lib.ListN.{length, drop, getD, drop-of-length-le}
+use borrow.Author.Tests.{leb-true, le-leb, lt-leb, eq-eqb, ne-eqb}
+use Rattle.report.specs.Lines.{valueFrom}
+use Rattle.typed_line.specs.declared.entry.Number.the-variants.{Is, NoDigit, TooLarge}
+use Rattle.typed_line.specs.Entries.{digit, digitsOnly, numberOf, same}
+use Rattle.typed_line.proofs.Cutting.{here}
+
+-- ---- digits
+pub both : (a b : Bool) → a && b ≡ true → (a ≡ true) × (b ≡ true)
+both true b e = (refl, e)
+both false b e = let z : _≡_ {A = ℕ} 0 1 = cc in absurd (omega arith)
+
+pub digit-low : (b : ℕ) → b < 48 → false ≡ digit b
+digit-low b h = rw (lt-leb 48 b h)
+
+pub digit-high : (b : ℕ) → 48 ≤ b → leb b 57 ≡ digit b
+digit-high b h = rw (le-leb 48 b h)
+
+pub digit-range : (b : ℕ) → digit b ≡ true → (48 ≤ b) × (b ≤ 57)
+digit-range b e = let p = both (leb 48 b) (leb b 57) e in (leb-true 48 b (p .0), leb-true b 57 (p .1))
+
+digits-cons : (b : ℕ) (s : List ℕ) → digitsOnly (b ∷ s) ≡ digit b && digitsOnly s
+unfolding digitsOnly
+digits-cons b s = refl
+
+digits-none : digitsOnly [] ≡ true
+unfolding digitsOnly
+digits-none = refl
+
+module _ (w : List ℕ) (i : ℕ) where
+  pub digits-end : length w ≤ i → digitsOnly (drop i w) ≡ true
+  digits-end h = ap digitsOnly (drop-of-length-le w h) ∙ digits-none
+
+  module _ (h : i < length w) where
+    digits-here : digitsOnly (drop i w) ≡ digit (getD w i 0) && digitsOnly (drop (i + 1) w)
+    digits-here = ap digitsOnly (here w i h) ∙ digits-cons (getD w i 0) (drop (i + 1) w)
+
+    pub digits-stop : digit (getD w i 0) ≡ false → digitsOnly (drop i w) ≡ false
+    digits-stop e = digits-here ∙ ap (λ t. t && digitsOnly (drop (i + 1) w)) e
+
+    pub digits-on : digit (getD w i 0) ≡ true → digitsOnly (drop i w) ≡ digitsOnly (drop (i + 1) w)
+    digits-on e = digits-here ∙ ap (λ t. t && digitsOnly (drop (i + 1) w)) e
+
+    pub digits-all : digitsOnly (drop i w) ≡ true → (digit (getD w i 0) ≡ true) × (digitsOnly (drop (i + 1) w) ≡ true)
+    digits-all e = both (digit (getD w i 0)) (digitsOnly (drop (i + 1) w)) (sym digits-here ∙ e)
+
+-- ---- what they are worth
+value-cons : (v b : ℕ) (s : List ℕ) → valueFrom v (b ∷ s) ≡ valueFrom (v * 10 + (b - 48)) s
+unfolding valueFrom
+value-cons v b s = refl
+
+value-none : (v : ℕ) → valueFrom v [] ≡ v
+unfolding valueFrom
+value-none v = refl
+
+pub value-least : (v : ℕ) (s : List ℕ) → v ≤ valueFrom v s
+unfolding valueFrom
+value-least v [] = omega arith
+value-least v (b ∷ s) = omega (arith, value-least (v * 10 + (b - 48)) s)
+
+pub value-on : (w : List ℕ) (v i : ℕ) → i < length w → valueFrom v (drop i w) ≡ valueFrom (v * 10 + (getD w i 0 - 48)) (drop (i + 1) w)
+value-on w v i h = ap (valueFrom v) (here w i h) ∙ value-cons v (getD w i 0) (drop (i + 1) w)
+
+pub value-end : (w : List ℕ) (v i : ℕ) → length w ≤ i → valueFrom v (drop i w) ≡ v
+value-end w v i h = ap (valueFrom v) (drop-of-length-le w h) ∙ value-none v
+
+-- ---- numbers
+pub number-not : (w : List ℕ) → digitsOnly w ≡ false → NoDigit ≡ numberOf w
+unfolding numberOf
+number-not w e = rw e
+
+pub number-large : (w : List ℕ) → digitsOnly w ≡ true → 65535 < valueFrom 0 w → TooLarge ≡ numberOf w
+unfolding numberOf
+number-large w e h = rw (e, lt-leb (valueFrom 0 w) 65535 h)
+
+pub number-is : (w : List ℕ) (v : ℕ) → digitsOnly w ≡ true → valueFrom 0 w ≡ v → v ≤ 65535 → Is v ≡ numberOf w
+unfolding numberOf
+number-is w v e q h = rw (e, q, le-leb v 65535 h)
+
+-- ---- the same bytes
+same-cons : (a b : ℕ) (s t : List ℕ) → same (a ∷ s) (b ∷ t) ≡ eqb a b && same s t
+unfolding same
+same-cons a b s t = refl
+
+same-more : (a : ℕ) (s : List ℕ) → same (a ∷ s) [] ≡ false
+unfolding same
+same-more a s = refl
+
+same-fewer : (b : ℕ) (t : List ℕ) → same [] (b ∷ t) ≡ false
+unfolding same
+same-fewer b t = refl
+
+same-none : same [] [] ≡ true
+unfolding same
+same-none = refl
+
+module _ (a b : List ℕ) (i : ℕ) where
+  pub same-longer : i < length a → length b ≤ i → same (drop i a) (drop i b) ≡ false
+  same-longer h k = ap (λ l. same l (drop i b)) (here a i h) ∙ (ap (same (getD a i 0 ∷ drop (i + 1) a)) (drop-of-length-le b k) ∙ same-more (getD a i 0) (drop (i + 1) a))
+
+  pub same-shorter : length a ≤ i → i < length b → same (drop i a) (drop i b) ≡ false
+  same-shorter h k = ap (λ l. same l (drop i b)) (drop-of-length-le a h) ∙ (ap (same []) (here b i k) ∙ same-fewer (getD b i 0) (drop (i + 1) b))
+
+  pub same-ended : length a ≤ i → length b ≤ i → same (drop i a) (drop i b) ≡ true
+  same-ended h k = ap (λ l. same l (drop i b)) (drop-of-length-le a h) ∙ (ap (same []) (drop-of-length-le b k) ∙ same-none)
+
+  module _ (h : i < length a) (k : i < length b) where
+    same-here : same (drop i a) (drop i b) ≡ eqb (getD a i 0) (getD b i 0) && same (drop (i + 1) a) (drop (i + 1) b)
+    same-here = ap (λ l. same l (drop i b)) (here a i h) ∙ (ap (same (getD a i 0 ∷ drop (i + 1) a)) (here b i k) ∙ same-cons (getD a i 0) (getD b i 0) (drop (i + 1) a) (drop (i + 1) b))
+
+    pub same-unlike : (getD a i 0 ≡ getD b i 0 → ⊥) → same (drop i a) (drop i b) ≡ false
+    same-unlike n = same-here ∙ ap (λ t. t && same (drop (i + 1) a) (drop (i + 1) b)) (ne-eqb (getD a i 0) (getD b i 0) n)
+
+    pub same-like : getD a i 0 ≡ getD b i 0 → same (drop i a) (drop i b) ≡ same (drop (i + 1) a) (drop (i + 1) b)
+    same-like e = same-here ∙ ap (λ t. t && same (drop (i + 1) a) (drop (i + 1) b)) (eq-eqb (getD a i 0) (getD b i 0) e)

@@ -1,0 +1,3 @@
+pub mod Words
+pub mod Entries
+pub mod Cursors
