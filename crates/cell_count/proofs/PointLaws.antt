@@ -14,7 +14,7 @@ use Rattle.job.specs.Job.{shotsOf, Valid}
 use Rattle.grid.specs.Grid.{between, Starts, Holds}
 use Rattle.cover.specs.Cover.{runCovers}
 use Rattle.grid.proofs.CellLaws.{digits-below, square-most, cube-most}
-use Rattle.grid.proofs.ReadLaws.{holds-starts, holds-run}
+use Rattle.runs.proofs.ReadLaws.{holds-starts, holds-run}
 use Rattle.cover.proofs.CoverRuns.{OnInterval, run-around}
 use Rattle.cell_count.specs.Points.{fourBits, InInterval}
 

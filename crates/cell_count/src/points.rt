@@ -1,5 +1,5 @@
 // Point by point over the field: the pattern of each lattice point through the cover test, and what it counts.
-// One run serves the eight cells about a point, since closed boxes that touch are enough (grid's proofs/CoverRuns.antt).
+// One run serves the eight cells about a point, since closed boxes that touch are enough (cover's proofs/CoverRuns.antt).
 ghost use mathlib.Core.Path.{_≡_};
 ghost use Prim.Native.Nat.{_+_, _*_, _/_, _≤_};
 ghost use Rattle.lattice.specs.Cells.{bit, below, up};
@@ -13,8 +13,8 @@ ghost use Rattle.cell_count.specs.Points.{atPattern, plus, lineTo, plane
 use crate::tallies::tally;
 use cover::covers;
 use grid::intervals::cells_of;
-use grid::runs::run_of;
 use lattice::sums::Totals;
+use runs::run_of;
 
 // 1 if the run covers the cell that ends at (x, y, z); no cell ends at 0.
 fn cell_ends(coords: &[u16], edge: u16, run: &[u32], x: u16, y: u16, z: u16) -> u8

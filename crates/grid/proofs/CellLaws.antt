@@ -1,16 +1,14 @@
--- Grid cells by their numbers: a run is found by narrowing a slab to a row and a row to a cell, and the runs of a valid list are few.
-use mathlib.Core.Path.{_≡_, sym, _∙_}
-use mathlib.Core.Bool.{Bool, _&&_, and-assoc}
+-- Grid cells by their numbers, and that the runs of a valid list are few.
+use mathlib.Core.Path.{_≡_, _∙_}
 use mathlib.Core.List.{List}
 use Prim.Native.Nat.{ℕ, _+_, _*_, _/_, _%_, _≤_, _<_}
 use native.Mathlib.Nat.{mul-le-mul, mul-le-mul-right, add-mul, one-mul, add-zero, mul-add-div-right, mul-add-mod-self-right, mod-eq-of-lt, div-eq-of-lt}
 use native.Mathlib.Omega.{arith}
-use lib.ListN.{length, getD}
+use lib.ListN.{length}
 use Rattle.job.specs.Job.{shotAt, Valid}
-use Rattle.grid.specs.Numbers.{upTo, keep, joined}
-use Rattle.grid.specs.Grid.{meets, meetsOn, touchesCell, touchesSlab, shotCount, runOf, rowOf, slabOf}
-use Rattle.grid.specs.Filling.{Ready}
-use Rattle.grid.proofs.NumberLaws.{upTo-length, keep-length, keep-keep, keep-agree, joined-length-most, joined-length-up}
+use Rattle.grid.specs.Numbers.{upTo, joined}
+use Rattle.grid.specs.Grid.{touchesCell, touchesSlab, shotCount, runOf, slabOf}
+use Rattle.grid.proofs.NumberLaws.{upTo-length, keep-length, joined-length-most, joined-length-up}
 
 -- ---- numbers of two digits: a * n + b with b < n
 
@@ -23,29 +21,6 @@ module _ (n a b : ℕ) (h : b < n) where
 
   pub digits-below : (m : ℕ) → a < m → a * n + b < m * n
   digits-below m k = omega (arith, mul-le-mul-right {m = a + 1} {n = m} n (omega arith), add-mul a 1 n, one-mul n)
-
--- ---- narrowing
-
-module _ (F E G : ℕ) (coords : List ℕ) where
-  pub slab-narrow : (gx : ℕ) → slabOf F E G coords gx ≡ keep (meetsOn 0 (F / G) gx E coords) (upTo (shotCount coords))
-  unfolding slabOf
-  slab-narrow gx = keep-agree _ _ (shotCount coords) λ i l. rw (add-zero (3 * i))
-
-  pub row-narrow : (gx gy : ℕ) → gy < G → rowOf F E G coords (gx * G + gy) ≡ keep (meetsOn 1 (F / G) gy E coords) (slabOf F E G coords gx)
-  unfolding rowOf slabOf
-  row-narrow gx gy h = rw (digit-high G gx gy h, digit-low G gx gy h) (sym (keep-keep _ _ (upTo (shotCount coords))))
-
-  pub run-narrow : (line gz : ℕ) → gz < G → runOf F E G coords (line * G + gz) ≡ keep (meetsOn 2 (F / G) gz E coords) (rowOf F E G coords line)
-  unfolding runOf rowOf
-  run-narrow line gz h =
-      rw (digit-high G line gz h, digit-low G line gz h)
-      (sym (keep-keep row cell (upTo (shotCount coords)) ∙ keep-agree _ _ (shotCount coords) λ i l. and-assoc (meets (F / G) (line / G) (getD coords (3 * i) 0) E) (meetsOn 1 (F / G) (line % G) E coords i) (cell i)))
-    where
-      row : ℕ → Bool
-      row i = meets (F / G) (line / G) (getD coords (3 * i) 0) E && meetsOn 1 (F / G) (line % G) E coords i
-
-      cell : ℕ → Bool
-      cell = meetsOn 2 (F / G) gz E coords
 
 -- ---- a valid list's runs are few
 
@@ -67,6 +42,3 @@ module _ (F E G : ℕ) (coords : List ℕ) (v : Valid F E G coords) where
   pub runs-few : (c : ℕ) → c ≤ G * G * G → length (joined c (runOf F E G coords)) ≤ 1073741824
   runs-few c h =
       omega (arith, joined-length-up (runOf F E G coords) c (G * G * G) h, joined-length-most (runOf F E G coords) 4096 run-few (G * G * G), cube-most G (v .grid-most))
-
-  pub place-fits : (c at : ℕ) {w : List ℕ} → c ≤ G * G * G → Ready (runOf F E G coords) (G * G * G) c at w → at < 4294967296
-  place-fits c at h p = omega (arith, p .next, runs-few c h, cube-most G (v .grid-most))

@@ -1,12 +1,9 @@
 pub mod NumberLaws
-pub mod StoreLaws
+pub mod StartLaws
+pub mod PutLaws
 pub mod TouchLaws
 pub mod CellLaws
-pub mod FillLaws
-pub mod IndexLaws
-pub mod ReadLaws
 pub mod ShotLaws
-pub mod SlabLaws
 pub mod TotalLaws
 pub mod NeedLaws
 pub mod Examples

@@ -3,7 +3,6 @@ use mathlib.Core.Bool.{Bool, cond, _||_, false}
 use mathlib.Core.List.{List, [], _∷_, _++_}
 use Prim.Native.Nat.{ℕ, zero, suc}
 use lib.Dec.{eqb}
-use lib.ListN.{getD, set}
 
 -- 0, 1, .. n - 1
 unfoldable pub upTo : ℕ → List ℕ
@@ -24,11 +23,3 @@ joined (suc n) f = joined n f ++ f n
 unfoldable pub has : List ℕ → ℕ → Bool
 has [] a = false
 has (b ∷ l) a = eqb a b || has l a
-
--- a row of marks after a 1 is put at each place that a list names; a place past the row's end is passed over
-unfoldable pub marked : List ℕ → List ℕ → List ℕ
-marked row [] = row
-marked row (a ∷ l) = marked (set row a 1) l
-
-abbrev pub isMarked : List ℕ → ℕ → Bool
-isMarked row a = eqb (getD row a 0) 1

@@ -1,7 +1,7 @@
 // The intake of a list, which every call that measures it begins with: its checks, the length of the work slice, and its index.
 //
 // specs/Intake.antt says what a list's intake answers and leaves, and what measuring answers then: the totals of the cells that the
-// list covers, or the first refusal of 1, 2, 6, 7, 8, 9, 10. Stands on `job` and `grid`.
+// list covers, or the first refusal of 1, 2, 6, 7, 8, 9, 10. Stands on `job`, `grid` and `filling`.
 ghost use mathlib.Core.Path.{_≡_};
 ghost use lib.ListN.{length};
 ghost use Rattle.intake.specs.Intake.{measureChecked, workAfter};
@@ -24,10 +24,10 @@ pub fn indexed(field: u16, edge: u16, grid: u16, coords: &[u16], work: &mut [u32
     let Checked::Accepted = checked else {
         return checked;
     };
-    let need = grid::index::need(field, edge, grid, coords);
+    let need = grid::need::need(field, edge, grid, coords);
     if work.len() < need {
         return Checked::Refused(Refusal::ShortWork { entries: need });
     }
-    grid::index::build(field, edge, grid, coords, work);
+    filling::build(field, edge, grid, coords, work);
     Checked::Accepted
 }

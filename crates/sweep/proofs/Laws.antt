@@ -32,7 +32,7 @@ use Rattle.grid.specs.Grid.{slabOf, shotCount, touchesSlab, meets}
 use Rattle.grid.proofs.NumberLaws.{has-keep}
 use Rattle.grid.proofs.CellLaws.{slab-few}
 use Rattle.grid.proofs.ShotLaws.{width-times}
-use Rattle.grid.proofs.SlabLaws.{plane-meets, slab-has}
+use Rattle.runs.proofs.SlabLaws.{plane-meets, slab-has}
 use Rattle.rows.specs.Runs.{InRun, runTo, shotsIn}
 use Rattle.marks.specs.Marks.{MarkedMore, Marked}
 use Rattle.selection.specs.Selection.{wanted}

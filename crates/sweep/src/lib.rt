@@ -1,6 +1,6 @@
 // The plane sweep: the corners of the solid that a list covers, in rising order of x, y and z, with their sums, and their records as far
 // as a lent buffer has room. The planes of a slab of the grid take their shots from the index; planes on no face, and slabs without any
-// face, are passed over, so the cost does not depend on the field's volume. Stands on `plane` and `grid`.
+// face, are passed over, so the cost does not depend on the field's volume. Stands on `plane`, `grid` and `runs`.
 ghost use mathlib.Core.Path.{_≡_};
 ghost use Prim.Native.Nat.{_+_, _*_, _/_, _<_, _≤_};
 ghost use lib.ListN.{length};
@@ -146,7 +146,7 @@ fn slab(
         return t;
     }
     let mut run = [0u16; 4096];
-    let n = grid::runs::slab(field, edge, grid, coords, work, gx, &mut run);
+    let n = runs::slab(field, edge, grid, coords, work, gx, &mut run);
     planes(
         coords,
         edge as usize,

@@ -1,0 +1,4 @@
+pub mod StoreLaws
+pub mod NarrowLaws
+pub mod FillLaws
+pub mod IndexLaws

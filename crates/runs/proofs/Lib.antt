@@ -1,0 +1,4 @@
+pub mod MarkLaws
+pub mod PickLaws
+pub mod ReadLaws
+pub mod SlabLaws
