@@ -1,5 +1,6 @@
 // The corners of one line along z, the points (x, y, ..): read inside the window of the shots that have a face on the plane x and touch
-// the line; outside it nothing changes across x, so no point there is a corner. Stands on `chains`, `fours` and `tally`.
+// the line; outside it nothing changes across x, so no point there is a corner. Stands on `windows`, `chains`, `fours`
+// and `tally`.
 ghost use mathlib.Core.Path.{_≡_};
 ghost use Prim.Native.Nat.{_+_, _*_, _≤_};
 ghost use lib.ListN.{length};

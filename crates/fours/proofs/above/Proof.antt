@@ -1,3 +1,4 @@
+-- The places so far hold all four cells.
 use Prim.Native.Nat.{_≤_, _-_, _+_}
 use mathlib.Core.Path.{_≡_, refl}
 use native.Mathlib.Omega.{arith}
@@ -17,55 +18,42 @@ Inv-loop y lo end u0 u1 low four₀ z₀ four z = (lo ≤ z) × (z ≤ end) × F
 abbrev μ-loop : tie.MeasureT-loop
 μ-loop y lo end u0 u1 low four₀ z₀ four z = end - z
 
--- src/lib.rt:50:5
 loop-holds : tie.Need-loop-holds Inv-loop μ-loop
 loop-holds c = (omega arith, omega arith, filled-none _ _ _, bounded-none _ _ _, refl)
 
--- src/lib.rt:51:32
 shared-slice-read-four-byte : tie.Need-shared-slice-read-four-byte Inv-loop μ-loop
 shared-slice-read-four-byte c = search needs
 
--- src/lib.rt:51:40
 mul-four-byte : tie.Need-mul-four-byte Inv-loop μ-loop
 mul-four-byte c = search needs
 
--- src/lib.rt:51:40
 shared-slice-read-four-byte-2 : tie.Need-shared-slice-read-four-byte-2 Inv-loop μ-loop
 shared-slice-read-four-byte-2 c = search needs
 
--- src/lib.rt:51:47
 mul-four-byte-2 : tie.Need-mul-four-byte-2 Inv-loop μ-loop
 mul-four-byte-2 c = search needs
 
--- src/lib.rt:51:47
 shared-slice-read-four-byte-3 : tie.Need-shared-slice-read-four-byte-3 Inv-loop μ-loop
 shared-slice-read-four-byte-3 c = search needs
 
--- src/lib.rt:51:19
 four-byte-requires : tie.Need-four-byte-requires Inv-loop μ-loop
 four-byte-requires c κs = (omega arith, c .before .before .before .before .before .before .before .before .before .pre .1 .at _ (c .before .before .before .before .loop .inv .0) (omega arith))
 
--- src/lib.rt:51:9
 slice-write-four : tie.Need-slice-write-four Inv-loop μ-loop
 slice-write-four c = search needs
 
--- src/lib.rt:52:9
 add-z : tie.Need-add-z Inv-loop μ-loop
 add-z c = search needs
 
--- src/lib.rt:50:5
 loop-less : tie.Need-loop-less Inv-loop μ-loop
 loop-less c = search needs
 
--- src/lib.rt:50:5
 loop-again : tie.Need-loop-again Inv-loop μ-loop
 loop-again c = (omega arith, omega arith, filled-more _ _ _ (omega arith) (c .before .before .before .before .before .loop .inv .2) (c .four-byte .ensures .0), bounded-more _ _ _ (omega arith) (c .before .before .before .before .before .loop .inv .3) (c .four-byte .ensures .1), search needs)
 
--- src/lib.rt:44:1
 same-length : tie.Need-same-length Inv-loop μ-loop
 same-length c = search needs
 
--- src/lib.rt:44:1
 returns : tie.Need-returns Inv-loop μ-loop
 returns c = let m : c .before .loop .z ≡ c .before .before .before .before .before .before .args .end = omega arith in (rw m at (c .before .loop .inv .2), rw m at (c .before .loop .inv .3))
 

@@ -1,3 +1,4 @@
+-- Both tests decide.
 use mathlib.Core.Path.{subst}
 use lib.Dec.{T}
 use mathlib.Core.Path.{sym}
@@ -7,11 +8,9 @@ use Rattle.fours.proofs.alike.Tie as tie
 use Rattle.fours.proofs.alike.Reads as reads
 use Rattle.fours.proofs.alike.Lts as lts
 
--- src/lib.rt:71:1
 returns : tie.Need-returns
 returns c = search needs
 
--- src/lib.rt:71:1
 returns-2 : tie.Need-returns-2
 returns-2 c = λ e. absurd (subst T (sym e) tt)
 

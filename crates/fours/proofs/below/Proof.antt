@@ -1,3 +1,4 @@
+-- The places so far hold the two cells below the line.
 use Prim.Native.Nat.{_≤_, _-_, _+_}
 use mathlib.Core.Path.{_≡_, refl}
 use native.Mathlib.Omega.{arith}
@@ -17,51 +18,39 @@ Inv-loop y lo end u0 u1 low₀ z₀ low z = (lo ≤ z) × (z ≤ end) × Filled 
 abbrev μ-loop : tie.MeasureT-loop
 μ-loop y lo end u0 u1 low₀ z₀ low z = end - z
 
--- src/lib.rt:37:5
 loop-holds : tie.Need-loop-holds Inv-loop μ-loop
 loop-holds c = (omega arith, omega arith, filled-none _ _ _, refl)
 
--- src/lib.rt:38:30
 mul-low-byte : tie.Need-mul-low-byte Inv-loop μ-loop
 mul-low-byte c = search needs
 
--- src/lib.rt:38:30
 shared-slice-read-low-byte : tie.Need-shared-slice-read-low-byte Inv-loop μ-loop
 shared-slice-read-low-byte c = search needs
 
--- src/lib.rt:38:37
 mul-low-byte-2 : tie.Need-mul-low-byte-2 Inv-loop μ-loop
 mul-low-byte-2 c = search needs
 
--- src/lib.rt:38:37
 shared-slice-read-low-byte-2 : tie.Need-shared-slice-read-low-byte-2 Inv-loop μ-loop
 shared-slice-read-low-byte-2 c = search needs
 
--- src/lib.rt:38:18
 low-byte-requires : tie.Need-low-byte-requires Inv-loop μ-loop
 low-byte-requires c κs = search needs
 
--- src/lib.rt:38:9
 slice-write-low : tie.Need-slice-write-low Inv-loop μ-loop
 slice-write-low c = search needs
 
--- src/lib.rt:39:9
 add-z : tie.Need-add-z Inv-loop μ-loop
 add-z c = search needs
 
--- src/lib.rt:37:5
 loop-less : tie.Need-loop-less Inv-loop μ-loop
 loop-less c = search needs
 
--- src/lib.rt:37:5
 loop-again : tie.Need-loop-again Inv-loop μ-loop
 loop-again c = (omega arith, omega arith, filled-more _ _ _ (omega arith) (c .before .before .before .before .loop .inv .2) (c .low-byte .ensures), search needs)
 
--- src/lib.rt:32:1
 same-length : tie.Need-same-length Inv-loop μ-loop
 same-length c = search needs
 
--- src/lib.rt:32:1
 returns : tie.Need-returns Inv-loop μ-loop
 returns c = let m : c .before .loop .z ≡ c .before .before .before .before .before .args .end = omega arith in rw m at (c .before .loop .inv .2)
 

@@ -1,3 +1,4 @@
+-- The places so far are all alike if the answer is yes.
 use Prim.Native.Nat.{_≤_, _-_, _+_}
 use mathlib.Core.Path.{_≡_, refl}
 use native.Mathlib.Omega.{arith}
@@ -16,43 +17,33 @@ Inv-loop four z end still₀ k₀ still k = (z ≤ k) × (k ≤ end) × StillIf 
 abbrev μ-loop : tie.MeasureT-loop
 μ-loop four z end still₀ k₀ still k = end - k
 
--- src/lib.rt:61:15
 add-end : tie.Need-add-end Inv-loop μ-loop
 add-end c = search needs
 
--- src/lib.rt:64:5
 loop-holds : tie.Need-loop-holds Inv-loop μ-loop
 loop-holds c = (omega arith, omega arith, if-none _ _ _)
 
--- src/lib.rt:65:30
 shared-slice-read-alike : tie.Need-shared-slice-read-alike Inv-loop μ-loop
 shared-slice-read-alike c = search needs
 
--- src/lib.rt:65:44
 add-alike : tie.Need-add-alike Inv-loop μ-loop
 add-alike c = search needs
 
--- src/lib.rt:65:39
 shared-slice-read-alike-2 : tie.Need-shared-slice-read-alike-2 Inv-loop μ-loop
 shared-slice-read-alike-2 c = search needs
 
--- src/lib.rt:65:9
 alike-requires : tie.Need-alike-requires Inv-loop μ-loop
 alike-requires c κs = search needs
 
--- src/lib.rt:66:9
 add-k : tie.Need-add-k Inv-loop μ-loop
 add-k c = search needs
 
--- src/lib.rt:64:5
 loop-less : tie.Need-loop-less Inv-loop μ-loop
 loop-less c = search needs
 
--- src/lib.rt:64:5
 loop-again : tie.Need-loop-again Inv-loop μ-loop
 loop-again c = (omega arith, omega arith, if-more _ _ _ (c .before .before .before .before .loop .inv .2) (c .alike .ensures))
 
--- src/lib.rt:57:1
 returns : tie.Need-returns Inv-loop μ-loop
 returns c = let m : c .before .loop .k ≡ c .before .before .before .args .z + 32 = omega arith in rw m at (c .before .loop .inv .2)
 

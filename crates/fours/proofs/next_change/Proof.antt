@@ -1,3 +1,4 @@
+-- Up to here nothing changes.
 use Prim.Native.Nat.{_≤_, _-_, _+_}
 use mathlib.Core.Path.{_≡_, refl}
 use native.Mathlib.Omega.{arith}
@@ -16,43 +17,33 @@ Inv-loop four z hi k₀ k = (z ≤ k) × (k ≤ hi + 1) × Still z k four
 abbrev μ-loop : tie.MeasureT-loop
 μ-loop four z hi k₀ k = hi + 1 - k
 
--- src/lib.rt:98:9
 skip-requires : tie.Need-skip-requires Inv-loop μ-loop
 skip-requires c κs = search needs
 
--- src/lib.rt:99:5
 loop-holds : tie.Need-loop-holds Inv-loop μ-loop
 loop-holds c = c .skip .ensures
 
--- src/lib.rt:100:12
 shared-slice-read-if1 : tie.Need-shared-slice-read-if1 Inv-loop μ-loop
 shared-slice-read-if1 c = search needs
 
--- src/lib.rt:100:28
 add-if1 : tie.Need-add-if1 Inv-loop μ-loop
 add-if1 c = search needs
 
--- src/lib.rt:100:23
 shared-slice-read-if1-2 : tie.Need-shared-slice-read-if1-2 Inv-loop μ-loop
 shared-slice-read-if1-2 c = search needs
 
--- src/lib.rt:101:13
 returns : tie.Need-returns Inv-loop μ-loop
 returns c = record { from = c .before .before .before .before .loop .inv .0; to = c .before .before .before .before .loop .inv .1; still = c .before .before .before .before .loop .inv .2; turns = λ h. c .if1 .taken }
 
--- src/lib.rt:103:9
 add-k : tie.Need-add-k Inv-loop μ-loop
 add-k c = search needs
 
--- src/lib.rt:99:5
 loop-less : tie.Need-loop-less Inv-loop μ-loop
 loop-less c = search needs
 
--- src/lib.rt:99:5
 loop-again : tie.Need-loop-again Inv-loop μ-loop
 loop-again c = (omega arith, omega arith, still-more _ _ _ (c .before .before .before .before .loop .inv .2) (c .if1 .left))
 
--- src/lib.rt:94:1
 returns-2 : tie.Need-returns-2 Inv-loop μ-loop
 returns-2 c = record { from = c .before .loop .inv .0; to = c .before .loop .inv .1; still = c .before .loop .inv .2; turns = λ h. absurd (omega arith) }
 

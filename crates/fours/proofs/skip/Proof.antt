@@ -1,3 +1,4 @@
+-- The blocks that are passed over are still.
 use Prim.Native.Nat.{_≤_, _-_, _+_}
 use mathlib.Core.Path.{_≡_, refl}
 use native.Mathlib.Omega.{arith}
@@ -16,35 +17,27 @@ Inv-loop four z hi k₀ k = (z ≤ k) × (k ≤ hi + 1) × Still z k four
 abbrev μ-loop : tie.MeasureT-loop
 μ-loop four z hi k₀ k = hi + 1 - k
 
--- src/lib.rt:83:5
 loop-holds : tie.Need-loop-holds Inv-loop μ-loop
 loop-holds c = (omega arith, omega arith, still-none _ _)
 
--- src/lib.rt:83:11
 add-loop : tie.Need-add-loop Inv-loop μ-loop
 add-loop c = search needs
 
--- src/lib.rt:84:12
 block-still-requires : tie.Need-block-still-requires Inv-loop μ-loop
 block-still-requires c κs = search needs
 
--- src/lib.rt:85:13
 add-k : tie.Need-add-k Inv-loop μ-loop
 add-k c = search needs
 
--- src/lib.rt:83:5
 loop-less : tie.Need-loop-less Inv-loop μ-loop
 loop-less c = search needs
 
--- src/lib.rt:83:5
 loop-again : tie.Need-loop-again Inv-loop μ-loop
 loop-again c = (omega arith, omega arith, still-on _ _ _ _ (c .before .before .before .loop .inv .2) (c .before .block-still .ensures .yes (c .if1 .taken)))
 
--- src/lib.rt:87:13
 returns : tie.Need-returns Inv-loop μ-loop
 returns c = c .before .before .before .loop .inv
 
--- src/lib.rt:78:1
 returns-2 : tie.Need-returns-2 Inv-loop μ-loop
 returns-2 c = c .before .loop .inv
 

@@ -13,75 +13,57 @@ use Rattle.fours.proofs.above.Reads as above-reads
 use Rattle.fours.proofs.below.Reads as below-reads
 use Rattle.line.proofs.scan.Reads as scan-reads
 
--- src/lib.rt:69:9
 begin-requires : tie.Need-begin-requires
 begin-requires c κs = search needs
 
--- src/lib.rt:70:9
 same-length : tie.Need-same-length
 same-length c = search needs
 
--- src/lib.rt:70:9
 same-length-2 : tie.Need-same-length-2
 same-length-2 c = search needs
 
--- src/lib.rt:70:9
 returns : tie.Need-returns
 returns c = line-empty _ _ _ _ _ _ _ (c .before .before .before .before .before .before .before .before .before .before .before .before .before .before .before .pre) (c .before .before .before .before .begin .ensures .0) (c .before .before .before .before .begin .ensures .1) (c .before .before .before .before .before .before .before .if1 .taken) _
 
--- src/lib.rt:73:25
 add-below : tie.Need-add-below
 add-below c = search needs
 
--- src/lib.rt:73:41
 slice-aggregate-below : tie.Need-slice-aggregate-below
 slice-aggregate-below c = search needs
 
--- src/lib.rt:73:5
 below-requires : tie.Need-below-requires
 below-requires c κs = search needs
 
--- src/lib.rt:74:5
 begin-requires-2 : tie.Need-begin-requires-2
 begin-requires-2 c κs = search needs
 
--- src/lib.rt:76:25
 add-above : tie.Need-add-above
 add-above c = search needs
 
--- src/lib.rt:76:41
 slice-aggregate-above : tie.Need-slice-aggregate-above
 slice-aggregate-above c = search needs
 
--- src/lib.rt:76:47
 slice-aggregate-above-2 : tie.Need-slice-aggregate-above-2
 slice-aggregate-above-2 c = search needs
 
--- src/lib.rt:76:5
 above-requires : tie.Need-above-requires
 above-requires c κs = ((c .before .before .before .before .before .before .before .before .before .before .before .before .before .before .before .before .before .before .before .before .before .before .before .before .pre .y-in, omega arith, omega arith, c .before .before .before .before .before .before .before .before .begin2 .ensures .0 .size ∙ c .before .before .before .before .before .before .before .before .before .before .before .before .before .before .before .before .before .before .before .before .before .before .before .before .pre .lower .size, c .before .before .before .before .before .before .before .before .begin2 .ensures .1 .size ∙ c .before .before .before .before .before .before .before .before .before .before .before .before .before .before .before .before .before .before .before .before .before .before .before .before .pre .upper .size, search needs, search needs), low-bounded _ _ (c .before .before .before .before .before .before .before .before .before .before .before .before .before .before .before .before .before .before .before .before .before .before .before .before .args .y) (c .before .before .before .before .before .before .before .before .before .before .before .before .before .before .before .before .before .before .before .before .before .before .before .before .args .u0 .now) (c .before .before .before .before .before .before .before .before .before .before .before .before .before .before .before .before .before .before .before .before .before .before .before .before .args .u1 .now) (c .before .before .before .before .before .before .before .before .before .before .before .before .below .ensures))
 
--- src/lib.rt:77:24
 slice-aggregate-scan : tie.Need-slice-aggregate-scan
 slice-aggregate-scan c = search needs
 
--- src/lib.rt:77:5
 scan-requires : tie.Need-scan-requires
 scan-requires c κs = (c .before .before .before .before .before .before .before .before .before .before .before .before .before .before .before .before .before .before .before .before .before .before .before .before .before .before .before .before .pre .plane .x-in, c .before .before .before .before .before .before .before .before .before .before .before .before .before .before .before .before .before .before .before .before .before .before .before .before .before .before .before .before .pre .y-in, omega arith, c .before .before .before .before .before .before .before .before .before .before .before .before .before .before .before .before .before .before .before .before .before .before .before .before .before .before .before .before .pre .top, c .before .before .before .before .before .before .before .before .before .before .before .before .before .before .before .before .before .before .before .before .before .before .before .before .before .before .before .before .pre .room, search needs, c .before .before .before .above .ensures .1)
 
--- src/lib.rt:48:1
 same-length-3 : tie.Need-same-length-3
 same-length-3 c = search needs
 
--- src/lib.rt:48:1
 same-length-4 : tie.Need-same-length-4
 same-length-4 c = search needs
 
--- src/lib.rt:48:1
 same-length-5 : tie.Need-same-length-5
 same-length-5 c = search needs
 
--- src/lib.rt:48:1
 returns-2 : tie.Need-returns-2
 returns-2 c = line-full _ _ _ _ _ _ _ (c .before .before .before .before .before .before .before .before .before .before .before .before .before .before .before .before .before .before .before .before .before .before .before .before .before .before .before .before .before .before .before .pre) (c .before .before .before .before .before .before .before .before .before .before .before .before .before .before .before .begin2 .ensures .0) (c .before .before .before .before .before .before .before .before .before .before .before .before .before .before .before .begin2 .ensures .1) (c .before .before .before .before .before .before .before .before .before .before .before .before .before .before .before .before .before .before .before .below .ensures) (c .before .before .before .before .before .before .above .ensures .0) (c .before .before .scan .ensures .0) (c .before .before .scan .ensures .1)
 

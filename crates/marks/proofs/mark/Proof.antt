@@ -1,3 +1,4 @@
+-- Two stores.
 use native.Mathlib.Omega.{arith}
 use lib.ListN.{length-set}
 use Rattle.marks.proofs.Laws.{marked-two}
@@ -7,23 +8,18 @@ use Rattle.marks.proofs.mark.Tie as tie
 use Rattle.marks.proofs.mark.Reads as reads
 use Rattle.marks.proofs.mark.Lts as lts
 
--- src/lib.rt:12:5
 slice-write-row : tie.Need-slice-write-row
 slice-write-row c = search needs
 
--- src/lib.rt:13:9
 add-row : tie.Need-add-row
 add-row c = search needs
 
--- src/lib.rt:13:5
 slice-write-row-2 : tie.Need-slice-write-row-2
 slice-write-row-2 c = simp length-set (omega arith)
 
--- src/lib.rt:8:1
 same-length : tie.Need-same-length
 same-length c = search needs
 
--- src/lib.rt:8:1
 returns : tie.Need-returns
 returns c = marked-two _ _ _ (c .pre .0) (c .pre .1)
 

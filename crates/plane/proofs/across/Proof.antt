@@ -1,3 +1,4 @@
+-- The shots that touch the plane have its corners.
 use native.Mathlib.Omega.{arith}
 use native.Mathlib.Nat.{le-trans}
 use Rattle.selection.proofs.Laws.{selected-count, selected-in, selected-few}
@@ -10,39 +11,30 @@ use Rattle.plane.proofs.across.Lts as lts
 use Rattle.plane.proofs.plane_if.Reads as plane-if-reads
 use Rattle.selection.proofs.select.Reads as select-reads
 
--- src/lib.rt:98:9
 select-requires : tie.Need-select-requires
 select-requires c κs = search needs
 
--- src/lib.rt:99:30
 slice-reshare-prefix-plane-if : tie.Need-slice-reshare-prefix-plane-if
 slice-reshare-prefix-plane-if c = search needs
 
--- src/lib.rt:99:30
 slice-aggregate-plane-if : tie.Need-slice-aggregate-plane-if
 slice-aggregate-plane-if c = selected-count _ _ _ _ _ _ _ (omega (arith, c .before .before .before .select .ensures .few, c .before .before .before .select .kept .1 .1 .1 .1 .1 .0)) (c .before .before .before .select .ensures)
 
--- src/lib.rt:99:5
 plane-if-requires : tie.Need-plane-if-requires
 plane-if-requires c κs = let h = selected-few _ _ _ _ _ _ _ (omega (arith, c .before .before .before .before .before .before .select .ensures .few, c .before .before .before .before .before .before .select .kept .1 .1 .1 .1 .1 .0)) (c .before .before .before .before .before .before .select .ensures) in (selected-in _ _ _ _ _ _ _ (omega (arith, c .before .before .before .before .before .before .select .ensures .few, c .before .before .before .before .before .before .select .kept .1 .1 .1 .1 .1 .0)) (c .before .before .before .before .before .before .select .ensures), omega (arith, h), omega (arith, h), omega (arith, h), c .before .before .before .before .before .before .before .before .before .before .before .before .before .before .pre .5, c .before .before .before .before .before .before .before .before .before .before .before .before .before .before .pre .6, c .before .before .before .before .before .before .before .before .before .before .before .before .before .before .pre .7)
 
--- src/lib.rt:94:1
 same-length : tie.Need-same-length
 same-length c = search needs
 
--- src/lib.rt:94:1
 same-length-2 : tie.Need-same-length-2
 same-length-2 c = search needs
 
--- src/lib.rt:94:1
 same-length-3 : tie.Need-same-length-3
 same-length-3 c = search needs
 
--- src/lib.rt:94:1
 same-length-4 : tie.Need-same-length-4
 same-length-4 c = search needs
 
--- src/lib.rt:94:1
 returns : tie.Need-returns
 returns c = plane-near _ _ _ _ _ _ (omega (arith, c .before .before .before .before .before .before .before .before .before .before .before .before .before .select .ensures .few, c .before .before .before .before .before .before .before .before .before .before .before .before .before .select .kept .1 .1 .1 .1 .1 .0)) (c .before .before .before .before .before .before .before .before .before .before .before .before .before .select .ensures) _ (c .before .before .before .before .before .before .plane-if .ensures)
 

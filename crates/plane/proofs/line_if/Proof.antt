@@ -7,27 +7,21 @@ use Rattle.plane.proofs.line_if.Reads as reads
 use Rattle.plane.proofs.line_if.Lts as lts
 use Rattle.line.proofs.line.Reads as line-reads
 
--- src/lib.rt:64:9
 returns : tie.Need-returns
 returns c = line-skip _ _ _ _ _ _ _ (c .before .before .before .before .before .before .before .before .pre .0) (c .before .before .before .before .before .before .before .before .pre .1 .none (c .if1 .taken)) _
 
--- src/lib.rt:66:5
 line-requires : tie.Need-line-requires
 line-requires c κs = search needs
 
--- src/lib.rt:44:1
 same-length : tie.Need-same-length
 same-length c = search needs
 
--- src/lib.rt:44:1
 same-length-2 : tie.Need-same-length-2
 same-length-2 c = search needs
 
--- src/lib.rt:44:1
 same-length-3 : tie.Need-same-length-3
 same-length-3 c = search needs
 
--- src/lib.rt:44:1
 returns-2 : tie.Need-returns-2
 returns-2 c = search needs
 

@@ -27,63 +27,48 @@ Inv-loop c e field x run lows highs heads links row buf₀ u0₀ u1₀ s₀ end 
 abbrev μ-loop : tie.MeasureT-loop
 μ-loop c e field x run lows highs heads links row buf₀ u0₀ u1₀ s₀ end y₀ buf u0 u1 s y = end - y
 
--- src/lib.rt:91:15
 wide-requires : tie.Need-wide-requires Inv-loop μ-loop
 wide-requires c κs = search needs
 
--- src/lib.rt:91:15
 add-end : tie.Need-add-end Inv-loop μ-loop
 add-end c = search needs
 
--- src/lib.rt:93:5
 loop-holds : tie.Need-loop-holds Inv-loop μ-loop
 loop-holds c = (omega arith, ends-start _ _, ends-start _ _, lines-none _ _ _, room-own _ _ _ (c .before .before .before .before .before .before .before .before .before .pre .5), refl)
 
--- src/lib.rt:98:13
 cast-line-if : tie.Need-cast-line-if Inv-loop μ-loop
 cast-line-if c = search needs
 
--- src/lib.rt:99:13
 shared-slice-read-line-if : tie.Need-shared-slice-read-line-if Inv-loop μ-loop
 shared-slice-read-line-if c = search needs
 
--- src/lib.rt:100:13
 lowest-requires : tie.Need-lowest-requires Inv-loop μ-loop
 lowest-requires c κs = (omega (arith, c .before .before .before .before .before .before .before .before .before .before .before .before .pre .1 .rows .low-size), c .before .before .before .before .before .before .before .before .before .before .before .before .pre .1 .rows .low-in _)
 
--- src/lib.rt:101:13
 highest-requires : tie.Need-highest-requires Inv-loop μ-loop
 highest-requires c κs = omega (arith, c .before .before .before .before .before .before .before .before .before .before .before .before .before .pre .1 .rows .high-size)
 
--- src/lib.rt:105:13
 slice-aggregate-line-if : tie.Need-slice-aggregate-line-if Inv-loop μ-loop
 slice-aggregate-line-if c = search needs
 
--- src/lib.rt:106:13
 slice-aggregate-line-if-2 : tie.Need-slice-aggregate-line-if-2 Inv-loop μ-loop
 slice-aggregate-line-if-2 c = search needs
 
--- src/lib.rt:94:9
 line-if-requires : tie.Need-line-if-requires Inv-loop μ-loop
 line-if-requires c κs = (record { plane = c .before .before .before .before .before .before .before .before .before .before .before .before .before .before .before .before .before .pre .0; y-in = omega arith; window = rw (c .before .before .before .before .lowest .ensures, c .before .before .before .highest .ensures) (c .before .before .before .before .before .before .before .before .before .before .before .before .before .before .before .before .before .pre .1 .framed-at _); top = omega (arith, c .before .before .before .highest .ensures, c .before .before .before .before .before .before .before .before .before .before .before .before .before .before .before .before .before .pre .1 .rows .high-in (c .before .before .before .before .before .before .before .loop .y)); lower = c .before .before .before .before .before .before .before .loop .inv .1; upper = c .before .before .before .before .before .before .before .loop .inv .2; room = room-more _ _ _ (omega (arith, c .before .before .before .before .before .before .before .before .before .before .before .before .before .before .before .before .before .pre .5 .few)) (c .before .before .before .before .before .before .before .loop .inv .4) }, record { none = c .before .before .before .before .before .before .before .before .before .before .before .before .before .before .before .before .before .pre .2 .at _ })
 
--- src/lib.rt:110:9
 add-y : tie.Need-add-y Inv-loop μ-loop
 add-y c = search needs
 
--- src/lib.rt:93:5
 loop-less : tie.Need-loop-less Inv-loop μ-loop
 loop-less c = search needs
 
--- src/lib.rt:93:5
 loop-again : tie.Need-loop-again Inv-loop μ-loop
 loop-again c = (omega arith, c .before .before .before .before .line-if .ensures .lower, c .before .before .before .before .line-if .ensures .upper, lines-more _ _ _ _ (c .before .before .before .before .before .before .before .before .before .before .before .before .loop .inv .3) (c .before .before .before .before .line-if .ensures .is), room-more _ _ _ (omega (arith, c .before .before .before .before .before .before .before .before .before .before .before .before .loop .inv .4 .few)) (c .before .before .before .before .line-if .ensures .room), search needs)
 
--- src/lib.rt:71:1
 same-length : tie.Need-same-length Inv-loop μ-loop
 same-length c = search needs
 
--- src/lib.rt:71:1
 returns : tie.Need-returns Inv-loop μ-loop
 returns c = lines-all _ _ _ _ (c .before .loop .y) (omega arith) (c .before .before .before .before .before .before .before .before .before .before .before .pre .4) (c .before .loop .inv .3) (c .before .loop .inv .4)
 

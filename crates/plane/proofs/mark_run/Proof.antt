@@ -1,3 +1,4 @@
+-- The faces of the shots so far are marked.
 use mathlib.Core.Path.{_≡_, refl}
 use Prim.Native.Nat.{_≤_, _-_, _+_}
 use native.Mathlib.Omega.{arith}
@@ -20,43 +21,33 @@ Inv-loop c e run row₀ q₀ row q = (q ≤ length run) × Marked y-axis (runTo 
 abbrev μ-loop : tie.MeasureT-loop
 μ-loop c e run row₀ q₀ row q = length run - q
 
--- src/lib.rt:36:5
 loop-holds : tie.Need-loop-holds Inv-loop μ-loop
 loop-holds c = (omega arith, marked-start _ _ _ _, refl)
 
--- src/lib.rt:37:30
 mul-wide : tie.Need-mul-wide Inv-loop μ-loop
 mul-wide c = search needs
 
--- src/lib.rt:37:30
 shared-slice-read-wide : tie.Need-shared-slice-read-wide Inv-loop μ-loop
 shared-slice-read-wide c = search needs
 
--- src/lib.rt:37:25
 wide-requires : tie.Need-wide-requires Inv-loop μ-loop
 wide-requires c κs = search needs
 
--- src/lib.rt:37:9
 mark-shot-requires : tie.Need-mark-shot-requires Inv-loop μ-loop
 mark-shot-requires c κs = (rw (c .before .wide .ensures) (c .before .before .before .before .before .before .before .before .pre .0 _ (c .before .before .before .loop-test .taken)), omega arith)
 
--- src/lib.rt:38:9
 add-q : tie.Need-add-q Inv-loop μ-loop
 add-q c = search needs
 
--- src/lib.rt:36:5
 loop-less : tie.Need-loop-less Inv-loop μ-loop
 loop-less c = search needs
 
--- src/lib.rt:36:5
 loop-again : tie.Need-loop-again Inv-loop μ-loop
 loop-again c = (omega arith, marked-next _ _ _ _ (c .before .before .before .before .before .before .before .loop .inv .1) (rw (c .before .before .before .before .wide .ensures) at (c .before .before .mark-shot .ensures)), search needs)
 
--- src/lib.rt:31:1
 same-length : tie.Need-same-length Inv-loop μ-loop
 same-length c = search needs
 
--- src/lib.rt:31:1
 returns : tie.Need-returns Inv-loop μ-loop
 returns c = let m : c .before .loop .q ≡ length (c .before .before .before .before .before .args .run .now) = omega arith in rw m at (c .before .loop .inv .1)
 

@@ -1,3 +1,4 @@
+-- The marks are those of the shot's interval on y.
 use borrow.Author.Needs.{needs}
 use Rattle.plane.proofs.mark_shot.Statement.{statement}
 use Rattle.plane.proofs.mark_shot.Tie as tie
@@ -6,35 +7,27 @@ use Rattle.plane.proofs.mark_shot.Lts as lts
 use Rattle.marks.proofs.mark.Reads as mark-reads
 use Rattle.plane.proofs.wide.Reads as wide-reads
 
--- src/lib.rt:27:29
 mul-wide : tie.Need-mul-wide
 mul-wide c = search needs
 
--- src/lib.rt:27:29
 add-wide : tie.Need-add-wide
 add-wide c = search needs
 
--- src/lib.rt:27:27
 mul-wide-2 : tie.Need-mul-wide-2
 mul-wide-2 c = search needs
 
--- src/lib.rt:27:27
 shared-slice-read-wide : tie.Need-shared-slice-read-wide
 shared-slice-read-wide c = search needs
 
--- src/lib.rt:27:22
 wide-requires : tie.Need-wide-requires
 wide-requires c κs = search needs
 
--- src/lib.rt:27:5
 mark-requires : tie.Need-mark-requires
 mark-requires c κs = search needs
 
--- src/lib.rt:23:1
 same-length : tie.Need-same-length
 same-length c = search needs
 
--- src/lib.rt:23:1
 returns : tie.Need-returns
 returns c = rw (c .before .before .before .wide .ensures) at (c .before .before .mark .ensures)
 

@@ -10,63 +10,48 @@ use Rattle.plane.proofs.lines.Reads as lines-reads
 use Rattle.plane.proofs.mark_run.Reads as mark-run-reads
 use Rattle.windows.proofs.frame_all.Reads as frame-all-reads
 
--- src/lib.rt:131:30
 slice-aggregate-link-all : tie.Need-slice-aggregate-link-all
 slice-aggregate-link-all c = search needs
 
--- src/lib.rt:131:5
 link-all-requires : tie.Need-link-all-requires
 link-all-requires c κs = ((chain-lines _ _ (c .before .before .before .before .before .before .before .args .run .now) (c .before .before .before .before .before .before .before .pre .0), search needs, search needs), (search needs, blank))
 
--- src/lib.rt:133:25
 slice-aggregate-mark-run : tie.Need-slice-aggregate-mark-run
 slice-aggregate-mark-run c = search needs
 
--- src/lib.rt:133:5
 mark-run-requires : tie.Need-mark-run-requires
 mark-run-requires c κs = search needs
 
--- src/lib.rt:136:37
 slice-aggregate-frame-all : tie.Need-slice-aggregate-frame-all
 slice-aggregate-frame-all c = search needs
 
--- src/lib.rt:136:48
 slice-aggregate-frame-all-2 : tie.Need-slice-aggregate-frame-all-2
 slice-aggregate-frame-all-2 c = search needs
 
--- src/lib.rt:136:5
 frame-all-requires : tie.Need-frame-all-requires
 frame-all-requires c κs = (c .before .before .before .before .before .before .before .before .before .before .before .before .before .before .before .before .pre .1 .in-faces, windows-blank)
 
--- src/lib.rt:143:9
 slice-aggregate-lines : tie.Need-slice-aggregate-lines
 slice-aggregate-lines c = search needs
 
--- src/lib.rt:144:9
 slice-aggregate-lines-2 : tie.Need-slice-aggregate-lines-2
 slice-aggregate-lines-2 c = search needs
 
--- src/lib.rt:145:9
 slice-aggregate-lines-3 : tie.Need-slice-aggregate-lines-3
 slice-aggregate-lines-3 c = search needs
 
--- src/lib.rt:147:9
 slice-aggregate-lines-4 : tie.Need-slice-aggregate-lines-4
 slice-aggregate-lines-4 c = search needs
 
--- src/lib.rt:137:5
 lines-requires : tie.Need-lines-requires
 lines-requires c κs = (record { in-run = c .before .before .before .before .before .before .before .before .before .before .before .before .before .before .before .before .before .before .before .before .before .before .before .before .before .pre .0; chained = c .before .before .before .before .before .before .before .before .before .before .before .before .before .before .before .before .before .link-all .ensures; heads-size = search needs; links-size = search needs; x-in = c .before .before .before .before .before .before .before .before .before .before .before .before .before .before .before .before .before .before .before .before .before .before .before .before .before .pre .4 }, windows-at _ _ _ _ _ (c .before .before .before .before .before .before .before .before .before .before .before .before .before .before .before .before .before .before .before .before .before .before .before .before .before .pre .1) (c .before .before .before .before .before .before .before .before .frame-all .ensures), c .before .before .before .before .before .before .before .before .before .before .before .before .mark-run .ensures, search needs, c .before .before .before .before .before .before .before .before .before .before .before .before .before .before .before .before .before .before .before .before .before .before .before .before .before .pre .5, c .before .before .before .before .before .before .before .before .before .before .before .before .before .before .before .before .before .before .before .before .before .before .before .before .before .pre .6)
 
--- src/lib.rt:116:1
 same-length : tie.Need-same-length
 same-length c = search needs
 
--- src/lib.rt:116:1
 same-length-2 : tie.Need-same-length-2
 same-length-2 c = search needs
 
--- src/lib.rt:116:1
 returns : tie.Need-returns
 returns c = search needs
 

@@ -1,3 +1,4 @@
+-- Where no shot has a face on the plane there is no corner.
 use native.Mathlib.Omega.{arith}
 use Rattle.selection.proofs.Laws.{selected-count}
 use Rattle.plane.proofs.Laws.{faces-are, plane-none}
@@ -9,43 +10,33 @@ use Rattle.plane.proofs.plane_if.Lts as lts
 use Rattle.plane.proofs.plane.Reads as plane-reads
 use Rattle.selection.proofs.select.Reads as select-reads
 
--- src/lib.rt:86:9
 select-requires : tie.Need-select-requires
 select-requires c κs = search needs
 
--- src/lib.rt:88:9
 same-length : tie.Need-same-length
 same-length c = search needs
 
--- src/lib.rt:88:9
 returns : tie.Need-returns
 returns c = plane-none _ _ _ _ _ _ (omega (arith, c .before .before .before .select .ensures .few, c .before .before .before .select .kept .1 .1 .1 .1 .1 .0)) (c .before .before .before .select .ensures) (c .if1 .taken) _ _ _ (c .before .before .before .before .before .before .before .before .before .before .pre .6)
 
--- src/lib.rt:90:32
 slice-reshare-prefix-plane : tie.Need-slice-reshare-prefix-plane
 slice-reshare-prefix-plane c = search needs
 
--- src/lib.rt:90:32
 slice-aggregate-plane : tie.Need-slice-aggregate-plane
 slice-aggregate-plane c = selected-count _ _ _ _ _ _ _ (omega (arith, c .before .before .before .before .select .ensures .few, c .before .before .before .before .select .kept .1 .1 .1 .1 .1 .0)) (c .before .before .before .before .select .ensures)
 
--- src/lib.rt:90:5
 plane-requires : tie.Need-plane-requires
 plane-requires c κs = (c .before .before .before .before .before .before .before .before .before .before .before .before .before .pre .0, faces-are _ _ _ _ _ _ (omega (arith, c .before .before .before .before .before .before .select .ensures .few, c .before .before .before .before .before .before .select .kept .1 .1 .1 .1 .1 .0)) (c .before .before .before .before .before .before .select .ensures), omega arith, c .before .before .before .before .before .before .before .before .before .before .before .before .before .pre .3, c .before .before .before .before .before .before .before .before .before .before .before .before .before .pre .4, c .before .before .before .before .before .before .before .before .before .before .before .before .before .pre .5, c .before .before .before .before .before .before .before .before .before .before .before .before .before .pre .6)
 
--- src/lib.rt:82:1
 same-length-2 : tie.Need-same-length-2
 same-length-2 c = search needs
 
--- src/lib.rt:82:1
 same-length-3 : tie.Need-same-length-3
 same-length-3 c = search needs
 
--- src/lib.rt:82:1
 same-length-4 : tie.Need-same-length-4
 same-length-4 c = search needs
 
--- src/lib.rt:82:1
 returns-2 : tie.Need-returns-2
 returns-2 c = search needs
 

@@ -1,3 +1,4 @@
+-- A shot outside the layer raises nothing; one in it raises its cells on z.
 use native.Mathlib.Omega.{arith}
 use Rattle.rows.proofs.Laws.{raised-by-before, raised-by-after, raised-by-here}
 use borrow.Author.Needs.{needs}
@@ -8,107 +9,81 @@ use Rattle.rows.proofs.raise_by.Lts as lts
 use Rattle.rows.proofs.raise.Reads as raise-reads
 use Rattle.rows.proofs.wide.Reads as wide-reads
 
--- src/lib.rt:40:20
 mul-wide : tie.Need-mul-wide
 mul-wide c = search needs
 
--- src/lib.rt:40:18
 mul-wide-2 : tie.Need-mul-wide-2
 mul-wide-2 c = search needs
 
--- src/lib.rt:40:18
 shared-slice-read-wide : tie.Need-shared-slice-read-wide
 shared-slice-read-wide c = search needs
 
--- src/lib.rt:40:9
 wide-requires : tie.Need-wide-requires
 wide-requires c κs = search needs
 
--- src/lib.rt:42:9
 returns : tie.Need-returns
 returns c = raised-by-before _ _ _ (omega arith)
 
--- src/lib.rt:44:8
 add-if2 : tie.Need-add-if2
 add-if2 c = search needs
 
--- src/lib.rt:45:9
 returns-2 : tie.Need-returns-2
 returns-2 c = raised-by-after _ _ _ (omega arith)
 
--- src/lib.rt:47:20
 mul-wide-3 : tie.Need-mul-wide-3
 mul-wide-3 c = search needs
 
--- src/lib.rt:47:20
 add-wide : tie.Need-add-wide
 add-wide c = search needs
 
--- src/lib.rt:47:18
 mul-wide-4 : tie.Need-mul-wide-4
 mul-wide-4 c = search needs
 
--- src/lib.rt:47:18
 shared-slice-read-wide-2 : tie.Need-shared-slice-read-wide-2
 shared-slice-read-wide-2 c = search needs
 
--- src/lib.rt:47:9
 wide-requires-2 : tie.Need-wide-requires-2
 wide-requires-2 c κs = search needs
 
--- src/lib.rt:48:20
 mul-wide-5 : tie.Need-mul-wide-5
 mul-wide-5 c = search needs
 
--- src/lib.rt:48:20
 add-wide-2 : tie.Need-add-wide-2
 add-wide-2 c = search needs
 
--- src/lib.rt:48:18
 mul-wide-6 : tie.Need-mul-wide-6
 mul-wide-6 c = search needs
 
--- src/lib.rt:48:18
 shared-slice-read-wide-3 : tie.Need-shared-slice-read-wide-3
 shared-slice-read-wide-3 c = search needs
 
--- src/lib.rt:48:9
 wide-requires-3 : tie.Need-wide-requires-3
 wide-requires-3 c κs = search needs
 
--- src/lib.rt:49:14
 add-raise : tie.Need-add-raise
 add-raise c = search needs
 
--- src/lib.rt:49:21
 add-raise-2 : tie.Need-add-raise-2
 add-raise-2 c = search needs
 
--- src/lib.rt:49:21
 add-raise-3 : tie.Need-add-raise-3
 add-raise-3 c = search needs
 
--- src/lib.rt:49:33
 add-raise-4 : tie.Need-add-raise-4
 add-raise-4 c = search needs
 
--- src/lib.rt:49:33
 add-raise-5 : tie.Need-add-raise-5
 add-raise-5 c = search needs
 
--- src/lib.rt:49:32
 cast-raise : tie.Need-cast-raise
 cast-raise c = search needs
 
--- src/lib.rt:49:5
 raise-requires : tie.Need-raise-requires
 raise-requires c κs = search needs
 
--- src/lib.rt:36:1
 same-length : tie.Need-same-length
 same-length c = search needs
 
--- src/lib.rt:36:1
 returns-3 : tie.Need-returns-3
 returns-3 c = raised-by-here _ _ _ (λ h. omega arith) (λ h. omega arith) (rw (c .before .before .before .before .before .before .wide2 .ensures, c .before .before .before .before .wide3 .ensures) at (c .before .before .raise .ensures))
 

@@ -1,3 +1,4 @@
+-- Either face.
 use borrow.Author.Tests.{eq-eqb, ne-eqb}
 use borrow.Author.Needs.{needs}
 use Rattle.selection.proofs.has_face.Statement.{statement}
@@ -5,15 +6,12 @@ use Rattle.selection.proofs.has_face.Tie as tie
 use Rattle.selection.proofs.has_face.Reads as reads
 use Rattle.selection.proofs.has_face.Lts as lts
 
--- src/lib.rt:21:15
 add-result : tie.Need-add-result
 add-result c = search needs
 
--- src/lib.rt:17:1
 returns : tie.Need-returns
 returns c = simp (eq-eqb (c .before .args .a) (c .before .args .x) (c .if1 .taken))
 
--- src/lib.rt:17:1
 returns-2 : tie.Need-returns-2
 returns-2 c = simp (ne-eqb (c .before .args .a) (c .before .args .x) (c .if1 .left))
 

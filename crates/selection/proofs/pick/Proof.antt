@@ -1,3 +1,4 @@
+-- A shot that is wanted goes to the next place.
 use mathlib.Core.Path.{_≡_, sym, _∙_}
 use mathlib.Core.Bool.{true, false}
 use Rattle.selection.proofs.Laws.{picked}
@@ -9,47 +10,36 @@ use Rattle.selection.proofs.pick.Lts as lts
 use Rattle.selection.proofs.wanted.Reads as wanted-reads
 use Rattle.selection.proofs.wide.Reads as wide-reads
 
--- src/lib.rt:45:28
 mul-wide : tie.Need-mul-wide
 mul-wide c = search needs
 
--- src/lib.rt:45:26
 mul-wide-2 : tie.Need-mul-wide-2
 mul-wide-2 c = search needs
 
--- src/lib.rt:45:26
 shared-slice-read-wide : tie.Need-shared-slice-read-wide
 shared-slice-read-wide c = search needs
 
--- src/lib.rt:45:21
 wide-requires : tie.Need-wide-requires
 wide-requires c κs = search needs
 
--- src/lib.rt:45:8
 wanted-requires : tie.Need-wanted-requires
 wanted-requires c κs = search needs
 
--- src/lib.rt:46:9
 mul-to : tie.Need-mul-to
 mul-to c = search needs
 
--- src/lib.rt:46:9
 slice-write-to : tie.Need-slice-write-to
 slice-write-to c = search needs
 
--- src/lib.rt:47:16
 add-result : tie.Need-add-result
 add-result c = search needs
 
--- src/lib.rt:47:9
 same-length : tie.Need-same-length
 same-length c = search needs
 
--- src/lib.rt:47:9
 returns : tie.Need-returns
 returns c = picked _ true (rw (c .before .before .wide .ensures) at (sym (c .before .wanted .ensures) ∙ c .if1 .taken)) _ (c .before .before .before .before .before .before .args .i) (c .before .before .before .before .before .before .args .to .now)
 
--- src/lib.rt:39:1
 returns-2 : tie.Need-returns-2
 returns-2 c = picked _ false (rw (c .before .before .wide .ensures) at (sym (c .before .wanted .ensures) ∙ c .if1 .left)) _ (c .before .before .before .before .before .before .args .i) (c .before .before .before .before .before .before .args .to .now)
 

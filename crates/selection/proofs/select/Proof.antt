@@ -1,3 +1,4 @@
+-- The wanted shots so far are selected.
 use mathlib.Core.Path.{_≡_, refl}
 use Prim.Native.Nat.{_≤_, _-_, _+_}
 use native.Mathlib.Omega.{arith}
@@ -16,39 +17,30 @@ Inv-loop c e x face run to₀ n₀ q₀ to n q = (q ≤ length run) × Selecting
 abbrev μ-loop : tie.MeasureT-loop
 μ-loop c e x face run to₀ n₀ q₀ to n q = length run - q
 
--- src/lib.rt:59:5
 loop-holds : tie.Need-loop-holds Inv-loop μ-loop
 loop-holds c = (omega arith, select-none _ _ _ _ _ _, refl)
 
--- src/lib.rt:60:33
 mul-pick : tie.Need-mul-pick Inv-loop μ-loop
 mul-pick c = search needs
 
--- src/lib.rt:60:33
 shared-slice-read-pick : tie.Need-shared-slice-read-pick Inv-loop μ-loop
 shared-slice-read-pick c = search needs
 
--- src/lib.rt:60:9
 pick-requires : tie.Need-pick-requires Inv-loop μ-loop
 pick-requires c κs = (c .before .before .before .before .before .before .before .pre .0 _ (c .before .before .loop-test .taken), omega (arith, c .before .before .before .loop .inv .1 .few))
 
--- src/lib.rt:61:9
 add-q : tie.Need-add-q Inv-loop μ-loop
 add-q c = search needs
 
--- src/lib.rt:59:5
 loop-less : tie.Need-loop-less Inv-loop μ-loop
 loop-less c = search needs
 
--- src/lib.rt:59:5
 loop-again : tie.Need-loop-again Inv-loop μ-loop
 loop-again c = (omega arith, select-more _ _ _ _ _ _ _ _ _ _ (omega (arith, c .before .before .before .before .before .before .loop .inv .1 .few)) (c .before .before .before .before .before .before .before .before .before .before .pre .0 _ (c .before .before .before .before .before .loop-test .taken)) (c .before .before .before .before .before .before .loop .inv .1) (c .before .before .pick .ensures .0) (c .before .before .pick .ensures .1), search needs)
 
--- src/lib.rt:53:1
 same-length : tie.Need-same-length Inv-loop μ-loop
 same-length c = search needs
 
--- src/lib.rt:53:1
 returns : tie.Need-returns Inv-loop μ-loop
 returns c = selected _ (omega arith) (c .before .loop .inv .1)
 

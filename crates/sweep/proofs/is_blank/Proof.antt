@@ -1,3 +1,4 @@
+-- No place so far is marked.
 use mathlib.Core.Path.{_≡_, refl}
 use Prim.Native.Nat.{ℕ, _≤_, _<_, _-_, _+_}
 use native.Mathlib.Omega.{arith}
@@ -15,31 +16,24 @@ Inv-loop row from end x₀ x = (from ≤ x) × (x ≤ end) × ((k : ℕ) → fro
 abbrev μ-loop : tie.MeasureT-loop
 μ-loop row from end x₀ x = end - x
 
--- src/lib.rt:54:5
 loop-holds : tie.Need-loop-holds Inv-loop μ-loop
 loop-holds c = (omega arith, omega arith, λ k a b. absurd (omega arith))
 
--- src/lib.rt:55:12
 shared-slice-read-if1 : tie.Need-shared-slice-read-if1 Inv-loop μ-loop
 shared-slice-read-if1 c = search needs
 
--- src/lib.rt:56:13
 returns : tie.Need-returns Inv-loop μ-loop
 returns c = blank-not _ _ _
 
--- src/lib.rt:58:9
 add-x : tie.Need-add-x Inv-loop μ-loop
 add-x c = search needs
 
--- src/lib.rt:54:5
 loop-less : tie.Need-loop-less Inv-loop μ-loop
 loop-less c = search needs
 
--- src/lib.rt:54:5
 loop-again : tie.Need-loop-again Inv-loop μ-loop
 loop-again c = (omega arith, omega arith, blank-on (c .before .before .before .before .args .row .now) _ _ (c .before .before .before .loop .inv .2) (c .if1 .left))
 
--- src/lib.rt:49:1
 returns-2 : tie.Need-returns-2 Inv-loop μ-loop
 returns-2 c = let m : c .before .loop .x ≡ c .before .before .args .end = omega arith in record { yes = λ e. rw m at (c .before .loop .inv .2) }
 

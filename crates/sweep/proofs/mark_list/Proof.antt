@@ -1,3 +1,4 @@
+-- The faces of the shots so far are marked.
 use mathlib.Core.Path.{_≡_, refl}
 use Prim.Native.Nat.{_≤_, _-_, _+_, _/_}
 use native.Mathlib.Omega.{arith}
@@ -17,31 +18,24 @@ Inv-loop c e row₀ n i₀ row i = (i ≤ n) × MarkedList e c i row × (length 
 abbrev μ-loop : tie.MeasureT-loop
 μ-loop c e row₀ n i₀ row i = n - i
 
--- src/lib.rt:42:5
 loop-holds : tie.Need-loop-holds Inv-loop μ-loop
 loop-holds c = (omega arith, list-none _ _ _, refl)
 
--- src/lib.rt:43:9
 mark-shot-requires : tie.Need-mark-shot-requires Inv-loop μ-loop
 mark-shot-requires c κs = (c .before .before .before .before .before .pre .0 _ (omega arith), omega arith)
 
--- src/lib.rt:44:9
 add-i : tie.Need-add-i Inv-loop μ-loop
 add-i c = search needs
 
--- src/lib.rt:42:5
 loop-less : tie.Need-loop-less Inv-loop μ-loop
 loop-less c = search needs
 
--- src/lib.rt:42:5
 loop-again : tie.Need-loop-again Inv-loop μ-loop
 loop-again c = (omega arith, list-more _ _ _ (c .before .before .before .before .before .loop .inv .1) (c .before .before .mark-shot .ensures), search needs)
 
--- src/lib.rt:36:1
 same-length : tie.Need-same-length Inv-loop μ-loop
 same-length c = search needs
 
--- src/lib.rt:36:1
 returns : tie.Need-returns Inv-loop μ-loop
 returns c = let m : c .before .loop .i ≡ length (c .before .before .before .before .args .c .now) / 3 = omega arith in rw m at (c .before .loop .inv .1)
 

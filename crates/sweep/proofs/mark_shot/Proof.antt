@@ -1,3 +1,4 @@
+-- The marks are those of the shot's interval on x.
 use borrow.Author.Needs.{needs}
 use Rattle.sweep.proofs.mark_shot.Statement.{statement}
 use Rattle.sweep.proofs.mark_shot.Tie as tie
@@ -6,31 +7,24 @@ use Rattle.sweep.proofs.mark_shot.Lts as lts
 use Rattle.marks.proofs.mark.Reads as mark-reads
 use Rattle.sweep.proofs.wide.Reads as wide-reads
 
--- src/lib.rt:32:29
 mul-wide : tie.Need-mul-wide
 mul-wide c = search needs
 
--- src/lib.rt:32:27
 mul-wide-2 : tie.Need-mul-wide-2
 mul-wide-2 c = search needs
 
--- src/lib.rt:32:27
 shared-slice-read-wide : tie.Need-shared-slice-read-wide
 shared-slice-read-wide c = search needs
 
--- src/lib.rt:32:22
 wide-requires : tie.Need-wide-requires
 wide-requires c κs = search needs
 
--- src/lib.rt:32:5
 mark-requires : tie.Need-mark-requires
 mark-requires c κs = search needs
 
--- src/lib.rt:28:1
 same-length : tie.Need-same-length
 same-length c = search needs
 
--- src/lib.rt:28:1
 returns : tie.Need-returns
 returns c = rw (c .before .before .before .wide .ensures) at (c .before .before .mark .ensures)
 

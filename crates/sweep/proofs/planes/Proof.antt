@@ -1,3 +1,4 @@
+-- Plane after plane.
 use lib.ListN.{length-replicate}
 use mathlib.Core.Path.{_≡_, refl}
 use Prim.Native.Nat.{ℕ, _≤_, _-_, _+_}
@@ -21,43 +22,33 @@ Inv-loop c e field from end row run buf₀ near₀ faces₀ links₀ s₀ x₀ b
 abbrev μ-loop : tie.MeasureT-loop
 μ-loop c e field from end row run buf₀ near₀ faces₀ links₀ s₀ x₀ buf near faces links s x = end - x
 
--- src/lib.rt:86:5
 loop-holds : tie.Need-loop-holds Inv-loop μ-loop
 loop-holds c = (omega arith, omega arith, swept-none _ _ _ _ (c .before .before .before .before .pre .0 .5), refl, length-replicate {A = ℕ} 4096 0, length-replicate {A = ℕ} 4096 0, length-replicate {A = ℕ} 4096 0)
 
--- src/lib.rt:87:48
 slice-aggregate-plane-if : tie.Need-slice-aggregate-plane-if Inv-loop μ-loop
 slice-aggregate-plane-if c = search needs
 
--- src/lib.rt:87:59
 slice-aggregate-plane-if-2 : tie.Need-slice-aggregate-plane-if-2 Inv-loop μ-loop
 slice-aggregate-plane-if-2 c = search needs
 
--- src/lib.rt:87:71
 slice-aggregate-plane-if-3 : tie.Need-slice-aggregate-plane-if-3 Inv-loop μ-loop
 slice-aggregate-plane-if-3 c = search needs
 
--- src/lib.rt:87:9
 plane-if-requires : tie.Need-plane-if-requires Inv-loop μ-loop
 plane-if-requires c κs = ((c .before .before .before .before .before .before .before .before .before .before .pre .0 .0, c .before .before .before .before .before .before .before .before .before .before .pre .0 .1, search needs, search needs, search needs, omega arith, c .before .before .before .before .before .before .before .before .before .before .pre .0 .4, room-more _ _ _ (omega arith) (c .before .before .before .before .before .loop .inv .2 .room)), (c .before .before .before .before .before .before .before .before .before .before .pre .1 .0, c .before .before .before .before .before .before .before .before .before .before .pre .1 .1))
 
--- src/lib.rt:88:9
 add-x : tie.Need-add-x Inv-loop μ-loop
 add-x c = search needs
 
--- src/lib.rt:86:5
 loop-less : tie.Need-loop-less Inv-loop μ-loop
 loop-less c = search needs
 
--- src/lib.rt:86:5
 loop-again : tie.Need-loop-again Inv-loop μ-loop
 loop-again c = (omega arith, omega arith, swept-more _ _ _ _ _ (c .before .before .before .before .before .before .before .before .before .before .before .loop .inv .2) (c .before .before .before .before .before .plane-if .ensures) (c .before .before .before .before .before .before .before .before .before .before .before .before .before .before .before .before .pre .1 .2 .at _ (c .before .before .before .before .before .before .before .before .before .before .before .loop .inv .0) (c .before .before .before .before .before .before .before .before .before .before .loop-test .taken)), search needs, search needs, search needs, search needs)
 
--- src/lib.rt:76:1
 same-length : tie.Need-same-length Inv-loop μ-loop
 same-length c = search needs
 
--- src/lib.rt:76:1
 returns : tie.Need-returns Inv-loop μ-loop
 returns c = let m : c .before .loop .x ≡ c .before .before .before .before .before .before .args .end = omega arith in rw m at (c .before .loop .inv .2)
 

@@ -1,3 +1,4 @@
+-- The slab's shots give its planes the list's corners.
 use native.Mathlib.Omega.{arith}
 use Rattle.buffer.proofs.WroteLaws.{front-count}
 use Rattle.sweep.proofs.Laws.{slab-skip, ready}
@@ -10,39 +11,30 @@ use Rattle.runs.proofs.slab.Reads as slab-reads
 use Rattle.sweep.proofs.is_blank.Reads as is-blank-reads
 use Rattle.sweep.proofs.planes.Reads as planes-reads
 
--- src/lib.rt:99:8
 is-blank-requires : tie.Need-is-blank-requires
 is-blank-requires c κs = (omega (arith, c .before .before .before .before .pre .0 .2 .order), omega (arith, c .before .before .before .before .pre .0 .2 .top, c .before .before .before .before .pre .0 .0 .field-most))
 
--- src/lib.rt:100:9
 returns : tie.Need-returns
 returns c = slab-skip _ _ _ _ (c .before .before .before .before .before .before .pre .0 .0) _ _ _ (c .before .before .before .before .before .before .pre .0 .2) (c .before .before .before .before .before .before .pre .1 .0) (c .before .is-blank .ensures) (c .if1 .taken) _ (c .before .before .before .before .before .before .pre .0 .3)
 
--- src/lib.rt:103:67
 slice-aggregate-slab : tie.Need-slice-aggregate-slab
 slice-aggregate-slab c = search needs
 
--- src/lib.rt:103:9
 slab-requires : tie.Need-slab-requires
 slab-requires c κs = search needs
 
--- src/lib.rt:104:58
 array-share-prefix-run : tie.Need-array-share-prefix-run
 array-share-prefix-run c = search needs
 
--- src/lib.rt:104:58
 slice-aggregate-planes : tie.Need-slice-aggregate-planes
 slice-aggregate-planes c = front-count (c .before .before .slab .ensures)
 
--- src/lib.rt:104:5
 planes-requires : tie.Need-planes-requires
 planes-requires c κs = let k = ready _ _ _ _ (c .before .before .before .before .before .before .before .before .before .before .before .pre .0 .0) _ _ _ (c .before .before .before .before .before .before .before .before .before .before .before .pre .0 .2) (c .before .before .before .before .before .before .before .before .before .before .before .pre .1 .0) (c .before .before .before .slab .ensures) in ((k .in-run, k .few, omega (arith, c .before .before .before .before .before .before .before .before .before .before .before .pre .0 .2 .order), omega (arith, c .before .before .before .before .before .before .before .before .before .before .before .pre .0 .2 .top, c .before .before .before .before .before .before .before .before .before .before .before .pre .0 .0 .field-most), omega (arith, c .before .before .before .before .before .before .before .before .before .before .before .pre .0 .0 .field-most), c .before .before .before .before .before .before .before .before .before .before .before .pre .0 .3), (k .marked, c .before .before .before .before .before .before .before .before .before .before .before .pre .1 .1, k .agree))
 
--- src/lib.rt:94:1
 same-length : tie.Need-same-length
 same-length c = search needs
 
--- src/lib.rt:94:1
 returns-2 : tie.Need-returns-2
 returns-2 c = search needs
 

@@ -1,3 +1,4 @@
+-- Slab after slab, each from the plane after the last.
 use mathlib.Core.Path.{_≡_, refl, sym, _∙_}
 use mathlib.Core.List.{[]}
 use Prim.Native.Nat.{_≤_, _<_, _-_, _+_, _*_, _/_}
@@ -23,51 +24,39 @@ Inv-loop field edge grid coords work row buf₀ width t₀ from₀ low₀ gx₀ 
 abbrev μ-loop : tie.MeasureT-loop
 μ-loop field edge grid coords work row buf₀ width t₀ from₀ low₀ gx₀ buf t from low gx = grid - gx
 
--- src/lib.rt:113:17
 div-width : tie.Need-div-width Inv-loop μ-loop
 div-width c = omega (arith, c .before .before .before .before .pre .0 .0 .grid-least)
 
--- src/lib.rt:114:9
 new-requires : tie.Need-new-requires Inv-loop μ-loop
 new-requires c κs = search needs
 
--- src/lib.rt:118:5
 loop-holds : tie.Need-loop-holds Inv-loop μ-loop
 loop-holds c = (omega arith, omega arith, omega arith, omega arith, λ h. absurd (omega arith), planes-none _ _ _, rw (c .new .ensures) (room-more _ _ _ (omega arith) no-room), refl)
 
--- src/lib.rt:119:20
 add-high : tie.Need-add-high Inv-loop μ-loop
 add-high c = let k = high-in _ _ _ _ (c .before .before .before .before .before .before .before .pre .0 .0) _ _ (c .loop-test .taken) (c .before .loop .inv .1) in omega (arith, k, c .before .before .before .before .before .before .before .pre .0 .0 .field-most)
 
--- src/lib.rt:120:61
 add-slab : tie.Need-add-slab Inv-loop μ-loop
 add-slab c = let k = high-in _ _ _ _ (c .before .before .before .before .before .before .before .pre .0 .0) _ _ (c .loop-test .taken) (c .before .loop .inv .1) in omega (arith, k, c .before .before .before .before .before .before .before .pre .0 .0 .field-most)
 
--- src/lib.rt:120:9
 slab-requires : tie.Need-slab-requires Inv-loop μ-loop
 slab-requires c κs = ((c .before .before .before .before .before .before .before .before .pre .0 .0, c .before .before .before .before .before .before .before .before .pre .0 .1, in-slab _ _ _ _ (c .before .before .before .before .before .before .before .before .pre .0 .0) _ _ (c .before .loop-test .taken) (c .before .before .loop .inv .1) _ (c .before .before .loop .inv .2) (c .before .before .loop .inv .3), c .before .before .loop .inv .6), c .before .before .before .before .before .before .before .before .pre .1)
 
--- src/lib.rt:121:16
 add-from : tie.Need-add-from Inv-loop μ-loop
 add-from c = let k = high-in _ _ _ _ (c .before .before .before .before .before .before .before .before .before .before .before .pre .0 .0) _ _ (c .before .before .before .before .loop-test .taken) (c .before .before .before .before .before .loop .inv .1) in omega (arith, k, c .before .before .before .before .before .before .before .before .before .before .before .pre .0 .0 .field-most)
 
--- src/lib.rt:123:9
 add-gx : tie.Need-add-gx Inv-loop μ-loop
 add-gx c = search needs
 
--- src/lib.rt:118:5
 loop-less : tie.Need-loop-less Inv-loop μ-loop
 loop-less c = search needs
 
--- src/lib.rt:118:5
 loop-again : tie.Need-loop-again Inv-loop μ-loop
 loop-again c = (omega arith, next-low _ _ _ _ (c .before .before .before .before .before .before .before .before .before .before .before .pre .0 .0) _ _ (c .before .before .before .before .loop-test .taken) (c .before .before .before .before .before .loop .inv .1), omega arith, omega arith, λ h. refl, c .before .before .slab .ensures .on _ (c .before .before .before .before .before .loop .inv .5), c .before .before .slab .ensures .room, search needs)
 
--- src/lib.rt:108:1
 same-length : tie.Need-same-length Inv-loop μ-loop
 same-length c = search needs
 
--- src/lib.rt:108:1
 returns : tie.Need-returns Inv-loop μ-loop
 returns c = slabs-done _ _ _ _ (c .before .before .before .before .before .before .before .pre .0 .0) _ _ _ (omega arith) (c .before .loop .inv .1) (c .before .loop .inv .4) _ (c .before .before .new .ensures) (c .before .loop .inv .5)
 

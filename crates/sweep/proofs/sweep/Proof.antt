@@ -1,3 +1,4 @@
+-- All slabs are all planes.
 use Rattle.sweep.proofs.Laws.{all-in}
 use borrow.Author.Needs.{needs}
 use Rattle.sweep.proofs.sweep.Statement.{statement}
@@ -7,27 +8,21 @@ use Rattle.sweep.proofs.sweep.Lts as lts
 use Rattle.sweep.proofs.mark_list.Reads as mark-list-reads
 use Rattle.sweep.proofs.slabs.Reads as slabs-reads
 
--- src/lib.rt:134:38
 slice-aggregate-mark-list : tie.Need-slice-aggregate-mark-list
 slice-aggregate-mark-list c = search needs
 
--- src/lib.rt:134:5
 mark-list-requires : tie.Need-mark-list-requires
 mark-list-requires c κs = (all-in _ _ _ _ (c .before .before .before .before .pre .0), search needs)
 
--- src/lib.rt:135:44
 slice-aggregate-slabs : tie.Need-slice-aggregate-slabs
 slice-aggregate-slabs c = search needs
 
--- src/lib.rt:135:5
 slabs-requires : tie.Need-slabs-requires
 slabs-requires c κs = search needs
 
--- src/lib.rt:129:1
 same-length : tie.Need-same-length
 same-length c = search needs
 
--- src/lib.rt:129:1
 returns : tie.Need-returns
 returns c = search needs
 

@@ -1,3 +1,4 @@
+-- A corner is added and stored; another point changes nothing.
 use mathlib.Core.Path.{_≡_, sym, _∙_}
 use Rattle.tally.proofs.Laws.{point-none, point-corner}
 use borrow.Author.Needs.{needs}
@@ -9,27 +10,21 @@ use Rattle.lattice.proofs.edges.is_corner.Reads as is-corner-reads
 use Rattle.lattice.proofs.sums.CornerSums.add.Reads as add-reads
 use Rattle.tally.proofs.put.Reads as put-reads
 
--- src/lib.rt:41:8
 is-corner-requires : tie.Need-is-corner-requires
 is-corner-requires c κs = search needs
 
--- src/lib.rt:43:9
 put-requires : tie.Need-put-requires
 put-requires c κs = search needs
 
--- src/lib.rt:44:9
 add-requires : tie.Need-add-requires
 add-requires c κs = search needs
 
--- src/lib.rt:44:9
 same-length : tie.Need-same-length
 same-length c = search needs
 
--- src/lib.rt:44:9
 returns : tie.Need-returns
 returns c = point-corner _ _ _ _ _ _ (sym (c .before .before .before .before .before .before .is-corner .ensures) ∙ c .before .before .before .before .before .if1 .taken) (c .add .ensures) (c .before .before .before .put .ensures)
 
--- src/lib.rt:37:1
 returns-2 : tie.Need-returns-2
 returns-2 c = point-none _ _ _ _ _ _ (sym (c .before .is-corner .ensures) ∙ c .if1 .left)
 

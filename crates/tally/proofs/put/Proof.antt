@@ -1,3 +1,4 @@
+-- Room for the record, or not.
 use native.Mathlib.Omega.{arith}
 use Rattle.tally.proofs.Laws.{stored-none, stored-one}
 use borrow.Author.Needs.{needs}
@@ -7,23 +8,18 @@ use Rattle.tally.proofs.put.Reads as reads
 use Rattle.tally.proofs.put.Lts as lts
 use Rattle.tally.proofs.put_record.Reads as put-record-reads
 
--- src/lib.rt:31:9
 returns : tie.Need-returns
 returns c = stored-none _ _ _ (c .if1 .taken)
 
--- src/lib.rt:33:21
 mul-put-record : tie.Need-mul-put-record
 mul-put-record c = search needs
 
--- src/lib.rt:33:5
 put-record-requires : tie.Need-put-record-requires
 put-record-requires c κs = search needs
 
--- src/lib.rt:27:1
 same-length : tie.Need-same-length
 same-length c = search needs
 
--- src/lib.rt:27:1
 returns-2 : tie.Need-returns-2
 returns-2 c = stored-one _ _ _ (omega arith) (c .before .before .put-record .ensures)
 

@@ -20,47 +20,36 @@ Inv-loop c e run lows₀ highs₀ q₀ lows highs q = (q ≤ length run) × Wind
 abbrev μ-loop : tie.MeasureT-loop
 μ-loop c e run lows₀ highs₀ q₀ lows highs q = length run - q
 
--- src/lib.rt:37:5
 loop-holds : tie.Need-loop-holds Inv-loop μ-loop
 loop-holds c = (omega arith, windows-none _ _ _ (c .before .before .before .before .pre .1))
 
--- src/lib.rt:38:26
 mul-wide : tie.Need-mul-wide Inv-loop μ-loop
 mul-wide c = search needs
 
--- src/lib.rt:38:26
 shared-slice-read-wide : tie.Need-shared-slice-read-wide Inv-loop μ-loop
 shared-slice-read-wide c = search needs
 
--- src/lib.rt:38:21
 wide-requires : tie.Need-wide-requires Inv-loop μ-loop
 wide-requires c κs = search needs
 
--- src/lib.rt:38:9
 frame-requires : tie.Need-frame-requires Inv-loop μ-loop
 frame-requires c κs = (rw (c .before .before .wide .ensures) (c .before .before .before .before .before .before .before .before .before .before .pre .0 _ (c .before .before .before .before .loop-test .taken)), c .before .before .before .before .before .loop .inv .1 .rows .low-size, c .before .before .before .before .before .loop .inv .1 .rows .high-size)
 
--- src/lib.rt:39:9
 add-q : tie.Need-add-q Inv-loop μ-loop
 add-q c = search needs
 
--- src/lib.rt:37:5
 loop-less : tie.Need-loop-less Inv-loop μ-loop
 loop-less c = search needs
 
--- src/lib.rt:37:5
 loop-again : tie.Need-loop-again Inv-loop μ-loop
 loop-again c = (omega arith, windows-more _ _ _ _ (c .before .before .before .before .before .before .before .before .before .before .before .before .before .before .before .pre .0 _ (c .before .before .before .before .before .before .before .before .before .loop-test .taken)) (c .before .before .before .before .before .before .before .before .before .before .loop .inv .1) (rw (c .before .before .before .before .before .before .before .wide .ensures) at (c .before .before .before .before .frame .ensures .0)) (rw (c .before .before .before .before .before .before .before .wide .ensures) at (c .before .before .before .before .frame .ensures .1)))
 
--- src/lib.rt:32:1
 same-length : tie.Need-same-length Inv-loop μ-loop
 same-length c = search needs
 
--- src/lib.rt:32:1
 same-length-2 : tie.Need-same-length-2 Inv-loop μ-loop
 same-length-2 c = search needs
 
--- src/lib.rt:32:1
 returns : tie.Need-returns Inv-loop μ-loop
 returns c = let m : c .before .loop .q ≡ length (c .before .before .before .before .before .before .args .run .now) = omega arith in rw m at (c .before .loop .inv .1)
 
