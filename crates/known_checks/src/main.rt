@@ -2,8 +2,9 @@
 // Every entry and byte that is lent is junk before the call. A line names the job and the call, gives the answer, and then, of each lent slice, how
 // many places in front changed and how many in all kept their junk: together they are all places where only the front was written.
 // The index in front is printed too, where it is short, and the listing.
+mod junk;
+
 ghost use mathlib.Core.Path.{_≡_};
-ghost use Prim.Native.Nat.{_≤_};
 ghost use lib.ListN.{length};
 use intake::Measured;
 use job::Refusal;
@@ -17,153 +18,19 @@ struct Lent {
     room: usize,
 }
 
-// No index holds this number, and no listing of these jobs this byte.
-const JUNK_ENTRY: u32 = 4294967295;
-
-const JUNK_BYTE: u8 = 255;
-
-// The places that the calls are lent parts of.
-fn junk_entries() -> [u32; 4100]
-    ensures { λ r. ⌜ 4100 ≡ length r ⌝ }
-{
-    [JUNK_ENTRY; 4100]
-}
-
-fn junk_bytes() -> [u8; 150]
-    ensures { λ r. ⌜ 150 ≡ length r ⌝ }
-{
-    [JUNK_BYTE; 150]
-}
-
-fn print_number(n: u64) {
-    io::write_all(1, b" ");
-    io::print_decimal(1, n);
-}
-
-fn print_entry(value: u32) {
-    print_number(value as u64);
-}
-
-fn print_byte(value: u8) {
-    print_number(value as u64);
-}
-
-// Prints the entries before the first junk.
-fn print_entries(work: &[u32]) {
-    let mut i = 0;
-    while i < work.len() {
-        if work[i] == JUNK_ENTRY {
-            return;
-        }
-        print_entry(work[i]);
-        i += 1;
-    }
-}
-
-// Prints the bytes before the first junk.
-fn print_bytes(listing: &[u8]) {
-    let mut i = 0;
-    while i < listing.len() {
-        if listing[i] == JUNK_BYTE {
-            return;
-        }
-        print_byte(listing[i]);
-        i += 1;
-    }
-}
-
-// How many entries stand before the first junk.
-fn changed_entries(work: &[u32]) -> usize {
-    let mut i = 0;
-    while i < work.len() {
-        if work[i] == JUNK_ENTRY {
-            return i;
-        }
-        i += 1;
-    }
-    i
-}
-
-// How many bytes stand before the first junk.
-fn changed_bytes(listing: &[u8]) -> usize {
-    let mut i = 0;
-    while i < listing.len() {
-        if listing[i] == JUNK_BYTE {
-            return i;
-        }
-        i += 1;
-    }
-    i
-}
-
-fn one_if(counted: bool) -> usize
-    ensures { λ r. ⌜ r ≤ 1 ⌝ }
-{
-    if counted {
-        return 1;
-    }
-    0
-}
-
-// How many entries are junk.
-fn kept_entries(work: &[u32]) -> usize {
-    let mut kept = 0;
-    for i in 0..work.len() {
-        kept += one_if(work[i] == JUNK_ENTRY);
-    }
-    kept
-}
-
-// How many bytes are junk.
-fn kept_bytes(listing: &[u8]) -> usize {
-    let mut kept = 0;
-    for i in 0..listing.len() {
-        kept += one_if(listing[i] == JUNK_BYTE);
-    }
-    kept
-}
-
-fn print_changes(changed: usize, kept: usize) {
-    print_number(changed as u64);
-    io::write_all(1, b" kept");
-    print_number(kept as u64);
-}
-
-// Prints what became of a work slice, and the index in it where it is short.
-fn print_work(work: &[u32]) {
-    io::write_all(1, b"; index");
-    let changed = changed_entries(work);
-    print_changes(changed, kept_entries(work));
-    if 0 < changed && changed <= 40 {
-        io::write_all(1, b":");
-        print_entries(work);
-    }
-}
-
-// Prints what became of a listing buffer, and the listing in it.
-fn print_listing(listing: &[u8]) {
-    io::write_all(1, b"; listing");
-    let changed = changed_bytes(listing);
-    print_changes(changed, kept_bytes(listing));
-    if 0 < changed {
-        io::write_all(1, b":");
-        print_bytes(listing);
-    }
-}
-
 fn print_refusal(refusal: Refusal) {
     io::write_all(1, b" refused");
-    print_number(job::number(refusal) as u64);
-    print_number(job::detail(refusal) as u64);
+    junk::print_number(job::number(refusal) as u64);
+    junk::print_number(job::detail(refusal) as u64);
 }
 
 fn print_answer(answer: Measured) {
     match answer {
         Measured::Quote(totals) => {
-            print_number(totals.volume);
-            print_number(totals.area);
-            print_number(totals.edge);
-            print_number(totals.corners as u64);
+            junk::print_number(totals.volume);
+            junk::print_number(totals.area);
+            junk::print_number(totals.edge);
+            junk::print_number(totals.corners as u64);
         }
         Measured::Refused(refusal) => {
             print_refusal(refusal);
@@ -175,7 +42,7 @@ fn measure_in(lent: Lent, coords: &[u16], work: &mut [u32]) {
     io::write_all(1, b": measure");
     let answer = measure::measure(lent.field, lent.edge, lent.grid, coords, work);
     print_answer(answer);
-    print_work(work);
+    junk::print_work(work);
     io::write_all(1, b"\n");
 }
 
@@ -183,14 +50,14 @@ fn list_in(lent: Lent, coords: &[u16], work: &mut [u32], listing: &mut [u8]) {
     io::write_all(1, b": list");
     let answer = measure::list(lent.field, lent.edge, lent.grid, coords, work, listing);
     print_answer(answer);
-    print_work(work);
-    print_listing(listing);
+    junk::print_work(work);
+    junk::print_listing(listing);
     io::write_all(1, b"\n");
 }
 
 // Measures, with the entries lent.
 fn show_measure(lent: Lent, coords: &[u16]) {
-    let mut work = junk_entries();
+    let mut work = junk::junk_entries();
     let entries = lent.entries;
     if entries <= 4100 {
         measure_in(lent, coords, &mut work[..entries]);
@@ -199,7 +66,7 @@ fn show_measure(lent: Lent, coords: &[u16]) {
 
 // Lists, with the entries lent, into a listing buffer.
 fn list_into(lent: Lent, coords: &[u16], listing: &mut [u8]) {
-    let mut work = junk_entries();
+    let mut work = junk::junk_entries();
     let entries = lent.entries;
     if entries <= 4100 {
         list_in(lent, coords, &mut work[..entries], listing);
@@ -208,7 +75,7 @@ fn list_into(lent: Lent, coords: &[u16], listing: &mut [u8]) {
 
 // Lists, with the entries and the bytes lent.
 fn show_list(lent: Lent, coords: &[u16]) {
-    let mut listing = junk_bytes();
+    let mut listing = junk::junk_bytes();
     let room = lent.room;
     if room <= 150 {
         list_into(lent, coords, &mut listing[..room]);

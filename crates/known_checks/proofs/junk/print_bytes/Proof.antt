@@ -2,8 +2,8 @@
 use Prim.Native.Nat.{_≤_, _-_}
 use lib.ListN.{length}
 use borrow.Author.Needs.{needs}
-use Rattle.known_checks.proofs.print_bytes.Statement.{statement}
-use Rattle.known_checks.proofs.print_bytes.Tie as tie
+use Rattle.known_checks.proofs.junk.print_bytes.Statement.{statement}
+use Rattle.known_checks.proofs.junk.print_bytes.Tie as tie
 
 abbrev Inv-loop : tie.InvT-loop
 Inv-loop listing i₀ i = i ≤ length listing

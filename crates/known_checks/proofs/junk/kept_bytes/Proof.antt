@@ -3,20 +3,17 @@ use mathlib.Core.Path.{_≡_}
 use Prim.Native.Nat.{_≤_, _-_}
 use lib.ListN.{length}
 use borrow.Author.Needs.{needs}
-use Rattle.known_checks.proofs.kept_entries.Statement.{statement}
-use Rattle.known_checks.proofs.kept_entries.Tie as tie
+use Rattle.known_checks.proofs.junk.kept_bytes.Statement.{statement}
+use Rattle.known_checks.proofs.junk.kept_bytes.Tie as tie
 
 abbrev Inv-loop : tie.InvT-loop
-Inv-loop work kept₀ i₀ i-end kept i = (kept ≤ i) × (i ≤ i-end) × (i-end ≡ length work)
+Inv-loop listing kept₀ i₀ i-end kept i = (kept ≤ i) × (i ≤ i-end) × (i-end ≡ length listing)
 
 abbrev μ-loop : tie.MeasureT-loop
-μ-loop work kept₀ i₀ i-end kept i = i-end - i
+μ-loop listing kept₀ i₀ i-end kept i = i-end - i
 
 loop-holds : tie.Need-loop-holds Inv-loop μ-loop
 loop-holds c = search needs
-
-mul-one-if : tie.Need-mul-one-if Inv-loop μ-loop
-mul-one-if c = search needs
 
 shared-slice-read-one-if : tie.Need-shared-slice-read-one-if Inv-loop μ-loop
 shared-slice-read-one-if c = search needs
@@ -39,14 +36,13 @@ loop-again c = search needs
 returns : tie.Need-returns Inv-loop μ-loop
 returns c = search needs
 
-pub kept-entries-spec : {M : Type 1} → statement M
-kept-entries-spec =
+pub kept-bytes-spec : {M : Type 1} → statement M
+kept-bytes-spec =
     tie.close
     (tie.spec
     Inv-loop
     μ-loop
     loop-holds
-    mul-one-if
     shared-slice-read-one-if
     one-if-requires
     add-kept

@@ -2,8 +2,8 @@
 use Prim.Native.Nat.{_≤_, _-_}
 use lib.ListN.{length}
 use borrow.Author.Needs.{needs}
-use Rattle.known_checks.proofs.print_entries.Statement.{statement}
-use Rattle.known_checks.proofs.print_entries.Tie as tie
+use Rattle.known_checks.proofs.junk.print_entries.Statement.{statement}
+use Rattle.known_checks.proofs.junk.print_entries.Tie as tie
 
 abbrev Inv-loop : tie.InvT-loop
 Inv-loop work i₀ i = i ≤ length work
