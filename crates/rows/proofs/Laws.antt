@@ -1,5 +1,5 @@
 -- What the steps of the rows' loops do to the tests j < u[z].
-use mathlib.Core.Path.{_≡_, refl, sym, _∙_, ap}
+use mathlib.Core.Path.{_≡_, refl, sym, _∙_}
 use mathlib.Core.Bool.{Bool, true, false, _&&_, _||_, or-false, and-false}
 use mathlib.Core.List.{List}
 use Prim.Native.Nat.{ℕ, _+_, _<_, _≤_}
@@ -9,6 +9,8 @@ use lib.ListN.{length, getD, set, length-set}
 use lib.Seq.{getD-set-same, getD-set-other}
 use borrow.Author.Tests.{eqb-true, eqb-false, lt-ltb, le-ltb, le-leb, lt-leb, leb-true, ltb-false}
 use Rattle.lattice.specs.Shots.{Shot}
+use Rattle.lattice.proofs.Cases.{bool-ext}
+use Rattle.lattice.proofs.ShotLaws.{or-elim}
 use Rattle.rows.specs.Rows.{past, Either, Raised, RaisedBy}
 
 -- ---- the greater of two ends
@@ -30,16 +32,6 @@ module _ (a b : ℕ) where
   either-left h = record { at = λ j. absorb-right (ltb j a) (ltb j b) (λ t. lt→ltb j a (omega (arith, ltb→lt j b t))) }
 
 -- ---- the places from a on, one more
-bool-ext : (a b : Bool) → (T a → T b) → (T b → T a) → a ≡ b
-bool-ext true true f g = refl
-bool-ext true false f g = absurd (f tt)
-bool-ext false true f g = absurd (g tt)
-bool-ext false false f g = refl
-
-or-elim : {C : Type 0} (a b : Bool) → T (a || b) → (T a → C) → (T b → C) → C
-or-elim true b t f g = f tt
-or-elim false b t f g = g t
-
 -- below k + 1 is below k or at k
 pub ltb-next : (z k : ℕ) → ltb z (k + 1) ≡ (ltb z k || eqb z k)
 ltb-next z k = bool-ext (ltb z (k + 1)) (ltb z k || eqb z k)

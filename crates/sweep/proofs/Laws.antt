@@ -23,6 +23,7 @@ use Rattle.lattice.proofs.ShotLaws.{and-elim, or-elim, NoFace, no-face-no-corne
 use Rattle.lattice.proofs.Cases.{bool-ext}
 use Rattle.lattice.proofs.SameSolid.{join-nil, join-end, here-none}
 use Rattle.job.specs.Job.{Valid, shotsOf, shotAt}
+use Rattle.job.proofs.Tests.{or-left, or-right}
 use Rattle.job.proofs.Shots.{stay-at, any-at, at-any}
 use Rattle.job.proofs.Conditions.{valid-within}
 use Rattle.buffer.specs.Wrote.{Wrote}
@@ -140,14 +141,6 @@ module _ (e : ℕ) (c run : List ℕ) (f : Shot → Bool) where
   any-run zero k l t = absurd (omega arith)
   any-run (suc n) k l t = go (eqb k n) refl (any-run n k)
     where
-      or-left : (a b : Bool) → T a → T (a || b)
-      or-left true b t = tt
-      or-left false b t = absurd t
-
-      or-right : (a b : Bool) → T b → T (a || b)
-      or-right true b t = tt
-      or-right false b t = t
-
       go : (b : Bool) → eqb k n ≡ b → (k < n → T (f (shotAt e c (getD run k 0))) → T (any f (runTo e c run n))) → T (f (shotAt e c (getD run n 0)) || any f (runTo e c run n))
       go true m r = or-left (f (shotAt e c (getD run n 0))) (any f (runTo e c run n)) (subst (λ i. T (f (shotAt e c (getD run i 0)))) (eqb-true k n m) t)
       go false m r = or-right (f (shotAt e c (getD run n 0))) (any f (runTo e c run n)) (r (let z : (k ≡ n → ⊥) = eqb-false k n m in omega arith) t)
