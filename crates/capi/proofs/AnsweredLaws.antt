@@ -4,9 +4,9 @@ use mathlib.Core.List.{List, [], _∷_, _++_}
 use Prim.Native.Nat.{ℕ, _≤_}
 use lib.ListN.{length, drop, set}
 use lib.Seq.{sets-eq}
-use Rattle.intake.specs.Intake.{numbersOf}
-use Rattle.intake.specs.declared.Measured.{Measured}
-use Rattle.intake.specs.declared.Measured.the-variants.{Quote, Refused}
+use Rattle.measure_intake.specs.Intake.{numbersOf}
+use Rattle.measure_intake.specs.declared.Measured.{Measured}
+use Rattle.measure_intake.specs.declared.Measured.the-variants.{Quote, Refused}
 use Rattle.shotfile.specs.declared.reader.ReadAnswer.{ReadAnswer}
 use Rattle.shotfile.specs.declared.reader.ReadAnswer.the-variants.{Read, Refused as Unread}
 use Rattle.shotfile.specs.declared.writer.WriteAnswer.{WriteAnswer}

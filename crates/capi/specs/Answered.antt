@@ -5,8 +5,8 @@ use Prim.Native.Nat.{ℕ}
 use lib.Dec.{leb}
 use lib.ListN.{length, drop}
 use Rattle.job.specs.Refusals.{numberOf, detailOf}
-use Rattle.intake.specs.Intake.{Numbers, numbersOf}
-use Rattle.intake.specs.declared.Measured.{Measured}
+use Rattle.measure_intake.specs.Intake.{Numbers, numbersOf}
+use Rattle.measure_intake.specs.declared.Measured.{Measured}
 use Rattle.shotfile.specs.declared.reader.ReadAnswer.{ReadAnswer}
 use Rattle.shotfile.specs.declared.reader.ReadAnswer.the-variants.{Read, Refused as Unread}
 use Rattle.shotfile.specs.declared.writer.WriteAnswer.{WriteAnswer}

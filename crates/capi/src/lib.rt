@@ -1,16 +1,16 @@
 // The calls for C and Rust: numbers and slices only. include/heqdanu.h describes them for their users.
 // Each answer goes, as numbers, into a lent slice whose length is checked: specs/Answered.antt. Stands on `measure`,
-// `cell_count` and `shotfile`.
+// `measure_cells` and `shotfile`.
 ghost use mathlib.Core.Path.{_≡_};
 ghost use mathlib.Core.List.{[], _∷_, _++_};
 ghost use Prim.Native.Nat.{_≤_};
 ghost use lib.ListN.{length, drop};
-ghost use Rattle.intake.specs.Intake.{measureAnswer, workAfter};
+ghost use Rattle.measure_intake.specs.Intake.{measureAnswer, workAfter};
 ghost use Rattle.measure.specs.Answers.{listAnswer, listingAfter};
 ghost use Rattle.shotfile.specs.Files.{fileIn};
 ghost use Rattle.shotfile.specs.Calls.{readAnswer, readCoords, writeAnswer, writeBytes};
 ghost use Rattle.capi.specs.Answered.{hasRoom, told, answered, after, measuredNumbers, readNumbers, writtenNumbers};
-use intake::Measured;
+use measure_intake::Measured;
 use shotfile::reader::ReadAnswer;
 use shotfile::writer::WriteAnswer;
 
@@ -150,7 +150,7 @@ pub extern "C" fn heqdanu_list(
     1
 }
 
-// Counts a list again, cell by cell: see `cell_count::recount`. The numbers as in measuring.
+// Counts a list again, cell by cell: see `measure_cells::recount`. The numbers as in measuring.
 #[no_mangle]
 pub extern "C" fn heqdanu_recount(
     field: u16,
@@ -167,7 +167,7 @@ pub extern "C" fn heqdanu_recount(
     if answer.len() < 6 {
         return 0;
     }
-    let again = cell_count::recount(field, edge, grid, coords, work);
+    let again = measure_cells::recount(field, edge, grid, coords, work);
     put_measured(answer, again);
     1
 }

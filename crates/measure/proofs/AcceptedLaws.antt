@@ -11,11 +11,11 @@ use Rattle.job.specs.Job.{Valid}
 use Rattle.job.specs.Checking.{Test, andThen}
 use Rattle.job.specs.declared.Checked.{Checked}
 use Rattle.job.specs.declared.Checked.the-variants.{Accepted as Passed, Refused}
-use Rattle.intake.specs.Intake.{solid, measureChecked, answerOf, measureAnswer, onChecked}
+use Rattle.measure_intake.specs.Intake.{solid, measureChecked, answerOf, measureAnswer, onChecked}
 use Rattle.measure.specs.Answers.{listChecked, shortListing, listAnswer, listingAfter}
-use Rattle.intake.specs.declared.Measured.{Measured}
-use Rattle.intake.specs.declared.Measured.the-variants.{Quote, Refused as Unmeasured}
-use Rattle.intake.proofs.IntakeLaws.{accepted-list}
+use Rattle.measure_intake.specs.declared.Measured.{Measured}
+use Rattle.measure_intake.specs.declared.Measured.the-variants.{Quote, Refused as Unmeasured}
+use Rattle.measure_intake.proofs.IntakeLaws.{accepted-list}
 
 -- a list that measuring accepts, with these totals
 pub record Accepted (F E G : ℕ) (coords : List ℕ) (entries : ℕ) (t : Totals) : Type 0 where

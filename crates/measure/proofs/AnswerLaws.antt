@@ -18,12 +18,12 @@ use Rattle.job.specs.Checking.{andThen}
 use Rattle.job.specs.declared.Refusal.{Refusal}
 use Rattle.job.specs.declared.Refusal.the-variants.{ShortListing}
 use Rattle.job.specs.declared.Checked.the-variants.{Accepted, Refused}
-use Rattle.tally.specs.Found.{state, found}
-use Rattle.tally.proofs.Result.{found-sums, found-bytes}
-use Rattle.intake.specs.Intake.{solid, measureChecked, answerOf, onChecked}
+use Rattle.sweep_tally.specs.Found.{state, found}
+use Rattle.sweep_tally.proofs.Result.{found-sums, found-bytes}
+use Rattle.measure_intake.specs.Intake.{solid, measureChecked, answerOf, onChecked}
 use Rattle.measure.specs.Answers.{listChecked, shortListing, listAnswer, listingAfter}
-use Rattle.intake.specs.declared.Measured.{Measured}
-use Rattle.intake.specs.declared.Measured.the-variants.{Quote, Refused as Unmeasured}
+use Rattle.measure_intake.specs.declared.Measured.{Measured}
+use Rattle.measure_intake.specs.declared.Measured.the-variants.{Quote, Refused as Unmeasured}
 
 -- ---- the sums of a sweep are the totals
 module _ (n : ℕ) (s : Cells) (within : Within n s) where

@@ -25,9 +25,9 @@ use Rattle.lattice.proofs.SameSolid.{same-corners}
 use Rattle.job.specs.Job.{shotAt}
 use Rattle.job.proofs.Conditions.{valid-within}
 use Rattle.job.proofs.Shots.{any-at, at-any}
-use Rattle.intake.specs.declared.Measured.{Measured}
-use Rattle.intake.specs.declared.Measured.the-variants.{Quote}
-use Rattle.intake.specs.Intake.{solid, measureAnswer, workAfter}
+use Rattle.measure_intake.specs.declared.Measured.{Measured}
+use Rattle.measure_intake.specs.declared.Measured.the-variants.{Quote}
+use Rattle.measure_intake.specs.Intake.{solid, measureAnswer, workAfter}
 use Rattle.measure.specs.Answers.{listAnswer, listingAfter}
 use Rattle.measure.proofs.AcceptedLaws.{Accepted, accepted, Listed, listed-accepted}
 

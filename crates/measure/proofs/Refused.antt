@@ -9,9 +9,9 @@ use Rattle.job.specs.declared.Refusal.{Refusal}
 use Rattle.job.specs.declared.Refusal.the-variants.{ShortListing}
 use Rattle.job.specs.declared.Checked.the-variants.{Accepted, Refused}
 use Rattle.job.proofs.Later.{then-short}
-use Rattle.intake.specs.Intake.{solid, measureChecked}
-use Rattle.intake.specs.declared.Measured.the-variants.{Refused as Unmeasured}
-use Rattle.intake.proofs.Refused.{answer-refused}
+use Rattle.measure_intake.specs.Intake.{solid, measureChecked}
+use Rattle.measure_intake.specs.declared.Measured.the-variants.{Refused as Unmeasured}
+use Rattle.measure_intake.proofs.Refused.{answer-refused}
 use Rattle.measure.specs.Answers.{listChecked, listAnswer}
 
 module _ (F E G : ℕ) (coords : List ℕ) (entries : ℕ) where

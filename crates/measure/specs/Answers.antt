@@ -9,8 +9,8 @@ use Rattle.lattice.specs.Listing.{cornerCount, listing}
 use Rattle.job.specs.Checking.{Test, andThen}
 use Rattle.job.specs.declared.Refusal.the-variants.{ShortListing}
 use Rattle.job.specs.declared.Checked.{Checked}
-use Rattle.intake.specs.Intake.{solid, measureChecked, answerOf, onChecked}
-use Rattle.intake.specs.declared.Measured.{Measured}
+use Rattle.measure_intake.specs.Intake.{solid, measureChecked, answerOf, onChecked}
+use Rattle.measure_intake.specs.declared.Measured.{Measured}
 
 -- refusal 11, after those of the intake: a listing buffer of so many bytes is shorter than 7 times the corner count
 abbrev pub shortListing : ℕ → Cells → ℕ → Test

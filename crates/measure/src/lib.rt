@@ -1,8 +1,8 @@
 // The measuring and the listing call: the totals of a list, its corner count and its corner listing, with the grid index in the lent work slice.
 //
-// specs/Answers.antt says what listing answers and leaves, and specs/Intake.antt of `intake` what measuring does; proofs/Condition3.antt, the file to
+// specs/Answers.antt says what listing answers and leaves, and specs/Intake.antt of `measure_intake` what measuring does; proofs/Condition3.antt, the file to
 // read first, what that means for every accepted list. Both calls count by the corner sums over the corner points that `sweep` finds. Stands on
-// `intake` and `sweep`.
+// `measure_intake` and `sweep`.
 ghost use mathlib.Core.Path.{_≡_};
 ghost use mathlib.Core.List.{_++_};
 ghost use Prim.Native.Nat.{_*_, _≤_};
@@ -11,15 +11,15 @@ ghost use Rattle.lattice.specs.Listing.{cornerCount, listing};
 ghost use Rattle.lattice.specs.CornerSums.{totalsOf};
 ghost use Rattle.job.specs.Job.{Valid};
 ghost use Rattle.grid.specs.Grid.{Holds};
-ghost use Rattle.intake.specs.Intake.{solid, answerOf, onChecked, measureAnswer, workAfter};
+ghost use Rattle.measure_intake.specs.Intake.{solid, answerOf, onChecked, measureAnswer, workAfter};
 ghost use Rattle.measure.specs.Answers.{shortListing, listAnswer, listingAfter};
 ghost use Rattle.job.specs.Checking.{andThen};
 ghost use Rattle.job.specs.declared.Checked.the-variants.{Accepted};
-use intake::Measured;
-use intake::indexed;
 use job::Checked;
 use job::Refusal;
 use lattice::sums::Totals;
+use measure_intake::Measured;
+use measure_intake::indexed;
 
 // The totals of a valid list whose index stands in the work slice.
 fn count(field: u16, edge: u16, grid: u16, coords: &[u16], work: &[u32]) -> Totals

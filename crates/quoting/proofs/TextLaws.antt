@@ -10,7 +10,7 @@ use Rattle.shotfile.specs.Calls.{readAnswer, readCoords}
 use Rattle.shotfile.specs.declared.reader.ReadAnswer.{ReadAnswer}
 use Rattle.shotfile.specs.declared.reader.ReadAnswer.the-variants.{Read, Refused}
 use Rattle.shotfile.proofs.RoundTrip.{accepted-file}
-use Rattle.intake.specs.Intake.{measureAnswer}
+use Rattle.measure_intake.specs.Intake.{measureAnswer}
 use Rattle.quoting.specs.Quoting.{refusalText, answerText, fileText, quoteText}
 
 pub refused-text : (s : List ℕ) (places entries : ℕ) (r : Refusal) → readAnswer (fileIn places s) ≡ Refused r → refusalText r ≡ quoteText s places entries

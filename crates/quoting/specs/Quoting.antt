@@ -4,10 +4,10 @@ use Prim.Native.Nat.{ℕ}
 use Rattle.job.specs.Refusals.{numberOf, detailOf}
 use Rattle.job.specs.declared.Refusal.{Refusal}
 use Rattle.shotfile.specs.Files.{File, file, refused, fileIn}
-use Rattle.intake.specs.Intake.{measureAnswer}
-use Rattle.intake.specs.declared.Measured.{Measured}
-use Rattle.intake.specs.declared.Measured.the-variants.{Quote, Refused}
-use Rattle.report.specs.Lines.{quoteLines, refusalLine}
+use Rattle.measure_intake.specs.Intake.{measureAnswer}
+use Rattle.measure_intake.specs.declared.Measured.{Measured}
+use Rattle.measure_intake.specs.declared.Measured.the-variants.{Quote, Refused}
+use Rattle.text_report.specs.Lines.{quoteLines, refusalLine}
 
 -- a refusal prints only its number and detail
 abbrev pub refusalText : Refusal → List ℕ

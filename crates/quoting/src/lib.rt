@@ -1,13 +1,13 @@
 // From the bytes of a shot file to the bytes that the quoting program prints: specs/Quoting.antt says which.
-// The programs `quote` and `recount` only move these bytes in and out. Stands on `shotfile`, `measure`, `cell_count` and `report`.
+// The programs `quote` and `recount` only move these bytes in and out. Stands on `shotfile`, `measure`, `measure_cells` and `text_report`.
 ghost use Prim.Native.Nat.{_≤_};
 ghost use lib.ListN.{length};
 ghost use Rattle.buffer.specs.Wrote.{Wrote};
 ghost use mathlib.Core.Path.{_≡_};
-ghost use Rattle.intake.specs.Intake.{measureAnswer};
+ghost use Rattle.measure_intake.specs.Intake.{measureAnswer};
 ghost use Rattle.quoting.specs.Quoting.{refusalText, answerText, quoteText};
-use intake::Measured;
 use job::Refusal;
+use measure_intake::Measured;
 use shotfile::reader::ReadAnswer;
 
 // Puts the line of a refusal to the front.
@@ -15,7 +15,7 @@ fn refuse(out: &mut [u8], refusal: Refusal) -> usize
     requires { ⌜ 128 ≤ length (now out) ⌝ }
     ensures { λ r. ⌜ Wrote (now (out .entry)) (now (out .exit)) 0 r (refusalText refusal) ⌝ }
 {
-    report::refusal_line(out, job::number(refusal), job::detail(refusal))
+    text_report::refusal_line(out, job::number(refusal), job::detail(refusal))
 }
 
 // The figures of a list: by the sweep, or, for a second opinion, by counting again.
@@ -30,7 +30,7 @@ fn figures(
     ensures { λ r. ⌜ r ≡ measureAnswer field edge grid (now (coords .entry)) (length (now (work .entry))) ⌝ }
 {
     if again {
-        return cell_count::recount(field, edge, grid, coords, work);
+        return measure_cells::recount(field, edge, grid, coords, work);
     }
     measure::measure(field, edge, grid, coords, work)
 }
@@ -50,7 +50,7 @@ fn quote_list(
 {
     let measured = figures(again, field, edge, grid, coords, work);
     match measured {
-        Measured::Quote(totals) => report::quote_lines(out, totals),
+        Measured::Quote(totals) => text_report::quote_lines(out, totals),
         Measured::Refused(refusal) => refuse(out, refusal),
     }
 }

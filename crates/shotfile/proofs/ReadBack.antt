@@ -8,14 +8,14 @@ use lib.Dec.{eqb}
 use lib.ListN.{length, getD, length-append}
 use lib.Seq.{getD-append-seam, getD-append-add}
 use borrow.Author.Tests.{eqb-true, eqb-false}
-use Rattle.records.specs.declared.Fields.{Fields}
-use Rattle.records.specs.declared.Taken.the-variants.{Whole}
+use Rattle.shotfile_records.specs.declared.Fields.{Fields}
+use Rattle.shotfile_records.specs.declared.Taken.the-variants.{Whole}
 use Rattle.shotfile.specs.declared.reader.Step.the-variants.{Shot}
-use Rattle.records.specs.Records.{headerAbsent, firstAbsent, fieldAt, recordAt, bitOf, fieldOf, mapOf, recordOf}
+use Rattle.shotfile_records.specs.Records.{headerAbsent, firstAbsent, fieldAt, recordAt, bitOf, fieldOf, mapOf, recordOf}
 use Rattle.shotfile.specs.Files.{stepAt, shots, withShot, onStep, shotsFrom, file, withSettings, firstShot, onHeader, fileIn, shotRecords, fileOf}
-use Rattle.records.proofs.Taking.{field-absent, field-there, taken-whole}
+use Rattle.shotfile_records.proofs.Taking.{field-absent, field-there, taken-whole}
 use Rattle.shotfile.proofs.Steps.{step-on, shots-end, shots-on}
-use Rattle.records.proofs.Putting.{bit-absent, bit-there, bit-small, field-some, field-size, record-size}
+use Rattle.shotfile_records.proofs.Putting.{bit-absent, bit-there, bit-small, field-some, field-size, record-size}
 
 -- the numbers are of 16 bits
 abbrev pub Small : List ℕ → Type 0

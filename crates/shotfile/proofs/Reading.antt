@@ -5,12 +5,12 @@ use Prim.Native.Nat.{ℕ, _*_, _/_, _≤_}
 use native.Mathlib.Omega.{arith}
 use lib.ListN.{length, drop}
 use Rattle.job.specs.declared.Refusal.{Refusal}
-use Rattle.records.specs.declared.Fields.{Fields}
-use Rattle.records.specs.declared.Taken.the-variants.{Whole, Refused}
+use Rattle.shotfile_records.specs.declared.Fields.{Fields}
+use Rattle.shotfile_records.specs.declared.Taken.the-variants.{Whole, Refused}
 use Rattle.shotfile.specs.declared.reader.Cursor.{Cursor}
 use Rattle.shotfile.specs.declared.reader.Counted.the-variants.{Shots, Refused as Uncounted}
 use Rattle.shotfile.specs.declared.reader.ReadAnswer.the-variants.{Read, Refused as Unread}
-use Rattle.records.specs.Records.{headerAbsent, firstAbsent, recordAt}
+use Rattle.shotfile_records.specs.Records.{headerAbsent, firstAbsent, recordAt}
 use Rattle.shotfile.specs.Files.{Rest, shots, faulty, shotsFrom, File, file, refused, withSettings, fileIn, nextShots}
 use Rattle.shotfile.proofs.ShotsRead.{reads, reads-room, reads-next}
 use Rattle.shotfile.specs.Calls.{countOf, readAnswer, readCoords}

@@ -23,7 +23,7 @@ use Rattle.job.specs.Checking.{checked, andThen}
 use Rattle.job.proofs.Conditions.{accepted-valid}
 use Rattle.job.proofs.Later.{then-short}
 use Rattle.lattice.specs.Shots.{AllInField}
-use Rattle.records.specs.declared.Fields.{Fields}
+use Rattle.shotfile_records.specs.declared.Fields.{Fields}
 use Rattle.shotfile.specs.declared.reader.ReadAnswer.the-variants.{Read}
 use Rattle.shotfile.specs.declared.writer.WriteAnswer.the-variants.{Written, Refused as Unwritten}
 use Rattle.shotfile.specs.Files.{File, file, refused, fileIn, fileOf, shortest}

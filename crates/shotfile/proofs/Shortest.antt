@@ -8,13 +8,13 @@ use lib.Dec.{T}
 use lib.ListN.{length, drop, length-append, drop-of-length-le}
 use Rattle.lattice.proofs.Cases.{and-left, and-right}
 use Rattle.job.specs.declared.Refusal.{Refusal}
-use Rattle.records.specs.declared.Fields.{Fields}
-use Rattle.records.specs.declared.Taken.{Taken}
-use Rattle.records.specs.declared.Taken.the-variants.{Whole, Refused}
+use Rattle.shotfile_records.specs.declared.Fields.{Fields}
+use Rattle.shotfile_records.specs.declared.Taken.{Taken}
+use Rattle.shotfile_records.specs.declared.Taken.the-variants.{Whole, Refused}
 use Rattle.shotfile.specs.declared.reader.Cursor.{Cursor}
 use Rattle.shotfile.specs.declared.reader.Step.{Step}
 use Rattle.shotfile.specs.declared.reader.Step.the-variants.{Shot}
-use Rattle.records.specs.Records.{headerAbsent, recordAt, recordOf, tight}
+use Rattle.shotfile_records.specs.Records.{headerAbsent, recordAt, recordOf, tight}
 use Rattle.shotfile.specs.Files.{stepAt, Rest, shots, faulty, shotsFrom, file, refused, withSettings, firstShot, onHeader, fileIn, onShot, shotRecords, fileOf, tightFrom, tightRest, shortest}
 use Rattle.shotfile.proofs.Steps.{step-on}
 use Rattle.shotfile.proofs.ShotsRead.{Reads, done, shot, reads}

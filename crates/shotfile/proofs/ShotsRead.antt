@@ -9,12 +9,12 @@ use lib.ListN.{length}
 use borrow.Author.Tests.{ltb-true, ltb-false}
 use Rattle.job.specs.declared.Refusal.{Refusal}
 use Rattle.job.specs.declared.Refusal.the-variants.{TooManyShots, NoPlace}
-use Rattle.records.specs.declared.Fields.{Fields}
-use Rattle.records.specs.declared.Taken.{Taken}
-use Rattle.records.specs.declared.Taken.the-variants.{Whole, Refused}
+use Rattle.shotfile_records.specs.declared.Fields.{Fields}
+use Rattle.shotfile_records.specs.declared.Taken.{Taken}
+use Rattle.shotfile_records.specs.declared.Taken.the-variants.{Whole, Refused}
 use Rattle.shotfile.specs.declared.reader.Cursor.{Cursor}
 use Rattle.shotfile.specs.declared.reader.Step.the-variants.{Shot, End}
-use Rattle.records.specs.Records.{recordAt}
+use Rattle.shotfile_records.specs.Records.{recordAt}
 use Rattle.shotfile.specs.Files.{stepOf, stepAt, Rest, shots, faulty, withShot, onStep, shotsFrom, nextShots}
 use Rattle.shotfile.proofs.Steps.{step-on}
 

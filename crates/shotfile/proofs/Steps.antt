@@ -7,14 +7,14 @@ use lib.ListN.{length}
 use borrow.Author.Tests.{le-ltb, lt-ltb}
 use Rattle.job.specs.declared.Refusal.{Refusal}
 use Rattle.job.specs.declared.Refusal.the-variants.{TooManyShots, NoPlace}
-use Rattle.records.specs.declared.Fields.{Fields}
-use Rattle.records.specs.declared.Taken.{Taken}
+use Rattle.shotfile_records.specs.declared.Fields.{Fields}
+use Rattle.shotfile_records.specs.declared.Taken.{Taken}
 use Rattle.shotfile.specs.declared.reader.Cursor.{Cursor}
 use Rattle.shotfile.specs.declared.reader.Step.{Step}
 use Rattle.shotfile.specs.declared.reader.Step.the-variants.{Shot, Refused as Stopped, End}
 use Rattle.shotfile.specs.declared.reader.Counted.{Counted}
 use Rattle.shotfile.specs.declared.reader.Counted.the-variants.{Shots, Refused as Uncounted}
-use Rattle.records.specs.Records.{recordAt}
+use Rattle.shotfile_records.specs.Records.{recordAt}
 use Rattle.shotfile.specs.Files.{stepOf, stepAt, Rest, shots, faulty, withShot, onStep, shotsFrom}
 use Rattle.shotfile.specs.Calls.{countOf}
 

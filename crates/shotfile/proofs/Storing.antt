@@ -5,7 +5,7 @@ use Prim.Native.Nat.{ℕ, suc, _+_, _-_, _*_, _≤_, _<_}
 use native.Mathlib.Omega.{arith}
 use lib.ListN.{take, drop}
 use Rattle.job.specs.declared.Refusal.{Refusal}
-use Rattle.records.specs.declared.Fields.{Fields}
+use Rattle.shotfile_records.specs.declared.Fields.{Fields}
 use Rattle.shotfile.specs.declared.reader.Cursor.{Cursor}
 use Rattle.shotfile.specs.declared.reader.Step.{Step}
 use Rattle.shotfile.specs.declared.reader.Step.the-variants.{Shot, Refused as Stopped, End}

@@ -6,10 +6,10 @@ use Prim.Native.Nat.{ℕ, zero, suc, _+_, _*_, _%_, _≤_}
 use native.Mathlib.Omega.{arith}
 use lib.Dec.{eqb}
 use lib.ListN.{length, length-append, List·getD-eq-default}
-use Rattle.records.specs.declared.Fields.{Fields}
-use Rattle.records.specs.declared.Taken.the-variants.{Whole}
+use Rattle.shotfile_records.specs.declared.Fields.{Fields}
+use Rattle.shotfile_records.specs.declared.Taken.the-variants.{Whole}
 use Rattle.shotfile.specs.declared.reader.Step.{Step}
-use Rattle.records.specs.Records.{headerAbsent, firstAbsent, wordAt, fieldAt, recordAt, bitOf, recordOf, needless, tight}
+use Rattle.shotfile_records.specs.Records.{headerAbsent, firstAbsent, wordAt, fieldAt, recordAt, bitOf, recordOf, needless, tight}
 use Rattle.shotfile.specs.Files.{stepAt, onShot, shotRecords, fileOf, tightFrom, tightRest, shortest}
 use Rattle.shotfile.proofs.Steps.{step-end}
 use Rattle.shotfile.proofs.ReadBack.{Small, SmallFields, Placed, placed, placed-first, placed-second, placed-third, placed-read, one-step}

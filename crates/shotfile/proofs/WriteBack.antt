@@ -13,11 +13,11 @@ use borrow.Author.Tests.{ltb-true, leb-true, eqb-true, eqb-false, eq-eqb, ne-eqb
 use Rattle.job.specs.declared.Refusal.{Refusal}
 use Rattle.job.specs.declared.Refusal.the-variants.{UnknownBit, CutShort}
 use Rattle.lattice.proofs.Cases.{and-left, and-right}
-use Rattle.records.specs.declared.Fields.{Fields}
-use Rattle.records.specs.declared.Taken.the-variants.{Whole, Refused}
-use Rattle.records.specs.Records.{wordAt, fieldAt, secondAt, thirdAt, endAt, fieldsAt, recordAt, bitOf, fieldOf, mapOf, recordOf, needless, tight}
-use Rattle.records.proofs.Taking.{field-absent, field-there}
-use Rattle.records.proofs.Putting.{bit-absent, bit-there, bit-small, field-none, field-some, field-size, record-size}
+use Rattle.shotfile_records.specs.declared.Fields.{Fields}
+use Rattle.shotfile_records.specs.declared.Taken.the-variants.{Whole, Refused}
+use Rattle.shotfile_records.specs.Records.{wordAt, fieldAt, secondAt, thirdAt, endAt, fieldsAt, recordAt, bitOf, fieldOf, mapOf, recordOf, needless, tight}
+use Rattle.shotfile_records.proofs.Taking.{field-absent, field-there}
+use Rattle.shotfile_records.proofs.Putting.{bit-absent, bit-there, bit-small, field-none, field-some, field-size, record-size}
 
 -- the elements are bytes
 abbrev pub Bytes : List ℕ → Type 0

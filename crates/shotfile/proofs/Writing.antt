@@ -11,14 +11,14 @@ use Rattle.job.specs.declared.Refusal.the-variants.{ShortFile}
 use Rattle.job.specs.declared.Checked.the-variants.{Accepted, Refused as Turned}
 use Rattle.job.specs.Checking.{checked}
 use Rattle.job.proofs.Conditions.{accepted-valid}
-use Rattle.records.specs.declared.Fields.{Fields}
+use Rattle.shotfile_records.specs.declared.Fields.{Fields}
 use Rattle.shotfile.specs.declared.writer.WriteAnswer.the-variants.{Written, Refused as Unwritten}
 use Rattle.shotfile.specs.Calls.{writeAnswer, writeBytes}
-use Rattle.records.specs.Records.{headerAbsent, firstAbsent, recordOf}
+use Rattle.shotfile_records.specs.Records.{headerAbsent, firstAbsent, recordOf}
 use Rattle.shotfile.specs.Files.{coordsAt, shotRecords, fileOf}
 use Rattle.buffer.specs.Wrote.{Wrote}
 use Rattle.shotfile.proofs.Fill.{Filled, fill-none, fill-more, rest-more}
-use Rattle.records.proofs.Putting.{record-most}
+use Rattle.shotfile_records.proofs.Putting.{record-most}
 
 pub records-most : (p : Fields) (coords : List ℕ) → length (shotRecords p coords) ≤ 7 * (length coords / 3)
 unfolding shotRecords

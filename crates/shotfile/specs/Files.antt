@@ -6,13 +6,13 @@ use lib.Dec.{ltb}
 use lib.ListN.{length, getD}
 use Rattle.job.specs.declared.Refusal.{Refusal}
 use Rattle.job.specs.declared.Refusal.the-variants.{TooManyShots, NoPlace}
-use Rattle.records.specs.declared.Fields.{Fields}
-use Rattle.records.specs.declared.Taken.{Taken}
-use Rattle.records.specs.declared.Taken.the-variants.{Whole, Refused}
+use Rattle.shotfile_records.specs.declared.Fields.{Fields}
+use Rattle.shotfile_records.specs.declared.Taken.{Taken}
+use Rattle.shotfile_records.specs.declared.Taken.the-variants.{Whole, Refused}
 use Rattle.shotfile.specs.declared.reader.Cursor.{Cursor}
 use Rattle.shotfile.specs.declared.reader.Step.{Step}
 use Rattle.shotfile.specs.declared.reader.Step.the-variants.{Shot, Refused as Stopped, End}
-use Rattle.records.specs.Records.{headerAbsent, firstAbsent, recordAt, recordOf, tight}
+use Rattle.shotfile_records.specs.Records.{headerAbsent, firstAbsent, recordAt, recordOf, tight}
 
 -- ---- reading
 -- a step takes one record: a shot, with the cursor after it, or a refusal; or there is no record left

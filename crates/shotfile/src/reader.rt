@@ -1,11 +1,11 @@
 // Reading a shot file: a cursor takes one record and goes on to the next from there; the file is checked whole before anything is stored.
 // Document 01, 'Shot file'.
 use job::Refusal;
-use records::Fields;
-use records::Taken;
-use records::first_absent;
-use records::header_absent;
-use records::take_record;
+use shotfile_records::Fields;
+use shotfile_records::Taken;
+use shotfile_records::first_absent;
+use shotfile_records::header_absent;
+use shotfile_records::take_record;
 ghost use mathlib.Core.Path.{_≡_};
 ghost use mathlib.Core.List.{[], _∷_, _++_};
 ghost use Prim.Native.Nat.{_≤_, _+_, _*_};

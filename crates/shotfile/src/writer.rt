@@ -1,16 +1,16 @@
 // Writing a shot file in its shortest form. Document 01, 'Shot file' and 'When a job is refused'.
 use job::Checked;
 use job::Refusal;
-use records::Fields;
-use records::first_absent;
-use records::header_absent;
-use records::put_record;
-use records::record_length;
+use shotfile_records::Fields;
+use shotfile_records::first_absent;
+use shotfile_records::header_absent;
+use shotfile_records::put_record;
+use shotfile_records::record_length;
 ghost use mathlib.Core.Path.{_≡_};
 ghost use mathlib.Core.List.{_++_};
 ghost use Prim.Native.Nat.{_≤_, _<_, _/_};
 ghost use lib.ListN.{length, drop};
-ghost use Rattle.records.specs.Records.{firstAbsent};
+ghost use Rattle.shotfile_records.specs.Records.{firstAbsent};
 ghost use Rattle.shotfile.specs.Files.{coordsAt, shotRecords, fileOf};
 ghost use Rattle.shotfile.specs.Calls.{writeChecked, writeAnswer, writeBytes};
 

@@ -1,5 +1,5 @@
 // The listing program: reads a shot file from standard input and prints it as text, one record a line, with the refusal at the end where
-// there is one. What it prints is `shottext::put_text`; here are only the system calls and the sizes.
+// there is one. What it prints is `shotfile_text::put_text`; here are only the system calls and the sizes.
 use input::Filled;
 use libc::STDERR_FILENO;
 use libc::STDOUT_FILENO;
@@ -10,7 +10,7 @@ ghost use lib.ListN.{length};
 fn print_by(bytes: &[u8], coords: &mut [u16], out: &mut [u8])
     requires { ⌜ 524288 ≤ length (now out) ⌝ }
 {
-    let n = shottext::put_text(bytes, coords, out);
+    let n = shotfile_text::put_text(bytes, coords, out);
     if !io::write_all(STDOUT_FILENO, &out[..n]) {
         io::write_all(STDERR_FILENO, b"shots: standard output cannot be written\n");
     }

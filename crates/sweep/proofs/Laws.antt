@@ -33,15 +33,15 @@ use Rattle.grid.specs.Grid.{slabOf, shotCount, touchesSlab, meets}
 use Rattle.grid.proofs.NumberLaws.{has-keep}
 use Rattle.grid.proofs.CellLaws.{slab-few}
 use Rattle.grid.proofs.ShotLaws.{width-times}
-use Rattle.runs.proofs.SlabLaws.{plane-meets, slab-has}
-use Rattle.rows.specs.Runs.{InRun, runTo, shotsIn}
-use Rattle.marks.specs.Marks.{MarkedMore, Marked}
-use Rattle.selection.specs.Selection.{wanted}
-use Rattle.tally.specs.Found.{Found, state, found}
-use Rattle.tally.proofs.Laws.{found-append}
-use Rattle.line.proofs.Laws.{room-own}
-use Rattle.plane.specs.Plane.{linesTo, planeOf, PlaneOut}
-use Rattle.plane.proofs.Laws.{plane-same}
+use Rattle.grid_runs.proofs.SlabLaws.{plane-meets, slab-has}
+use Rattle.sweep_rows.specs.Runs.{InRun, runTo, shotsIn}
+use Rattle.sweep_marks.specs.Marks.{MarkedMore, Marked}
+use Rattle.sweep_selection.specs.Selection.{wanted}
+use Rattle.sweep_tally.specs.Found.{Found, state, found}
+use Rattle.sweep_tally.proofs.Laws.{found-append}
+use Rattle.sweep_line.proofs.Laws.{room-own}
+use Rattle.sweep_plane.specs.Plane.{linesTo, planeOf, PlaneOut}
+use Rattle.sweep_plane.proofs.Laws.{plane-same}
 use Rattle.sweep.specs.Sweep.{AllIn, MarkedList, BlankIf, Agree, planesTo, Swept, InSlab}
 
 -- ---- marks

@@ -9,9 +9,9 @@ use Rattle.lattice.specs.Shots.{Shot}
 use Rattle.lattice.specs.Listing.{Corner, join}
 use Rattle.lattice.specs.CornerSums.{Room}
 use Rattle.job.specs.Job.{shotAt}
-use Rattle.rows.specs.Runs.{InList}
-use Rattle.tally.specs.Found.{Found, found}
-use Rattle.plane.specs.Plane.{planeOf}
+use Rattle.sweep_rows.specs.Runs.{InList}
+use Rattle.sweep_tally.specs.Found.{Found, found}
+use Rattle.sweep_plane.specs.Plane.{planeOf}
 
 -- every shot of the list stays in a field of at most 1,024
 abbrev pub AllIn : ℕ → List ℕ → Type 0

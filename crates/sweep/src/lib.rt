@@ -1,6 +1,6 @@
 // The plane sweep: the corners of the solid that a list covers, in rising order of x, y and z, with their sums, and their records as far
 // as a lent buffer has room. The planes of a slab of the grid take their shots from the index; planes on no face, and slabs without any
-// face, are passed over, so the cost does not depend on the field's volume. Stands on `plane`, `grid` and `runs`.
+// face, are passed over, so the cost does not depend on the field's volume. Stands on `sweep_plane`, `grid` and `grid_runs`.
 ghost use mathlib.Core.Path.{_≡_};
 ghost use Prim.Native.Nat.{_+_, _*_, _/_, _<_, _≤_};
 ghost use lib.ListN.{length};
@@ -10,10 +10,10 @@ ghost use Rattle.lattice.specs.CornerSums.{Room, sumsOf};
 ghost use Rattle.lattice.proofs.PatternLaws.{x-axis};
 ghost use Rattle.job.specs.Job.{Valid, shotsOf, shotAt};
 ghost use Rattle.grid.specs.Grid.{Holds};
-ghost use Rattle.rows.specs.Runs.{InList, InRun, shotsIn};
-ghost use Rattle.marks.specs.Marks.{MarkedMore, Marked};
-ghost use Rattle.tally.specs.Found.{state, found};
-ghost use Rattle.plane.specs.Plane.{PlaneOut};
+ghost use Rattle.sweep_rows.specs.Runs.{InList, InRun, shotsIn};
+ghost use Rattle.sweep_marks.specs.Marks.{MarkedMore, Marked};
+ghost use Rattle.sweep_tally.specs.Found.{state, found};
+ghost use Rattle.sweep_plane.specs.Plane.{PlaneOut};
 ghost use Rattle.sweep.specs.Sweep.{AllIn, MarkedList, BlankIf, Agree, Swept, InSlab};
 ghost use mathlib.Core.List.{[]};
 use lattice::sums::CornerSums;
@@ -29,7 +29,7 @@ fn mark_shot(c: &[u16], e: usize, i: usize, row: &mut [u8])
     requires { ⌜ InList 1024 e (now c) i × (length (now row) ≡ 1026) ⌝ }
     ensures { λ _. ⌜ MarkedMore (shotAt e (now (c .entry)) i .x) e (now (row .entry)) (now (row .exit)) ⌝ }
 {
-    marks::mark(row, wide(c[3 * i]), e);
+    sweep_marks::mark(row, wide(c[3 * i]), e);
 }
 
 // Marks the faces across x of the shots of a list.
@@ -81,7 +81,7 @@ fn plane_if(
     if row[x as usize] == 0 {
         return t;
     }
-    plane::across(c, e, field, x, run, near, faces, links, t, buf)
+    sweep_plane::across(c, e, field, x, run, near, faces, links, t, buf)
 }
 
 // The planes from `from` up to `end`, from a run of shots that gives these planes the list's corners.
@@ -146,7 +146,7 @@ fn slab(
         return t;
     }
     let mut run = [0u16; 4096];
-    let n = runs::slab(field, edge, grid, coords, work, gx, &mut run);
+    let n = grid_runs::slab(field, edge, grid, coords, work, gx, &mut run);
     planes(
         coords,
         edge as usize,

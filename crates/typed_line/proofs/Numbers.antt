@@ -7,7 +7,7 @@ use native.Mathlib.Omega.{arith}
 use lib.Dec.{leb, eqb}
 use lib.ListN.{length, drop, getD, drop-of-length-le}
 use borrow.Author.Tests.{leb-true, le-leb, lt-leb, eq-eqb, ne-eqb}
-use Rattle.report.specs.Lines.{valueFrom}
+use Rattle.text_report.specs.Lines.{valueFrom}
 use Rattle.typed_line.specs.declared.entry.Number.the-variants.{Is, NoDigit, TooLarge}
 use Rattle.typed_line.specs.Entries.{digit, digitsOnly, numberOf, same}
 use Rattle.typed_line.proofs.Cutting.{here}

@@ -2,8 +2,8 @@
 use mathlib.Core.Path.{_≡_, refl}
 use mathlib.Core.List.{[], _∷_}
 use Prim.Native.String.{String}
-use Rattle.report.specs.Text.{text}
-use Rattle.report.specs.Lines.{valueFrom}
+use Rattle.text_report.specs.Text.{text}
+use Rattle.text_report.specs.Lines.{valueFrom}
 use Rattle.typed_line.specs.declared.entry.Mistake.the-variants.{UnknownWord, TooFewWords, TooManyWords, NoNumber, LargeNumber, SettingTwice, NoPlace}
 use Rattle.typed_list.specs.declared.Typed.{Typed}
 use Rattle.typed_list.specs.declared.Typed.the-variants.{List as Listed, Mistake as Mistaken}

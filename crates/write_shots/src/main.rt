@@ -46,7 +46,7 @@ fn tell_refusal(refusal: Refusal) {
     io::print_decimal(STDERR_FILENO, job::detail(refusal) as u64);
     say(b": ");
     let mut sentence = [0u8; 64];
-    let n = wording::put_sentence(&mut sentence, 0, refusal);
+    let n = text_wording::put_sentence(&mut sentence, 0, refusal);
     say(&sentence[..n]);
     say(b"\n");
 }

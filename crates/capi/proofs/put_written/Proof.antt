@@ -2,7 +2,7 @@
 use mathlib.Core.Path.{sym, _∙_, ap, ap₂}
 use mathlib.Core.List.{[], _∷_, _++_}
 use lib.ListN.{drop}
-use Rattle.intake.specs.Intake.{numbersOf}
+use Rattle.measure_intake.specs.Intake.{numbersOf}
 use Rattle.capi.specs.Answered.{writtenNumbers}
 use borrow.Author.Needs.{needs}
 use Rattle.capi.proofs.put_written.Statement.{statement}

@@ -3,7 +3,7 @@ use mathlib.Core.Path.{_≡_}
 use Rattle.lattice.specs.Listing.{corners}
 use Rattle.lattice.specs.CornerSums.{sumsOf}
 use Rattle.job.proofs.Conditions.{valid-within}
-use Rattle.intake.specs.Intake.{solid}
+use Rattle.measure_intake.specs.Intake.{solid}
 use Rattle.measure.proofs.AnswerLaws.{swept-sums, swept-nonnegative, swept-totals}
 use borrow.Author.Needs.{needs}
 use Rattle.measure.proofs.count.Statement.{statement}

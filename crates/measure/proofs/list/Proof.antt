@@ -1,7 +1,7 @@
 -- A refusal of the checks is the answer; otherwise the corners are counted and listed.
 use mathlib.Core.Path.{_≡_, sym, _∙_}
 use lib.ListN.{length}
-use Rattle.intake.proofs.IntakeLaws.{accepted-list, accepted-holds}
+use Rattle.measure_intake.proofs.IntakeLaws.{accepted-list, accepted-holds}
 use Rattle.measure.proofs.AnswerLaws.{refused-list, refused-listing, accepted-list-answer, accepted-listing}
 use borrow.Author.Needs.{needs}
 use Rattle.measure.proofs.list.Statement.{statement}

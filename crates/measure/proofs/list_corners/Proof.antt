@@ -3,7 +3,7 @@ use Prim.Native.Nat.{_*_, _≤_}
 use native.Mathlib.Omega.{arith}
 use lib.ListN.{length}
 use Rattle.lattice.specs.Listing.{cornerCount}
-use Rattle.intake.specs.Intake.{solid}
+use Rattle.measure_intake.specs.Intake.{solid}
 use Rattle.measure.proofs.AnswerLaws.{totals-corners, short-listing, short-kept, long-listing, long-stored}
 use borrow.Author.Needs.{needs}
 use Rattle.measure.proofs.list_corners.Statement.{statement}

@@ -1,6 +1,6 @@
 -- A refusal of the checks is the answer; otherwise the totals are counted.
 use mathlib.Core.Path.{_≡_, sym, _∙_}
-use Rattle.intake.proofs.IntakeLaws.{accepted-list, accepted-holds, refused-answer, accepted-answer}
+use Rattle.measure_intake.proofs.IntakeLaws.{accepted-list, accepted-holds, refused-answer, accepted-answer}
 use borrow.Author.Needs.{needs}
 use Rattle.measure.proofs.measure.Statement.{statement}
 use Rattle.measure.proofs.measure.Tie as tie

@@ -1,5 +1,5 @@
 -- A sweep with room for every record.
-use Rattle.intake.specs.Intake.{solid}
+use Rattle.measure_intake.specs.Intake.{solid}
 use Rattle.measure.proofs.AnswerLaws.{swept-listing}
 use borrow.Author.Needs.{needs}
 use Rattle.measure.proofs.store.Statement.{statement}

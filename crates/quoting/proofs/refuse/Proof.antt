@@ -1,6 +1,6 @@
 -- The number and the detail are those of the refusal.
 use mathlib.Core.Path.{ap₂}
-use Rattle.report.specs.Lines.{refusalLine}
+use Rattle.text_report.specs.Lines.{refusalLine}
 use Rattle.buffer.proofs.WroteLaws.{wrote-as}
 use borrow.Author.Needs.{needs}
 use Rattle.quoting.proofs.refuse.Statement.{statement}

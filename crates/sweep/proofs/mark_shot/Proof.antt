@@ -4,7 +4,7 @@ use Rattle.sweep.proofs.mark_shot.Statement.{statement}
 use Rattle.sweep.proofs.mark_shot.Tie as tie
 use Rattle.sweep.proofs.mark_shot.Reads as reads
 use Rattle.sweep.proofs.mark_shot.Lts as lts
-use Rattle.marks.proofs.mark.Reads as mark-reads
+use Rattle.sweep_marks.proofs.mark.Reads as mark-reads
 use Rattle.sweep.proofs.wide.Reads as wide-reads
 
 mul-wide : tie.Need-mul-wide

@@ -5,7 +5,7 @@ use Rattle.sweep.proofs.plane_if.Statement.{statement}
 use Rattle.sweep.proofs.plane_if.Tie as tie
 use Rattle.sweep.proofs.plane_if.Reads as reads
 use Rattle.sweep.proofs.plane_if.Lts as lts
-use Rattle.plane.proofs.across.Reads as across-reads
+use Rattle.sweep_plane.proofs.across.Reads as across-reads
 
 shared-slice-read-if1 : tie.Need-shared-slice-read-if1
 shared-slice-read-if1 c = search needs

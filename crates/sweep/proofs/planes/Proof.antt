@@ -6,7 +6,7 @@ use native.Mathlib.Omega.{arith}
 use lib.ListN.{length}
 use Rattle.lattice.proofs.CornerSumLaws.{room-more}
 use Rattle.job.specs.Job.{shotsOf}
-use Rattle.tally.specs.Found.{state}
+use Rattle.sweep_tally.specs.Found.{state}
 use Rattle.sweep.specs.Sweep.{Swept}
 use Rattle.sweep.proofs.Laws.{swept-none, swept-more}
 use borrow.Author.Needs.{needs}

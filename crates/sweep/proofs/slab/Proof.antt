@@ -7,7 +7,7 @@ use Rattle.sweep.proofs.slab.Statement.{statement}
 use Rattle.sweep.proofs.slab.Tie as tie
 use Rattle.sweep.proofs.slab.Reads as reads
 use Rattle.sweep.proofs.slab.Lts as lts
-use Rattle.runs.proofs.slab.Reads as slab-reads
+use Rattle.grid_runs.proofs.slab.Reads as slab-reads
 use Rattle.sweep.proofs.is_blank.Reads as is-blank-reads
 use Rattle.sweep.proofs.planes.Reads as planes-reads
 

@@ -7,7 +7,7 @@ use lib.ListN.{length}
 use Rattle.lattice.specs.CornerSums.{Room}
 use Rattle.lattice.proofs.CornerSumLaws.{room-more, no-room}
 use Rattle.job.specs.Job.{shotsOf}
-use Rattle.tally.specs.Found.{state, found}
+use Rattle.sweep_tally.specs.Found.{state, found}
 use Rattle.sweep.specs.Sweep.{planesTo}
 use Rattle.sweep.proofs.Laws.{planes-none, high-in, next-low, in-slab, slabs-done}
 use borrow.Author.Needs.{needs}

@@ -1,7 +1,7 @@
 -- A file is its header and its shots. Assumes nothing.
 use native.Mathlib.Omega.{arith}
-use Rattle.records.specs.Records.{firstAbsent}
-use Rattle.records.proofs.Putting.{record-most}
+use Rattle.shotfile_records.specs.Records.{firstAbsent}
+use Rattle.shotfile_records.proofs.Putting.{record-most}
 use Rattle.shotfile.proofs.Writing.{records-most, file-size}
 use borrow.Author.Needs.{needs}
 use Rattle.shotfile.proofs.writer.file_length.Statement.{statement}

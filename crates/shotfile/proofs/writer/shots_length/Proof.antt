@@ -2,9 +2,9 @@
 use Prim.Native.Nat.{_≤_, _-_, _/_}
 use native.Mathlib.Omega.{arith}
 use lib.ListN.{length}
-use Rattle.records.specs.Records.{firstAbsent}
+use Rattle.shotfile_records.specs.Records.{firstAbsent}
 use Rattle.shotfile.specs.Files.{shotRecords}
-use Rattle.records.proofs.Putting.{record-most}
+use Rattle.shotfile_records.proofs.Putting.{record-most}
 use Rattle.shotfile.proofs.Writing.{Measured, measured-none, measured-more, measured-all, records-most}
 use borrow.Author.Needs.{needs}
 use Rattle.shotfile.proofs.writer.shots_length.Statement.{statement}

@@ -1,0 +1,354 @@
+// Runs the jobs with known totals of document 01, the edges named under its table, and each refusal of the measuring and the listing call.
+// Every entry and byte that is lent is junk before the call. A line names the job and the call, gives the answer, and then, of each lent slice, how
+// many places in front changed and how many in all kept their junk: together they are all places where only the front was written.
+// The index in front is printed too, where it is short, and the listing.
+mod junk;
+
+ghost use mathlib.Core.Path.{_≡_};
+ghost use lib.ListN.{length};
+use job::Refusal;
+use measure_intake::Measured;
+
+// A list's settings, and how long the lent slices are.
+struct Lent {
+    field: u16,
+    edge: u16,
+    grid: u16,
+    entries: usize,
+    room: usize,
+}
+
+fn print_refusal(refusal: Refusal) {
+    io::write_all(1, b" refused");
+    junk::print_number(job::number(refusal) as u64);
+    junk::print_number(job::detail(refusal) as u64);
+}
+
+fn print_answer(answer: Measured) {
+    match answer {
+        Measured::Quote(totals) => {
+            junk::print_number(totals.volume);
+            junk::print_number(totals.area);
+            junk::print_number(totals.edge);
+            junk::print_number(totals.corners as u64);
+        }
+        Measured::Refused(refusal) => {
+            print_refusal(refusal);
+        }
+    }
+}
+
+fn measure_in(lent: Lent, coords: &[u16], work: &mut [u32]) {
+    io::write_all(1, b": measure");
+    let answer = measure::measure(lent.field, lent.edge, lent.grid, coords, work);
+    print_answer(answer);
+    junk::print_work(work);
+    io::write_all(1, b"\n");
+}
+
+fn list_in(lent: Lent, coords: &[u16], work: &mut [u32], listing: &mut [u8]) {
+    io::write_all(1, b": list");
+    let answer = measure::list(lent.field, lent.edge, lent.grid, coords, work, listing);
+    print_answer(answer);
+    junk::print_work(work);
+    junk::print_listing(listing);
+    io::write_all(1, b"\n");
+}
+
+// Measures, with the entries lent.
+fn show_measure(lent: Lent, coords: &[u16]) {
+    let mut work = junk::junk_entries();
+    let entries = lent.entries;
+    if entries <= 4100 {
+        measure_in(lent, coords, &mut work[..entries]);
+    }
+}
+
+// Lists, with the entries lent, into a listing buffer.
+fn list_into(lent: Lent, coords: &[u16], listing: &mut [u8]) {
+    let mut work = junk::junk_entries();
+    let entries = lent.entries;
+    if entries <= 4100 {
+        list_in(lent, coords, &mut work[..entries], listing);
+    }
+}
+
+// Lists, with the entries and the bytes lent.
+fn show_list(lent: Lent, coords: &[u16]) {
+    let mut listing = junk::junk_bytes();
+    let room = lent.room;
+    if room <= 150 {
+        list_into(lent, coords, &mut listing[..room]);
+    }
+}
+
+// A job by both calls.
+fn show(name: &[u8], lent: Lent, coords: &[u16]) {
+    io::write_all(1, name);
+    show_measure(lent, coords);
+    io::write_all(1, name);
+    show_list(lent, coords);
+}
+
+// The settings of most jobs, with slices that are longer than these jobs need.
+fn usual() -> Lent {
+    Lent {
+        field: 8,
+        edge: 2,
+        grid: 2,
+        entries: 40,
+        room: 150,
+    }
+}
+
+// Other settings.
+fn of(field: u16, edge: u16, grid: u16) -> Lent {
+    Lent {
+        field: field,
+        edge: edge,
+        grid: grid,
+        entries: 40,
+        room: 150,
+    }
+}
+
+// The usual settings, with slices of these lengths.
+fn with(entries: usize, room: usize) -> Lent {
+    Lent {
+        field: 8,
+        edge: 2,
+        grid: 2,
+        entries: entries,
+        room: room,
+    }
+}
+
+// The table's rows of field 8 and edge 2.
+fn small_jobs() {
+    show(b"none", usual(), &[]);
+    show(b"one shot", usual(), &[1, 1, 1]);
+    show(b"one shot twice", usual(), &[1, 1, 1, 1, 1, 1]);
+    show(b"shared face", usual(), &[0, 0, 0, 2, 0, 0]);
+    show(b"shared edge", usual(), &[0, 0, 0, 2, 2, 0]);
+    show(b"shared corner", usual(), &[0, 0, 0, 2, 2, 2]);
+    show(b"overlap", usual(), &[0, 0, 0, 1, 1, 1]);
+}
+
+// The 26 cells about a hollow of one.
+fn hollow() {
+    let about = [
+        0u16,
+        0,
+        0,
+        0,
+        0,
+        1,
+        0,
+        0,
+        2,
+        0,
+        1,
+        0,
+        0,
+        1,
+        1,
+        0,
+        1,
+        2,
+        0,
+        2,
+        0,
+        0,
+        2,
+        1,
+        0,
+        2,
+        2,
+        1,
+        0,
+        0,
+        1,
+        0,
+        1,
+        1,
+        0,
+        2,
+        1,
+        1,
+        0,
+        1,
+        1,
+        2,
+        1,
+        2,
+        0,
+        1,
+        2,
+        1,
+        1,
+        2,
+        2,
+        2,
+        0,
+        0,
+        2,
+        0,
+        1,
+        2,
+        0,
+        2,
+        2,
+        1,
+        0,
+        2,
+        1,
+        1,
+        2,
+        1,
+        2,
+        2,
+        2,
+        0,
+        2,
+        2,
+        1,
+        2,
+        2,
+        2,
+    ];
+    show(b"hollow", of(8, 1, 2), &about);
+}
+
+// The largest field, covered by one shot, in one grid cell and in 512.
+fn whole_field() {
+    show(b"whole field", of(1024, 1024, 1), &[0, 0, 0]);
+    let longer = Lent {
+        field: 1024,
+        edge: 1024,
+        grid: 8,
+        entries: 1030,
+        room: 60,
+    };
+    show(b"whole field, 512 grid cells", longer, &[0, 0, 0]);
+}
+
+// Shots at the border of the field, and one past it on each axis.
+fn borders() {
+    show(b"last place", usual(), &[6, 6, 6]);
+    show(b"past it on x", usual(), &[7, 6, 6]);
+    show(b"past it on y", usual(), &[6, 7, 6]);
+    show(b"past it on z", usual(), &[6, 6, 7]);
+    show(
+        b"second shot past it",
+        usual(),
+        &[6, 6, 6, 7, 6, 6, 7, 7, 7],
+    );
+    show(b"far past it", usual(), &[0, 0, 65535]);
+}
+
+// Field sides at the ends of their range.
+fn field_range() {
+    show(b"field 0", of(0, 2, 2), &[0, 0, 0]);
+    show(b"field 1", of(1, 1, 1), &[0, 0, 0]);
+    show(b"field 1024", of(1024, 2, 2), &[0, 0, 0]);
+    show(b"field 1025", of(1025, 2, 1), &[0, 0, 0]);
+}
+
+// Shot edges at the ends of their range.
+fn edge_range() {
+    show(b"edge 0", of(8, 0, 2), &[0, 0, 0]);
+    show(b"edge 8", of(8, 8, 2), &[0, 0, 0]);
+    show(b"edge 9", of(8, 9, 2), &[0, 0, 0]);
+}
+
+// Grid sizes at the ends of their range, and one that does not divide the field side.
+fn grid_range() {
+    show(b"grid 0", of(8, 2, 0), &[0, 0, 0]);
+    show(b"grid 3", of(8, 2, 3), &[0, 0, 0]);
+    show(b"grid 64", of(64, 1, 64), &[0, 0, 0]);
+    show(b"grid 65", of(65, 1, 65), &[0, 0, 0]);
+}
+
+// Work slices that are as long as needed, and one entry shorter.
+fn work_needs() {
+    show(b"(1,1,1) in 10", with(10, 56), &[1, 1, 1]);
+    show(b"(1,1,1) in 9", with(9, 56), &[1, 1, 1]);
+    show(b"(2,2,2) in 17", with(17, 56), &[2, 2, 2]);
+    show(b"(2,2,2) in 16", with(16, 56), &[2, 2, 2]);
+    show(b"(3,3,3) in 17", with(17, 56), &[3, 3, 3]);
+    show(b"(3,3,3) in 16", with(16, 56), &[3, 3, 3]);
+    show(b"(3,3,3) in 0", with(0, 56), &[3, 3, 3]);
+}
+
+// Listing buffers that are as long as needed, one byte shorter, and empty.
+fn listing_needs() {
+    show(b"140 bytes", with(12, 140), &[0, 0, 0, 1, 1, 1]);
+    show(b"139 bytes", with(12, 139), &[0, 0, 0, 1, 1, 1]);
+    show(b"56 bytes", with(12, 56), &[1, 1, 1]);
+    show(b"55 bytes", with(12, 55), &[1, 1, 1]);
+    show(b"no bytes", with(12, 0), &[1, 1, 1]);
+    show(b"no bytes needed", with(12, 0), &[]);
+}
+
+// Of two refusals, the one with the lower number is given.
+fn order() {
+    show(b"1 before 6", of(0, 2, 2), &[0, 0, 0, 0]);
+    show(b"6 before 7", of(0, 0, 2), &[0, 0, 0]);
+    show(b"7 before 8", of(8, 9, 3), &[0, 0, 0]);
+    show(b"8 before 9", of(8, 2, 3), &[7, 6, 6]);
+    show(b"9 before 10", with(0, 0), &[7, 6, 6]);
+    show(b"10 before 11", with(0, 0), &[1, 1, 1]);
+}
+
+// Coordinates that are no whole shots.
+fn broken_shots() {
+    show(b"1 coordinate", usual(), &[1]);
+    show(b"2 coordinates", usual(), &[1, 1]);
+    show(b"4 coordinates", usual(), &[1, 1, 1, 1]);
+}
+
+// The same shot very often.
+fn repeated() -> [u16; 12291]
+    ensures { λ r. ⌜ 12291 ≡ length r ⌝ }
+{
+    [1; 12291]
+}
+
+// Shows the first so many coordinates, in one grid cell.
+fn show_first(name: &[u8], field: u16, coords: &[u16], count: usize) {
+    if coords.len() < count {
+        return;
+    }
+    let lent = Lent {
+        field: field,
+        edge: 2,
+        grid: 1,
+        entries: 4100,
+        room: 60,
+    };
+    show(name, lent, &coords[..count]);
+}
+
+// As many shots as are allowed, and more.
+fn many_shots() {
+    let coords = repeated();
+    show_first(b"4096 shots", 8, &coords, 12288);
+    show_first(b"4096 shots and a coordinate", 8, &coords, 12289);
+    show_first(b"4097 shots", 8, &coords, 12291);
+    show_first(b"2 before 6", 0, &coords, 12291);
+}
+
+fn main() {
+    small_jobs();
+    hollow();
+    whole_field();
+    borders();
+    field_range();
+    edge_range();
+    grid_range();
+    work_needs();
+    listing_needs();
+    broken_shots();
+    many_shots();
+    order();
+}

@@ -1,0 +1,51 @@
+// The cover test: whether a run of shots covers a unit cell. Document 01, 'The grid index'. A run is any slice of numbers.
+// specs/Cover.antt says what it answers; proofs/CoverRuns.antt that the run of a grid cell covers what the list covers.
+// Stands on `grid`, whose runs it is asked about, and on `job` and `lattice`.
+ghost use mathlib.Core.Path.{_≡_};
+ghost use Rattle.lattice.specs.Shots.{spans};
+ghost use Rattle.grid_cover.specs.Cover.{shotCovers, runCovers};
+
+// Whether the edge of a shot from a coordinate on spans a cell of the axis.
+fn spans_cell(edge: u16, at: u16, cell: u16) -> bool
+    ensures { λ r. ⌜ r ≡ spans edge at cell ⌝ }
+{
+    if cell < at {
+        return false;
+    }
+    (cell as u32) < (at as u32) + (edge as u32)
+}
+
+// Whether a shot covers the cell (i, j, k). A number past the list's shots covers nothing.
+fn shot_covers(coords: &[u16], edge: u16, shot: u32, i: u16, j: u16, k: u16) -> bool
+    ensures { λ r. ⌜ r ≡ shotCovers edge (now (coords .entry)) shot i j k ⌝ }
+{
+    let at = 3 * (shot as usize);
+    if coords.len() <= at + 2 {
+        return false;
+    }
+    if !spans_cell(edge, coords[at], i) {
+        return false;
+    }
+    if !spans_cell(edge, coords[at + 1], j) {
+        return false;
+    }
+    spans_cell(edge, coords[at + 2], k)
+}
+
+// Whether some shot of the run covers the cell (i, j, k): a recursion on the run's halves. The run may be any numbers.
+pub fn covers(coords: &[u16], edge: u16, run: &[u32], i: u16, j: u16, k: u16) -> bool
+    ensures { λ r. ⌜ r ≡ runCovers edge (now (coords .entry)) (now (run .entry)) i j k ⌝ }
+{
+    let n = run.len();
+    if n == 0 {
+        return false;
+    }
+    if n == 1 {
+        return shot_covers(coords, edge, run[0], i, j, k);
+    }
+    let half = n / 2;
+    if covers(coords, edge, &run[..half], i, j, k) {
+        return true;
+    }
+    covers(coords, edge, &run[half..], i, j, k)
+}

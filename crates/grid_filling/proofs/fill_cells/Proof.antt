@@ -1,0 +1,76 @@
+-- The cells of the row so far are in.
+use mathlib.Core.Path.{_≡_}
+use Prim.Native.Nat.{_+_, _-_, _*_, _≤_}
+use native.Mathlib.Omega.{arith}
+use borrow.Author.Needs.{needs}
+use Rattle.grid.specs.Grid.{runOf}
+use Rattle.grid_filling.specs.Filling.{Grew}
+use Rattle.grid.proofs.CellLaws.{cube-most}
+use Rattle.grid_filling.proofs.FillLaws.{cell-number, cells-none, cell-asked, cell-turn}
+use Rattle.grid_filling.proofs.fill_cells.Statement.{statement}
+use Rattle.grid_filling.proofs.fill_cells.Tie as tie
+
+abbrev Inv-loop : tie.InvT-loop
+Inv-loop field edge grid coords line row work₀ at width base next₀ gz₀ work next gz = (gz ≤ grid) × Grew (runOf field edge grid coords) (grid * grid * grid) (line * grid) (line * grid + gz) work₀ work next
+
+abbrev μ-loop : tie.MeasureT-loop
+μ-loop field edge grid coords line row work₀ at width base next₀ gz₀ work next gz = grid - gz
+
+div-width : tie.Need-div-width Inv-loop μ-loop
+div-width c = search needs
+
+cells-of-requires : tie.Need-cells-of-requires Inv-loop μ-loop
+cells-of-requires c κs = search needs
+
+add-base : tie.Need-add-base Inv-loop μ-loop
+add-base c = let a = c .before .before .before .before in omega (arith, cube-most (a .args .grid) (a .pre .0 .grid-most), c .cells-of .ensures)
+
+loop-holds : tie.Need-loop-holds Inv-loop μ-loop
+loop-holds c = let a = c .before .before .before .before in (omega arith, cells-none (a .args .field) (a .args .edge) (a .args .grid) (a .args .coords .now) (a .pre .0) (a .args .line) (a .pre .1 .0) (a .pre .1 .1 .1))
+
+mul-cell : tie.Need-mul-cell Inv-loop μ-loop
+mul-cell c = let a = c .before .before .before .before .before .before in omega (arith, cell-number (a .args .field) (a .args .edge) (a .args .grid) (a .args .coords .now) (a .pre .0) (a .args .line) (a .pre .1 .0) (c .before .loop .gz) (c .loop-test .taken))
+
+cast-cell : tie.Need-cast-cell Inv-loop μ-loop
+cast-cell c = search needs
+
+add-cell : tie.Need-add-cell Inv-loop μ-loop
+add-cell c = let a = c .before .before .before .before .before .before in omega (arith, cell-number (a .args .field) (a .args .edge) (a .args .grid) (a .args .coords .now) (a .pre .0) (a .args .line) (a .pre .1 .0) (c .before .loop .gz) (c .loop-test .taken))
+
+fill-cell-requires : tie.Need-fill-cell-requires Inv-loop μ-loop
+fill-cell-requires c κs = let a = c .before .before .before .before .before .before .before in cell-asked (a .args .field) (a .args .edge) (a .args .grid) (a .args .coords .now) (a .pre .0) (a .args .line) (a .pre .1 .0) (a .pre .1 .1 .1) (a .args .row .now) (a .pre .1 .1 .0) (c .before .before .loop .gz) (c .before .loop-test .taken) (c .before .before .loop .inv .1) (c .before .before .before .cells-of .ensures)
+
+add-gz : tie.Need-add-gz Inv-loop μ-loop
+add-gz c = search needs
+
+loop-less : tie.Need-loop-less Inv-loop μ-loop
+loop-less c = search needs
+
+loop-again : tie.Need-loop-again Inv-loop μ-loop
+loop-again c = let a = c .before .before .before .before .before .before .before .before .before .before in (omega arith, cell-turn (a .args .field) (a .args .edge) (a .args .grid) (a .args .coords .now) (a .pre .0) (a .args .line) (a .pre .1 .0) (a .pre .1 .1 .1) (a .args .row .now) (a .pre .1 .1 .0) (c .before .before .before .before .before .loop .gz) (c .before .before .before .before .loop-test .taken) (c .before .before .before .before .before .loop .inv .1) (c .before .before .before .before .before .before .cells-of .ensures) (c .before .before .fill-cell .ensures))
+
+same-length : tie.Need-same-length Inv-loop μ-loop
+same-length c = c .before .loop .inv .1 .same-length
+
+returns : tie.Need-returns Inv-loop μ-loop
+returns c = let e : c .before .loop .gz ≡ c .before .before .before .before .before .before .args .grid = omega arith in rw e at (c .before .loop .inv .1)
+
+pub fill-cells-spec : {M : Type 1} → statement M
+fill-cells-spec =
+    tie.close
+    (tie.spec
+    Inv-loop
+    μ-loop
+    div-width
+    cells-of-requires
+    add-base
+    loop-holds
+    mul-cell
+    cast-cell
+    add-cell
+    fill-cell-requires
+    add-gz
+    loop-less
+    loop-again
+    same-length
+    returns)

@@ -1,0 +1,44 @@
+-- The slab is all shots narrowed on x.
+use mathlib.Core.Path.{_∙_}
+use borrow.Author.Needs.{needs}
+use Rattle.buffer.proofs.WroteLaws.{front-part, front-count}
+use Rattle.grid_filling.proofs.FillLaws.{slab-room, slab-is}
+use Rattle.grid_filling.proofs.fill_slab.Statement.{statement}
+use Rattle.grid_filling.proofs.fill_slab.Tie as tie
+
+div-narrow : tie.Need-div-narrow
+div-narrow c = search needs
+
+slice-aggregate-narrow : tie.Need-slice-aggregate-narrow
+slice-aggregate-narrow c = search needs
+
+narrow-requires : tie.Need-narrow-requires
+narrow-requires c κs = let a = c .before .before .before .before in slab-room (a .args .field) (a .args .edge) (a .args .grid) (a .args .coords .now) (a .pre .0) (a .args .gx) (a .pre .1 .0) (a .args .all .now) (a .pre .1 .1 .0)
+
+array-share-prefix-slab : tie.Need-array-share-prefix-slab
+array-share-prefix-slab c = search needs
+
+slice-aggregate-fill-rows : tie.Need-slice-aggregate-fill-rows
+slice-aggregate-fill-rows c = front-count (c .before .before .narrow .ensures)
+
+fill-rows-requires : tie.Need-fill-rows-requires
+fill-rows-requires c κs = let a = c .before .before .before .before .before .before .before .before in (a .pre .0, (a .pre .1 .0, (front-part (c .before .before .before .narrow .ensures) ∙ slab-is (a .args .field) (a .args .edge) (a .args .grid) (a .args .coords .now) (a .pre .0) (a .args .gx) (a .pre .1 .0) (a .args .all .now) (a .pre .1 .1 .0), a .pre .1 .1 .1)))
+
+same-length : tie.Need-same-length
+same-length c = search needs
+
+returns : tie.Need-returns
+returns c = search needs
+
+pub fill-slab-spec : {M : Type 1} → statement M
+fill-slab-spec =
+    tie.close
+    (tie.spec
+    div-narrow
+    slice-aggregate-narrow
+    narrow-requires
+    array-share-prefix-slab
+    slice-aggregate-fill-rows
+    fill-rows-requires
+    same-length
+    returns)

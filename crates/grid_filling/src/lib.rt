@@ -1,0 +1,222 @@
+// Putting the uniform grid index of a list into a lent work slice. Document 01, 'The grid index'.
+//
+// `build` leaves the index as a function of the list (specs/Grid.antt of `grid`), and past it what was there. The shots are narrowed to a slab, a row
+// and a cell, and each run goes behind the one before it; nothing of the work slice serves as scratch. specs/Filling.antt says what stands in the
+// slice while it is filled. Stands on `grid`, whose index it puts in, and on `buffer`, `lattice` and `job`.
+ghost use mathlib.Core.Path.{_≡_};
+ghost use mathlib.Core.Bool.{cond};
+ghost use mathlib.Core.List.{[], _∷_, _++_};
+ghost use Prim.Native.Nat.{_+_, _-_, _*_, _≤_, _<_};
+ghost use lib.ListN.{length, drop, set};
+ghost use Rattle.lattice.specs.Cells.{bit};
+ghost use Rattle.job.specs.Job.{Valid};
+ghost use Rattle.buffer.specs.Wrote.{Wrote};
+ghost use Rattle.grid.specs.Numbers.{upTo, keep};
+ghost use Rattle.grid.specs.Grid.{meetsOn, runOf, rowOf, slabOf, shotCount, indexOf, need};
+ghost use Rattle.grid_filling.specs.Filling.{Ready, Grew};
+use grid::intervals::cells_of;
+use grid::intervals::shot_meets;
+
+// Puts a number at a place if it is wanted, and gives the place after it.
+fn put_if(wanted: bool, shot: u32, to: &mut [u32], at: usize) -> usize
+    requires { ⌜ at + bit wanted ≤ length (now to) ⌝ }
+    ensures { λ r. ⌜ Wrote (now (to .entry)) (now (to .exit)) at r (cond wanted (shot ∷ []) []) ⌝ }
+{
+    if wanted {
+        to[at] = shot;
+        return at + 1;
+    }
+    at
+}
+
+// Of the shots in `from`, puts those that meet an interval of an axis from a place on, in their order, and gives the place after them.
+fn narrow(
+    coords: &[u16],
+    edge: u16,
+    axis: u16,
+    width: u16,
+    interval: u16,
+    from: &[u32],
+    to: &mut [u32],
+    at: usize,
+) -> usize
+    requires { ⌜ at + length (keep (meetsOn axis width interval edge (now coords)) (now from)) ≤ length (now to) ⌝ }
+    ensures { λ r. ⌜ Wrote (now (to .entry)) (now (to .exit)) at r (keep (meetsOn axis width interval edge (now (coords .entry))) (now (from .entry))) ⌝ }
+{
+    let mut next = at;
+    for i in 0..from.len() {
+        next = put_if(
+            shot_meets(coords, edge, axis, width, interval, from[i]),
+            from[i],
+            to,
+            next,
+        );
+    }
+    next
+}
+
+// Puts the run of a grid cell behind the runs before it, and its starting place; gives the place after the run.
+fn fill_cell(
+    coords: &[u16],
+    edge: u16,
+    width: u16,
+    gz: u16,
+    cell: usize,
+    base: usize,
+    row: &[u32],
+    work: &mut [u32],
+    at: usize,
+) -> usize
+    requires { ⌜ cell < base ⌝ }
+    requires { ⌜ base ≤ at ⌝ }
+    requires { ⌜ at < 4294967296 ⌝ }
+    requires { ⌜ at + length (keep (meetsOn 2 width gz edge (now coords)) (now row)) ≤ length (now work) ⌝ }
+    ensures { λ r. ⌜ Wrote (set (now (work .entry)) cell (at - base)) (now (work .exit)) at r (keep (meetsOn 2 width gz edge (now (coords .entry))) (now (row .entry))) ⌝ }
+{
+    work[cell] = (at - base) as u32;
+    narrow(coords, edge, 2, width, gz, row, work, at)
+}
+
+// Puts in the grid cells of a row, given the shots that touch it.
+fn fill_cells(
+    field: u16,
+    edge: u16,
+    grid: u16,
+    coords: &[u16],
+    line: usize,
+    row: &[u32],
+    work: &mut [u32],
+    at: usize,
+) -> usize
+    requires { ⌜ Valid field edge grid (now coords) ⌝ }
+    requires { ⌜ line < grid * grid ⌝ }
+    requires { ⌜ now row ≡ rowOf field edge grid (now coords) line ⌝ }
+    requires { ⌜ Ready (runOf field edge grid (now coords)) (grid * grid * grid) (line * grid) at (now work) ⌝ }
+    ensures { λ r. ⌜ Grew (runOf field edge grid (now (coords .entry))) (grid * grid * grid) (line * grid) (line * grid + grid) (now (work .entry)) (now (work .exit)) r ⌝ }
+{
+    let width = field / grid;
+    let base = cells_of(grid) + 1;
+    let mut next = at;
+    for gz in 0..grid {
+        let cell = line * (grid as usize) + (gz as usize);
+        next = fill_cell(coords, edge, width, gz, cell, base, row, work, next);
+    }
+    next
+}
+
+// Puts in a row, given the shots that touch its slab.
+fn fill_row(
+    field: u16,
+    edge: u16,
+    grid: u16,
+    coords: &[u16],
+    gx: u16,
+    gy: u16,
+    slab: &[u32],
+    work: &mut [u32],
+    at: usize,
+) -> usize
+    requires { ⌜ Valid field edge grid (now coords) ⌝ }
+    requires { ⌜ gx < grid ⌝ }
+    requires { ⌜ gy < grid ⌝ }
+    requires { ⌜ now slab ≡ slabOf field edge grid (now coords) gx ⌝ }
+    requires { ⌜ Ready (runOf field edge grid (now coords)) (grid * grid * grid) ((gx * grid + gy) * grid) at (now work) ⌝ }
+    ensures { λ r. ⌜ Grew (runOf field edge grid (now (coords .entry))) (grid * grid * grid) ((gx * grid + gy) * grid) ((gx * grid + gy) * grid + grid) (now (work .entry)) (now (work .exit)) r ⌝ }
+{
+    let mut row: [u32; 4096] = [0; 4096];
+    let n = narrow(coords, edge, 1, field / grid, gy, slab, &mut row, 0);
+    let line = (gx as usize) * (grid as usize) + (gy as usize);
+    fill_cells(field, edge, grid, coords, line, &row[..n], work, at)
+}
+
+// Puts in the rows of a slab, given the shots that touch it.
+fn fill_rows(
+    field: u16,
+    edge: u16,
+    grid: u16,
+    coords: &[u16],
+    gx: u16,
+    slab: &[u32],
+    work: &mut [u32],
+    at: usize,
+) -> usize
+    requires { ⌜ Valid field edge grid (now coords) ⌝ }
+    requires { ⌜ gx < grid ⌝ }
+    requires { ⌜ now slab ≡ slabOf field edge grid (now coords) gx ⌝ }
+    requires { ⌜ Ready (runOf field edge grid (now coords)) (grid * grid * grid) (gx * grid * grid) at (now work) ⌝ }
+    ensures { λ r. ⌜ Grew (runOf field edge grid (now (coords .entry))) (grid * grid * grid) (gx * grid * grid) ((gx + 1) * grid * grid) (now (work .entry)) (now (work .exit)) r ⌝ }
+{
+    let mut next = at;
+    for gy in 0..grid {
+        next = fill_row(field, edge, grid, coords, gx, gy, slab, work, next);
+    }
+    next
+}
+
+// Puts in a slab, given all shots.
+fn fill_slab(
+    field: u16,
+    edge: u16,
+    grid: u16,
+    coords: &[u16],
+    gx: u16,
+    all: &[u32],
+    work: &mut [u32],
+    at: usize,
+) -> usize
+    requires { ⌜ Valid field edge grid (now coords) ⌝ }
+    requires { ⌜ gx < grid ⌝ }
+    requires { ⌜ now all ≡ upTo (shotCount (now coords)) ⌝ }
+    requires { ⌜ Ready (runOf field edge grid (now coords)) (grid * grid * grid) (gx * grid * grid) at (now work) ⌝ }
+    ensures { λ r. ⌜ Grew (runOf field edge grid (now (coords .entry))) (grid * grid * grid) (gx * grid * grid) ((gx + 1) * grid * grid) (now (work .entry)) (now (work .exit)) r ⌝ }
+{
+    let mut slab: [u32; 4096] = [0; 4096];
+    let n = narrow(coords, edge, 0, field / grid, gx, all, &mut slab, 0);
+    fill_rows(field, edge, grid, coords, gx, &slab[..n], work, at)
+}
+
+// Puts in all slabs.
+fn fill_slabs(
+    field: u16,
+    edge: u16,
+    grid: u16,
+    coords: &[u16],
+    all: &[u32],
+    work: &mut [u32],
+    at: usize,
+) -> usize
+    requires { ⌜ Valid field edge grid (now coords) ⌝ }
+    requires { ⌜ now all ≡ upTo (shotCount (now coords)) ⌝ }
+    requires { ⌜ Ready (runOf field edge grid (now coords)) (grid * grid * grid) 0 at (now work) ⌝ }
+    ensures { λ r. ⌜ Grew (runOf field edge grid (now (coords .entry))) (grid * grid * grid) 0 (grid * grid * grid) (now (work .entry)) (now (work .exit)) r ⌝ }
+{
+    let mut next = at;
+    for gx in 0..grid {
+        next = fill_slab(field, edge, grid, coords, gx, all, work, next);
+    }
+    next
+}
+
+// Numbers the places of a slice: 0, 1, 2, ..
+fn number(places: &mut [u32])
+    requires { ⌜ length (now places) ≤ 4096 ⌝ }
+    ensures { λ _. ⌜ now (places .exit) ≡ upTo (length (now (places .entry))) ⌝ }
+{
+    for i in 0..places.len() {
+        places[i] = i as u32;
+    }
+}
+
+// Puts the index of a list into the work slice; the entries past the index keep their values.
+pub fn build(field: u16, edge: u16, grid: u16, coords: &[u16], work: &mut [u32])
+    requires { ⌜ Valid field edge grid (now coords) ⌝ }
+    requires { ⌜ need field edge grid (now coords) ≤ length (now work) ⌝ }
+    ensures { λ _. ⌜ now (work .exit) ≡ indexOf field edge grid (now (coords .entry)) ++ drop (need field edge grid (now (coords .entry))) (now (work .entry)) ⌝ }
+{
+    let mut all: [u32; 4096] = [0; 4096];
+    number(&mut all);
+    let shots = coords.len() / 3;
+    let cells = cells_of(grid);
+    let end = fill_slabs(field, edge, grid, coords, &all[..shots], work, cells + 1);
+    work[cells] = (end - (cells + 1)) as u32;
+}

@@ -1,0 +1,25 @@
+// The second opinion for a disputed quote: the totals and the corner count of a list by counting, point by point, through the cover test.
+// Slow (fields up to a few hundred), and it shares nothing with the sweep but the intake and definitions. Document 01, 'Cells and the three
+// totals'. specs/Points.antt says what a point counts. Stands on `measure_intake`, `grid_cover` and `grid_runs`.
+pub mod points;
+pub mod tallies;
+
+ghost use mathlib.Core.Path.{_≡_};
+ghost use lib.ListN.{length};
+ghost use Rattle.measure_intake.specs.Intake.{measureAnswer, workAfter};
+use crate::points::count_field;
+use job::Checked;
+use measure_intake::Measured;
+use measure_intake::indexed;
+
+// Counts a list: the answer and the index of the measuring call, by counting.
+pub fn recount(field: u16, edge: u16, grid: u16, coords: &[u16], work: &mut [u32]) -> Measured
+    ensures answer { λ r. ⌜ r ≡ measureAnswer field edge grid (now (coords .entry)) (length (now (work .entry))) ⌝ }
+    ensures index { λ _. ⌜ now (work .exit) ≡ workAfter field edge grid (now (coords .entry)) (now (work .entry)) ⌝ }
+{
+    let checked = indexed(field, edge, grid, coords, work);
+    match checked {
+        Checked::Refused(refusal) => Measured::Refused(refusal),
+        Checked::Accepted => Measured::Quote(count_field(field, edge, grid, coords, work)),
+    }
+}

@@ -1,4 +1,0 @@
-// The text that the program `shots` prints for a file, taken for a typed list. proofs/Retyped.antt shows that it reads back as the file's list,
-// and that the program `write_shots` then gives the same file where that is in its shortest form; proofs/Fits.antt that the text fits the
-// buffer of `write_shots`; proofs/Refused.antt that the text of a file which is refused is a mistake, so that nothing is lost silently.
-// No code. Stands on `shottext` and `shotlines`, `typed_list` and `typed_line`, and `shotfile`.

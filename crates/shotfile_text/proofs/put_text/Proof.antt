@@ -1,0 +1,75 @@
+-- The settings, the shots and the verdict follow one another, or the header is refused.
+use mathlib.Core.Path.{sym, _∙_}
+use native.Mathlib.Omega.{arith}
+use lib.ListN.{length, getD}
+use Rattle.buffer.proofs.WroteLaws.{wrote-then, wrote-as}
+use Rattle.shotfile_lines.proofs.LineLaws.{settings-length}
+use Rattle.shotfile_text.proofs.TextLaws.{text-whole, text-refused, has-map}
+use borrow.Author.Needs.{needs}
+use Rattle.shotfile_text.proofs.put_text.Statement.{statement}
+use Rattle.shotfile_text.proofs.put_text.Tie as tie
+
+header-absent-requires : tie.Need-header-absent-requires
+header-absent-requires c κs = search needs
+
+take-record-requires : tie.Need-take-record-requires
+take-record-requires c κs = search needs
+
+enum-known-fields : tie.Need-enum-known-fields
+enum-known-fields c = search needs
+
+shared-slice-read-put-settings : tie.Need-shared-slice-read-put-settings
+shared-slice-read-put-settings c = has-map (c .before .before .before .before .before .before .before .before .before .before .args .bytes .now) (c .before .before .before .before .before .before .header-absent .result) (sym (c .before .before .before .fields .given .1) ∙ c .before .before .before .before .before .take-record .ensures)
+
+put-settings-requires : tie.Need-put-settings-requires
+put-settings-requires c κs = search needs
+
+first-absent-requires : tie.Need-first-absent-requires
+first-absent-requires c κs = search needs
+
+put-shots-requires : tie.Need-put-shots-requires
+put-shots-requires c κs = let s = c .before .before .before .before .before .before .before .before .before .before .before .before .before .before .before in omega (arith, s .pre, c .before .before .before .before .put-settings .ensures .next, c .before .before .before .before .put-settings .kept .0, settings-length (getD (s .args .bytes .now) 0 0) (c .before .before .before .before .before .before .before .before .fields .given .0 .0))
+
+put-verdict-requires : tie.Need-put-verdict-requires
+put-verdict-requires c κs = let s = c .before .before .before .before .before .before .before .before .before .before .before .before .before .before .before .before .before .before .before .before in omega (arith, s .pre, c .before .before .before .before .before .before .before .before .before .put-settings .ensures .next, c .before .before .before .before .before .before .before .before .before .put-settings .kept .0, settings-length (getD (s .args .bytes .now) 0 0) (c .before .before .before .before .before .before .before .before .before .before .before .before .before .fields .given .0 .0), c .before .before .before .before .put-shots .ensures .1, c .before .before .before .before .put-shots .kept .1 .0)
+
+enum-known-refusal : tie.Need-enum-known-refusal
+enum-known-refusal c = search needs
+
+put-refused-requires : tie.Need-put-refused-requires
+put-refused-requires c κs = search needs
+
+same-length : tie.Need-same-length
+same-length c = search needs
+
+same-length-2 : tie.Need-same-length-2
+same-length-2 c = search needs
+
+returns : tie.Need-returns
+returns c = let s = c .before .before .before .before .before .before .before .before .before .before .before .before .before .before .before .before .before .before .before .before .before .before .before .before .before in wrote-as (text-whole (length (s .args .coords .now)) (s .args .bytes .now) (c .before .before .before .before .before .before .before .before .before .before .before .before .before .before .before .before .before .before .before .before .before .header-absent .ensures) (sym (c .before .before .before .before .before .before .before .before .before .before .before .before .before .before .before .before .before .before .fields .given .1) ∙ c .before .before .before .before .before .before .before .before .before .before .before .before .before .before .before .before .before .before .before .before .take-record .ensures) (c .before .before .before .before .before .before .before .before .before .before .before .first-absent .ensures)) (wrote-then (c .before .before .before .before .before .before .before .before .before .before .before .before .before .before .put-settings .ensures) (wrote-then (c .before .before .before .before .before .before .before .before .before .put-shots .ensures .0) (c .before .before .before .before .put-verdict .ensures)))
+
+same-length-3 : tie.Need-same-length-3
+same-length-3 c = search needs
+
+returns-2 : tie.Need-returns-2
+returns-2 c = let s = c .before .before .before .before .before .before .before .before .before .before .before .before in wrote-as (text-refused (length (s .args .coords .now)) (s .args .bytes .now) (c .before .before .before .before .before .before .before .before .header-absent .ensures) (sym (c .before .before .before .before .before .refusal .given .1) ∙ c .before .before .before .before .before .before .before .take-record .ensures)) (c .before .before .put-refused .ensures)
+
+pub put-text-spec : {M : Type 1} → statement M
+put-text-spec =
+    tie.close
+    (tie.spec
+    header-absent-requires
+    take-record-requires
+    enum-known-fields
+    shared-slice-read-put-settings
+    put-settings-requires
+    first-absent-requires
+    put-shots-requires
+    put-verdict-requires
+    enum-known-refusal
+    put-refused-requires
+    same-length
+    same-length-2
+    returns
+    same-length-3
+    returns-2)

@@ -1,0 +1,48 @@
+-- The text of a shot file: a line for each setting of its header and for each shot, and a line of a refusal where there is one.
+-- Document 01, 'Shot file' and 'When a job is refused'. The lines are those of `shotfile_lines`.
+use mathlib.Core.Bool.{cond}
+use mathlib.Core.List.{List, [], _++_}
+use Prim.Native.Nat.{ℕ, zero, suc, _+_}
+use lib.Dec.{ltb}
+use lib.ListN.{length, getD}
+use Rattle.job.specs.Checking.{checked}
+use Rattle.job.specs.declared.Checked.{Checked}
+use Rattle.job.specs.declared.Checked.the-variants.{Accepted, Refused as Turned}
+use Rattle.job.specs.declared.Refusal.the-variants.{TooManyShots}
+use Rattle.shotfile_records.specs.declared.Taken.{Taken}
+use Rattle.shotfile_records.specs.declared.Taken.the-variants.{Whole, Refused}
+use Rattle.shotfile.specs.declared.reader.Cursor.{Cursor}
+use Rattle.shotfile.specs.declared.reader.Step.{Step}
+use Rattle.shotfile.specs.declared.reader.Step.the-variants.{Shot, Refused as Stopped, End}
+use Rattle.shotfile_records.specs.Records.{headerAbsent, recordAt}
+use Rattle.shotfile.specs.Files.{File, file, refused, stepAt, firstShot, fileIn}
+use Rattle.shotfile_lines.specs.Lines.{settings, shotLine, refusedLine}
+
+-- what a step gives for shot n with the map at a place, and then the rest
+abbrev pub stepLine : ℕ → ℕ → Step → (Cursor → List ℕ) → List ℕ
+stepLine n at (Shot c) rest = shotLine (c .previous) n at ++ rest c
+stepLine n at (Stopped r) rest = refusedLine r
+stepLine n at End rest = []
+
+-- the shots from a cursor on, of which the first is shot n and `left` more are allowed; the first faulty record ends them
+unfoldable pub shotLines : ℕ → ℕ → List ℕ → Cursor → List ℕ
+shotLines zero n s c = cond (ltb (c .at) (length s)) (refusedLine (TooManyShots (c .at))) []
+shotLines (suc left) n s c = stepLine n (c .at) (stepAt s c) (shotLines left (n + 1) s)
+
+-- why the list of a file that reads well is refused, if it is
+abbrev pub listVerdict : Checked → List ℕ
+listVerdict Accepted = []
+listVerdict (Turned r) = refusedLine r
+
+abbrev pub verdict : File → List ℕ
+verdict (file f coords) = listVerdict (checked (f .first) (f .second) (f .third) coords)
+verdict (refused r) = []
+
+-- the settings, at most 4,096 shots, and the verdict; or the refusal of the header
+abbrev pub recordsText : ℕ → List ℕ → Taken → List ℕ
+recordsText places s (Whole f end) = settings (getD s 0 0) f ++ (shotLines 4096 0 s (firstShot end) ++ verdict (fileIn places s))
+recordsText places s (Refused r) = refusedLine r
+
+-- the text of a file; the list is read into so many coordinate places
+unfoldable pub fileText : ℕ → List ℕ → List ℕ
+fileText places s = recordsText places s (recordAt s 0 headerAbsent)

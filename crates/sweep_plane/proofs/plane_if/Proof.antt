@@ -1,0 +1,56 @@
+-- Where no shot has a face on the plane there is no corner.
+use native.Mathlib.Omega.{arith}
+use Rattle.sweep_selection.proofs.Laws.{selected-count}
+use Rattle.sweep_plane.proofs.Laws.{faces-are, plane-none}
+use borrow.Author.Needs.{needs}
+use Rattle.sweep_plane.proofs.plane_if.Statement.{statement}
+use Rattle.sweep_plane.proofs.plane_if.Tie as tie
+use Rattle.sweep_plane.proofs.plane_if.Reads as reads
+use Rattle.sweep_plane.proofs.plane_if.Lts as lts
+use Rattle.sweep_plane.proofs.plane.Reads as plane-reads
+use Rattle.sweep_selection.proofs.select.Reads as select-reads
+
+select-requires : tie.Need-select-requires
+select-requires c κs = search needs
+
+same-length : tie.Need-same-length
+same-length c = search needs
+
+returns : tie.Need-returns
+returns c = plane-none _ _ _ _ _ _ (omega (arith, c .before .before .before .select .ensures .few, c .before .before .before .select .kept .1 .1 .1 .1 .1 .0)) (c .before .before .before .select .ensures) (c .if1 .taken) _ _ _ (c .before .before .before .before .before .before .before .before .before .before .pre .6)
+
+slice-reshare-prefix-plane : tie.Need-slice-reshare-prefix-plane
+slice-reshare-prefix-plane c = search needs
+
+slice-aggregate-plane : tie.Need-slice-aggregate-plane
+slice-aggregate-plane c = selected-count _ _ _ _ _ _ _ (omega (arith, c .before .before .before .before .select .ensures .few, c .before .before .before .before .select .kept .1 .1 .1 .1 .1 .0)) (c .before .before .before .before .select .ensures)
+
+plane-requires : tie.Need-plane-requires
+plane-requires c κs = (c .before .before .before .before .before .before .before .before .before .before .before .before .before .pre .0, faces-are _ _ _ _ _ _ (omega (arith, c .before .before .before .before .before .before .select .ensures .few, c .before .before .before .before .before .before .select .kept .1 .1 .1 .1 .1 .0)) (c .before .before .before .before .before .before .select .ensures), omega arith, c .before .before .before .before .before .before .before .before .before .before .before .before .before .pre .3, c .before .before .before .before .before .before .before .before .before .before .before .before .before .pre .4, c .before .before .before .before .before .before .before .before .before .before .before .before .before .pre .5, c .before .before .before .before .before .before .before .before .before .before .before .before .before .pre .6)
+
+same-length-2 : tie.Need-same-length-2
+same-length-2 c = search needs
+
+same-length-3 : tie.Need-same-length-3
+same-length-3 c = search needs
+
+same-length-4 : tie.Need-same-length-4
+same-length-4 c = search needs
+
+returns-2 : tie.Need-returns-2
+returns-2 c = search needs
+
+pub plane-if-spec : {M : Type 1} → statement M
+plane-if-spec =
+    tie.close
+    (tie.spec
+    select-requires
+    same-length
+    returns
+    slice-reshare-prefix-plane
+    slice-aggregate-plane
+    plane-requires
+    same-length-2
+    same-length-3
+    same-length-4
+    returns-2)

@@ -1,0 +1,22 @@
+-- How long the sentences are.
+use Prim.Native.Nat.{ℕ, _≤_}
+use native.Mathlib.Omega.{arith}
+use lib.ListN.{length}
+use Rattle.job.specs.declared.Refusal.{Refusal}
+use Rattle.job.specs.declared.Refusal.the-variants.{BrokenShot, TooManyShots, NoPlace, UnknownBit, CutShort, FieldRange, EdgeRange, GridRange, OutsideField, ShortWork, ShortListing, ShortFile}
+use Rattle.text_wording.specs.Sentences.{sentence}
+
+pub sentence-length : (r : Refusal) → length (sentence r) ≤ 64
+unfolding sentence
+sentence-length BrokenShot = omega arith
+sentence-length (TooManyShots at) = omega arith
+sentence-length (NoPlace at) = omega arith
+sentence-length (UnknownBit at) = omega arith
+sentence-length (CutShort at) = omega arith
+sentence-length FieldRange = omega arith
+sentence-length EdgeRange = omega arith
+sentence-length GridRange = omega arith
+sentence-length (OutsideField shot) = omega arith
+sentence-length (ShortWork entries) = omega arith
+sentence-length (ShortListing corners) = omega arith
+sentence-length (ShortFile bytes) = omega arith

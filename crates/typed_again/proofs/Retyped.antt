@@ -1,0 +1,167 @@
+-- The text of a file whose list is accepted, read as a typed list, says that list: (a) its settings and the number of its shots, (b) their
+-- coordinates; and (c) where the file is in its shortest form, the file of that list is the same file. Assumes nothing.
+use mathlib.Core.Path.{_≡_, refl, sym, ap, _∙_}
+use mathlib.Core.List.{List, [], _++_, append-assoc, append-nil}
+use Prim.Native.Nat.{ℕ, zero, suc, _+_, _*_, _/_, _%_, _≤_, _<_}
+use native.Mathlib.Omega.{arith}
+use lib.Dec.{T}
+use lib.ListN.{length, getD}
+use borrow.Author.Tests.{le-ltb}
+use Rattle.job.specs.declared.Checked.{Checked}
+use Rattle.job.specs.declared.Checked.the-variants.{Accepted}
+use Rattle.job.specs.Job.{Valid}
+use Rattle.job.specs.Checking.{checked}
+use Rattle.job.proofs.Conditions.{accepted-valid}
+use Rattle.text_report.specs.Text.{text}
+use Rattle.shotfile_records.specs.declared.Fields.{Fields}
+use Rattle.shotfile_records.specs.declared.Taken.the-variants.{Whole}
+use Rattle.shotfile.specs.declared.reader.Cursor.{Cursor}
+use Rattle.shotfile_records.specs.Records.{recordAt}
+use Rattle.shotfile.specs.Files.{File, file, firstShot, fileIn, fileOf, shortest}
+use Rattle.shotfile.proofs.Steps.{step-end, step-on}
+use Rattle.shotfile.proofs.ShotsRead.{Reads, done, shot, reads-room}
+use Rattle.shotfile.proofs.Shortest.{file-parts}
+use Rattle.shotfile.proofs.ReadBack.{Small}
+use Rattle.shotfile.proofs.RoundTrip.{small-coords, written-read}
+use Rattle.shotfile.proofs.WriteBack.{Bytes}
+use Rattle.shotfile_lines.specs.Lines.{settingLine, settings, shotLine}
+use Rattle.shotfile_text.specs.Text.{shotLines, listVerdict, verdict, recordsText, fileText}
+use Rattle.typed_line.specs.declared.entry.Entry.{Entry}
+use Rattle.typed_list.specs.declared.draft.Draft.{Draft}
+use Rattle.typed_list.specs.declared.draft.Next.the-variants.{Goes}
+use Rattle.typed_list.specs.declared.Typed.{Typed}
+use Rattle.typed_list.specs.declared.Typed.the-variants.{List as Listed}
+use Rattle.typed_line.specs.Words.{before, linesFrom, linesOf, wordsFrom}
+use Rattle.typed_line.specs.Entries.{same, commandOf, entryOf}
+use Rattle.typed_list.specs.Lists.{given, nothingYet, then, listed, typedFrom, typedList, coordsOf, shotsIn}
+use Rattle.typed_list.proofs.Listing.{field-once, edge-once, grid-once, shots-room, then-setting, then-shot, typed-goes, typed-start, shots-cons}
+use Rattle.typed_line.proofs.Printed.{freely}
+use Rattle.typed_again.proofs.Lines.{Line, Plain, plain, setting-line, shot-line}
+
+-- a text says a list after the lines above, and these are the coordinates of its shots
+pub record Back (places : ℕ) (d : Draft) (line : ℕ) (t : List ℕ) (typed : Typed) (coords : List ℕ) : Type 0 where
+  pub list : typedFrom places d line (linesOf t) ≡ typed
+  pub shots : shotsIn (linesOf t) ≡ coords
+
+module _ {places : ℕ} (d : Draft) (line : ℕ) where
+  -- one line more in front
+  back-line : {d' : Draft} {t rest : List ℕ} {entry : Entry} {typed : Typed} {coords : List ℕ}
+      → Line t rest entry → Goes d' ≡ then places d entry → Back places d' (line + 1) rest typed coords → Back places d line t typed (coordsOf entry ++ coords)
+  back-line {d'} {t} {rest} {entry} {typed} {coords} l g b =
+      record {
+        list = typed-goes places d line (l .first) (sym (l .says)) g ∙ b .list;
+        shots = ap shotsIn (l .first) ∙ (shots-cons (l .line) (linesOf rest) ∙ (ap (λ (e : Entry). coordsOf e ++ shotsIn (linesOf rest)) (l .says) ∙ ap (λ (k : List ℕ). coordsOf entry ++ k) (b .shots)));
+      }
+
+  -- no line
+  back-end : Back places d line [] (listed d) []
+  unfolding before linesFrom wordsFrom entryOf then typedFrom shotsIn
+  back-end = record { list = refl; shots = refl }
+
+back-as : {places : ℕ} {d : Draft} {line : ℕ} {t t' : List ℕ} {typed typed' : Typed} {coords : List ℕ} → t ≡ t' → typed ≡ typed' → Back places d line t typed coords → Back places d line t' typed' coords
+back-as {places} {d} {line} {t} {t'} {typed} {typed'} {coords} e f b = record { list = ap (λ (k : List ℕ). typedFrom places d line (linesOf k)) (sym e) ∙ (b .list ∙ f); shots = ap (λ (k : List ℕ). shotsIn (linesOf k)) (sym e) ∙ b .shots }
+
+-- ---- the shots
+-- k shots more
+abbrev more : Draft → ℕ → Draft
+more d k = record { field = d .field; edge = d .edge; grid = d .grid; shots = d .shots + k }
+
+module _ (s : List ℕ) where
+  pub lines-end : (left n : ℕ) (c : Cursor) → length s ≤ c .at → shotLines left n s c ≡ []
+  unfolding shotLines
+  lines-end zero n c h = rw (le-ltb (c .at) (length s) h)
+  lines-end (suc left) n c h = rw (sym (step-end s c h))
+
+  pub lines-shot : (left n : ℕ) (c : Cursor) {f : Fields} {end : ℕ} → c .at < length s → recordAt s (c .at) (c .previous) ≡ Whole f end
+      → shotLines (suc left) n s c ≡ shotLine f n (c .at) ++ shotLines left (n + 1) s (record { at = end; previous = f })
+  unfolding shotLines
+  lines-shot left n c {f} {end} h e = rw (sym (step-on s c h (Whole f end) (sym e)))
+
+  back-shots : {room : ℕ} {c : Cursor} {cs : List ℕ} → Reads s room c cs → Small cs → (places left n line : ℕ) (d : Draft)
+      → length cs ≤ 3 * left
+      → d .shots + length cs / 3 ≤ 4096
+      → 3 * d .shots + length cs ≤ places
+      → Back places d line (shotLines left n s c) (listed (more d (length cs / 3))) cs
+  back-shots {room} {c} (done h) small places left n line d l m r =
+      let e : d .shots ≡ d .shots + 0 / 3 = omega arith in
+      back-as (sym (lines-end left n c h)) (ap (Listed (d .field .number) (d .edge .number) (d .grid .number)) e) (back-end d line)
+  back-shots (shot h k q r') small places zero n line d l m r = absurd (omega arith)
+  back-shots {room} {c} (shot {f = f} {end = end} {cs = cs} h k q r') small places (suc left) n line d l m r =
+      let e : d .shots + 1 + length cs / 3 ≡ d .shots + suc (suc (suc (length cs))) / 3 = omega arith in
+      back-as (sym (lines-shot left n c h q)) (ap (Listed (d .field .number) (d .edge .number) (d .grid .number)) e)
+      (back-line d line
+      (shot-line (f .first) (f .second) (f .third) n (c .at) (omega (arith, small .0)) (omega (arith, small .1 .0)) (omega (arith, small .1 .1 .0)) (shotLines left (n + 1) s (record { at = end; previous = f })))
+      (shots-room places d (omega arith) (omega arith) ∙ then-shot places d refl)
+      (back-shots r' (small .1 .1 .1) places left (n + 1) (line + 1) (more d 1) (omega arith) (omega arith) (omega arith)))
+
+-- ---- the settings
+field-plain : Plain (text "field")
+unfolding freely
+field-plain = plain (text "field") refl refl refl (omega arith)
+
+edge-plain : Plain (text "edge")
+unfolding freely
+edge-plain = plain (text "edge") refl refl refl (omega arith)
+
+grid-plain : Plain (text "grid")
+unfolding freely
+grid-plain = plain (text "grid") refl refl refl (omega arith)
+
+-- all three given
+abbrev set : Fields → Draft
+set f = record { field = given (f .first); edge = given (f .second); grid = given (f .third); shots = 0 }
+
+back-settings : (m : ℕ) (f : Fields) {places : ℕ} {rest : List ℕ} {typed : Typed} {coords : List ℕ} → f .first ≤ 65535 → f .second ≤ 65535 → f .third ≤ 65535
+    → Back places (set f) 4 rest typed coords
+    → Back places nothingYet 1 (settings m f ++ rest) typed coords
+unfolding settings nothingYet same commandOf
+back-settings m f {places} {rest} {typed} {coords} hf he hg b =
+    back-as (sym parts) refl
+    (back-line nothingYet 1 (setting-line field-plain refl (f .first) hf (m % 2) (settingLine (text "edge ") (f .second) (m / 2 % 2) ++ (settingLine (text "grid ") (f .third) (m / 4) ++ rest))) (field-once nothingYet (f .first) refl refl ∙ then-setting places nothingYet refl)
+    (back-line one 2 (setting-line edge-plain refl (f .second) he (m / 2 % 2) (settingLine (text "grid ") (f .third) (m / 4) ++ rest)) (edge-once one (f .second) refl refl ∙ then-setting places one refl)
+    (back-line two 3 (setting-line grid-plain refl (f .third) hg (m / 4) rest) (grid-once two (f .third) refl refl ∙ then-setting places two refl) b)))
+  where
+    one : Draft
+    one = record { field = given (f .first); edge = nothingYet .edge; grid = nothingYet .grid; shots = 0 }
+
+    two : Draft
+    two = record { field = given (f .first); edge = given (f .second); grid = nothingYet .grid; shots = 0 }
+
+    parts : (settingLine (text "field ") (f .first) (m % 2) ++ (settingLine (text "edge ") (f .second) (m / 2 % 2) ++ settingLine (text "grid ") (f .third) (m / 4))) ++ rest
+        ≡ settingLine (text "field ") (f .first) (m % 2) ++ (settingLine (text "edge ") (f .second) (m / 2 % 2) ++ (settingLine (text "grid ") (f .third) (m / 4) ++ rest))
+    parts = simp append-assoc
+
+-- ---- the file
+module _ (s : List ℕ) (places : ℕ) (f : Fields) (coords : List ℕ) (e : fileIn places s ≡ file f coords) (a : checked (f .first) (f .second) (f .third) coords ≡ Accepted) where
+  valid : Valid (f .first) (f .second) (f .third) coords
+  valid = accepted-valid (f .first) (f .second) (f .third) coords .0 a
+
+  pub file-text : fileText places s ≡ settings (getD s 0 0) f ++ shotLines 4096 0 s (firstShot (file-parts s places e .end))
+  unfolding fileText
+  file-text =
+      ap (recordsText places s) (file-parts s places e .header)
+      ∙ ap (λ (k : List ℕ). settings (getD s 0 0) f ++ k)
+      (ap (λ (k : File). shotLines 4096 0 s (firstShot (file-parts s places e .end)) ++ verdict k) e
+      ∙ (ap (λ (k : Checked). shotLines 4096 0 s (firstShot (file-parts s places e .end)) ++ listVerdict k) a
+      ∙ append-nil (shotLines 4096 0 s (firstShot (file-parts s places e .end)))))
+
+  back : Back places nothingYet 1 (fileText places s) (Listed (f .first) (f .second) (f .third) (length coords / 3)) coords
+  back =
+      let p = file-parts s places e in
+      let v = valid in
+      let n : 0 + length coords / 3 ≡ length coords / 3 = omega arith in
+      back-as (sym file-text) (ap (Listed (f .first) (f .second) (f .third)) n)
+      (back-settings (getD s 0 0) f (omega (arith, v .field-most)) (omega (arith, v .field-most, v .edge-most)) (omega (arith, v .grid-most))
+      (back-shots s (p .rest) (small-coords (f .first) (f .second) coords (v .field-most) (v .threes) (v .inside)) places 4096 0 4 (set f) (omega (arith, v .threes, v .few)) (omega (arith, v .few)) (omega (arith, reads-room (p .rest)))))
+
+  -- (a) the settings and the number of shots
+  pub retyped-list : typedList places (fileText places s) ≡ Listed (f .first) (f .second) (f .third) (length coords / 3)
+  retyped-list = sym (typed-start places (fileText places s) refl) ∙ back .list
+
+  -- (b) the coordinates
+  pub retyped-shots : shotsIn (linesOf (fileText places s)) ≡ coords
+  retyped-shots = back .shots
+
+  -- (c) from a file in its shortest form, the file that is written for the typed list is that file, byte for byte
+  pub rewritten : Bytes s → T (shortest s) → fileOf (f .first) (f .second) (f .third) (shotsIn (linesOf (fileText places s))) ≡ s
+  rewritten b t = ap (fileOf (f .first) (f .second) (f .third)) retyped-shots ∙ written-read s places (f .first) (f .second) (f .third) coords b t e
