@@ -1,5 +1,6 @@
 pub mod Tests
 pub mod Shots
+pub mod Storing
 pub mod Answers
 pub mod Outcome
 pub mod Conditions

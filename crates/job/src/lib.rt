@@ -6,6 +6,8 @@ ghost use Rattle.job.specs.Job.{shotsOf};
 ghost use Rattle.job.specs.Refusals.{numberOf, detailOf};
 ghost use Rattle.job.specs.Checking.{outside, past, leaves, firstLeaving, checked};
 
+pub mod shot;
+
 // Why a call is refused, in the order of the paper's numbers, with the detail where there is one.
 pub enum Refusal {
     // The coordinates' count is not a multiple of three.
