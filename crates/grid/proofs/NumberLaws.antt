@@ -1,4 +1,4 @@
--- Laws of lists made piece by piece: counting up, keeping, joining and membership.
+-- Laws of lists made piece by piece: counting up, those that pass a test, joining and membership.
 use mathlib.Core.Path.{_≡_, refl, sym, ap, _∙_}
 use mathlib.Core.Bool.{Bool, true, false, cond, _&&_, _||_, or-assoc, or-true, or-false}
 use mathlib.Core.List.{List, [], _∷_, _++_, append-assoc, append-nil}
@@ -10,7 +10,7 @@ use lib.Dec.{eqb, ltb}
 use lib.ListN.{length, getD, take, drop, length-append, take-append-drop, List·getD-append}
 use lib.Seq.{take-suc, getD-at}
 use borrow.Author.Tests.{ltb-true, ltb-false, eqb-true, eqb-false, lt-ltb, le-ltb, eq-eqb}
-use Rattle.grid.specs.Numbers.{upTo, keep, joined, has}
+use Rattle.grid.specs.Numbers.{upTo, those, joined, AllBelow, has}
 
 -- ---- counting up
 
@@ -19,56 +19,87 @@ unfolding upTo
 upTo-length zero = refl
 upTo-length (suc n) = omega (arith, length-append (upTo n) (n ∷ []), upTo-length n)
 
--- ---- keeping
+-- ---- those that pass a test
 
 module _ (f : ℕ → Bool) where
-  pub keep-append : (l m : List ℕ) → keep f (l ++ m) ≡ keep f l ++ keep f m
-  unfolding keep
-  keep-append [] m = refl
-  keep-append (a ∷ l) m = rw (keep-append l m) (one (f a))
+  pub those-append : (l m : List ℕ) → those f (l ++ m) ≡ those f l ++ those f m
+  unfolding those
+  those-append [] m = refl
+  those-append (a ∷ l) m = rw (those-append l m) (one (f a))
     where
-      one : (b : Bool) → cond b (a ∷ (keep f l ++ keep f m)) (keep f l ++ keep f m) ≡ cond b (a ∷ keep f l) (keep f l) ++ keep f m
+      one : (b : Bool) → cond b (a ∷ (those f l ++ those f m)) (those f l ++ those f m) ≡ cond b (a ∷ those f l) (those f l) ++ those f m
       one true = refl
       one false = refl
 
   -- one number more
-  pub keep-next : (l : List ℕ) (j : ℕ) → j < length l → keep f (take (j + 1) l) ≡ keep f (take j l) ++ cond (f (getD l j 0)) (getD l j 0 ∷ []) []
-  unfolding keep
-  keep-next l j h = rw (add-one j, take-suc l j 0 h) (keep-append (take j l) (getD l j 0 ∷ []))
+  pub those-next : (l : List ℕ) (j : ℕ) → j < length l → those f (take (j + 1) l) ≡ those f (take j l) ++ cond (f (getD l j 0)) (getD l j 0 ∷ []) []
+  unfolding those
+  those-next l j h = rw (add-one j, take-suc l j 0 h) (those-append (take j l) (getD l j 0 ∷ []))
 
-  pub keep-up : (n : ℕ) → keep f (upTo (n + 1)) ≡ keep f (upTo n) ++ cond (f n) (n ∷ []) []
-  unfolding keep upTo
-  keep-up n = rw (add-one n) (keep-append (upTo n) (n ∷ []))
+  pub those-up : (n : ℕ) → those f (upTo (n + 1)) ≡ those f (upTo n) ++ cond (f n) (n ∷ []) []
+  unfolding those upTo
+  those-up n = rw (add-one n) (those-append (upTo n) (n ∷ []))
 
-  pub keep-length : (l : List ℕ) → length (keep f l) ≤ length l
-  unfolding keep
-  keep-length [] = le-refl 0
-  keep-length (a ∷ l) = one (f a) (keep-length l)
+  pub those-length : (l : List ℕ) → length (those f l) ≤ length l
+  unfolding those
+  those-length [] = le-refl 0
+  those-length (a ∷ l) = one (f a) (those-length l)
     where
-      one : (b : Bool) → length (keep f l) ≤ length l → length (cond b (a ∷ keep f l) (keep f l)) ≤ suc (length l)
+      one : (b : Bool) → length (those f l) ≤ length l → length (cond b (a ∷ those f l) (those f l)) ≤ suc (length l)
       one true h = omega arith
       one false h = omega arith
 
-  pub keep-front : (l : List ℕ) (j : ℕ) → length (keep f (take j l)) ≤ length (keep f l)
-  keep-front l j =
-      omega (arith, ap (λ (m : List ℕ). length (keep f m)) (take-append-drop j l), ap length (keep-append (take j l) (drop j l)), length-append (keep f (take j l)) (keep f (drop j l)))
+  pub those-front : (l : List ℕ) (j : ℕ) → length (those f (take j l)) ≤ length (those f l)
+  those-front l j =
+      omega (arith, ap (λ (m : List ℕ). length (those f m)) (take-append-drop j l), ap length (those-append (take j l) (drop j l)), length-append (those f (take j l)) (those f (drop j l)))
 
-  -- keeping twice
-  pub keep-keep : (g : ℕ → Bool) (l : List ℕ) → keep g (keep f l) ≡ keep (λ a. f a && g a) l
-  unfolding keep
-  keep-keep g [] = refl
-  keep-keep g (a ∷ l) = one (f a) (keep-keep g l)
+  -- two tests, one after the other
+  pub those-those : (g : ℕ → Bool) (l : List ℕ) → those g (those f l) ≡ those (λ a. f a && g a) l
+  unfolding those
+  those-those g [] = refl
+  those-those g (a ∷ l) = one (f a) (those-those g l)
     where
-      one : (b : Bool) → keep g (keep f l) ≡ keep (λ a. f a && g a) l → keep g (cond b (a ∷ keep f l) (keep f l)) ≡ cond (b && g a) (a ∷ keep (λ a. f a && g a) l) (keep (λ a. f a && g a) l)
+      one : (b : Bool) → those g (those f l) ≡ those (λ a. f a && g a) l → those g (cond b (a ∷ those f l) (those f l)) ≡ cond (b && g a) (a ∷ those (λ a. f a && g a) l) (those (λ a. f a && g a) l)
       one true h = rw h
       one false h = h
 
--- tests that agree below n keep the same numbers below n
-pub keep-agree : (f g : ℕ → Bool) (n : ℕ) → ((i : ℕ) → i < n → f i ≡ g i) → keep f (upTo n) ≡ keep g (upTo n)
-unfolding upTo keep
-keep-agree f g zero h = refl
-keep-agree f g (suc n) h =
-    rw (keep-append f (upTo n) (n ∷ []), keep-append g (upTo n) (n ∷ []), keep-agree f g n (λ i l. h i (omega arith)), h n (omega arith))
+-- tests that agree below n are passed by the same numbers below n
+pub those-agree : (f g : ℕ → Bool) (n : ℕ) → ((i : ℕ) → i < n → f i ≡ g i) → those f (upTo n) ≡ those g (upTo n)
+unfolding upTo those
+those-agree f g zero h = refl
+those-agree f g (suc n) h =
+    rw (those-append f (upTo n) (n ∷ []), those-append g (upTo n) (n ∷ []), those-agree f g n (λ i l. h i (omega arith)), h n (omega arith))
+
+-- ---- numbers below a bound
+
+module _ (n : ℕ) where
+  pub below-append : (l m : List ℕ) → AllBelow n l → AllBelow n m → AllBelow n (l ++ m)
+  unfolding AllBelow
+  below-append [] m h k = k
+  below-append (a ∷ l) m h k = (h .0, below-append l m (h .1) k)
+
+  below-up : (m : ℕ) → m ≤ n → AllBelow n (upTo m)
+  unfolding AllBelow upTo
+  below-up zero h = tt
+  below-up (suc m) h = below-append (upTo m) (m ∷ []) (below-up m (omega arith)) (omega arith, tt)
+
+  pub below-those : (f : ℕ → Bool) (l : List ℕ) → AllBelow n l → AllBelow n (those f l)
+  unfolding AllBelow those
+  below-those f [] h = tt
+  below-those f (a ∷ l) h = one (f a) (below-those f l (h .1))
+    where
+      one : (b : Bool) → AllBelow n (those f l) → AllBelow n (cond b (a ∷ those f l) (those f l))
+      one true k = (h .0, k)
+      one false k = k
+
+  pub below-at : (l : List ℕ) → AllBelow n l → (i : ℕ) → i < length l → getD l i 0 < n
+  unfolding AllBelow
+  below-at [] h i k = absurd (omega arith)
+  below-at (a ∷ l) h zero k = h .0
+  below-at (a ∷ l) h (suc i) k = below-at l (h .1) i (omega arith)
+
+  pub below-upTo : AllBelow n (upTo n)
+  below-upTo = below-up n (le-refl n)
 
 -- ---- joining
 
@@ -152,13 +183,13 @@ module _ (a : ℕ) where
   has-other n false e = refl
 
   -- the numbers below n that pass a test
-  pub has-keep : (f : ℕ → Bool) (n : ℕ) → has (keep f (upTo n)) a ≡ (ltb a n && f a)
-  unfolding has keep upTo
-  has-keep f zero = rw (le-ltb a 0 (omega arith))
-  has-keep f (suc n) =
-      ap (λ l. has l a) (keep-append f (upTo n) (n ∷ []))
-      ∙ (has-append (keep f (upTo n)) (keep f (n ∷ []))
-      ∙ rw (has-keep f n) (one (eqb a n) refl))
+  pub has-those : (f : ℕ → Bool) (n : ℕ) → has (those f (upTo n)) a ≡ (ltb a n && f a)
+  unfolding has those upTo
+  has-those f zero = rw (le-ltb a 0 (omega arith))
+  has-those f (suc n) =
+      ap (λ l. has l a) (those-append f (upTo n) (n ∷ []))
+      ∙ (has-append (those f (upTo n)) (those f (n ∷ []))
+      ∙ rw (has-those f n) (one (eqb a n) refl))
     where
       one : (b : Bool) → eqb a n ≡ b → (ltb a n && f a || has (cond (f n) (n ∷ []) []) a) ≡ (ltb a (suc n) && f a)
       one true e =

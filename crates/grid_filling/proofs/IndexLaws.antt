@@ -11,23 +11,23 @@ use mir.Val.{Fits}
 use mir.Syntax.{w32}
 use Rattle.lattice.specs.Sums.{total}
 use Rattle.lattice.specs.Cells.{bit}
-use Rattle.job.specs.Job.{shotAt, Valid}
-use Rattle.grid.specs.Numbers.{upTo, keep, joined}
-use Rattle.grid.specs.Grid.{touchesCell, shotCount, runOf, starts, indexOf, pairs, need}
-use Rattle.grid_filling.specs.Filling.{placeOf, Ready, Grew}
-use Rattle.grid.proofs.NumberLaws.{upTo-length, keep-append}
+use Rattle.job.specs.Job.{shotCount, shotAt, Valid}
+use Rattle.grid.specs.Numbers.{upTo, those, joined}
+use Rattle.grid.specs.Grid.{touchesCell, runOf, starts, indexOf, pairs, need, withIndex}
+use Rattle.grid_filling.specs.Filling.{runPlace, Ready, Grew}
+use Rattle.grid.proofs.NumberLaws.{upTo-length, those-append}
 use Rattle.grid.proofs.CellLaws.{runs-few}
 use Rattle.grid.proofs.StartLaws.{starts-length}
-use Rattle.grid_filling.proofs.StoreLaws.{filled-none, index-whole}
+use Rattle.grid_filling.proofs.StoreLaws.{runs-in-none, index-whole}
 
 -- ---- the need
 
--- as many as pass the test are kept
-pub keep-count : (f : ℕ → Bool) (n : ℕ) → length (keep f (upTo n)) ≡ total n (λ i. bit (f i))
-unfolding upTo keep total
-keep-count f zero = refl
-keep-count f (suc n) =
-    omega (arith, ap length (keep-append f (upTo n) (n ∷ [])), length-append (keep f (upTo n)) (keep f (n ∷ [])), keep-count f n, one (f n))
+-- how many pass a test
+pub those-count : (f : ℕ → Bool) (n : ℕ) → length (those f (upTo n)) ≡ total n (λ i. bit (f i))
+unfolding upTo those total
+those-count f zero = refl
+those-count f (suc n) =
+    omega (arith, ap length (those-append f (upTo n) (n ∷ [])), length-append (those f (upTo n)) (those f (n ∷ [])), those-count f n, one (f n))
   where
     one : (b : Bool) → length (cond b (n ∷ []) []) ≡ bit b
     one true = refl
@@ -43,9 +43,9 @@ module _ (F E G : ℕ) (coords : List ℕ) where
   pub pairs-runs : pairs F E G coords ≡ length (joined (G * G * G) (runOf F E G coords))
   unfolding pairs runOf
   pairs-runs =
-      sym (joined-count (runOf F E G coords) (G * G * G) ∙ ap (total (G * G * G)) (fun-ext λ cell. keep-count (λ i. touchesCell F G cell (shotAt E coords i)) (shotCount coords)))
+      sym (joined-count (runOf F E G coords) (G * G * G) ∙ ap (total (G * G * G)) (fun-ext λ cell. those-count (λ i. touchesCell F G cell (shotAt E coords i)) (shotCount coords)))
 
-  pub need-place : need F E G coords ≡ placeOf (runOf F E G coords) (G * G * G) (G * G * G)
+  pub need-place : need F E G coords ≡ runPlace (runOf F E G coords) (G * G * G) (G * G * G)
   unfolding need
   need-place = ap (λ (n : ℕ). G * G * G + 1 + n) pairs-runs
 
@@ -81,9 +81,9 @@ module _ (F E G : ℕ) (coords : List ℕ) (w : List ℕ) (room : need F E G coo
   pub build-fits : Valid F E G coords → {cells r : ℕ} {w' : List ℕ} → cells ≡ G * G * G → Grew (runOf F E G coords) (G * G * G) 0 (G * G * G) w w' r → Fits w32 (r - (cells + 1))
   build-fits v e a = record { fits = omega (arith, a .next, runs-few F E G coords v (G * G * G) (le-refl (G * G * G))) }
 
-  pub build-last : {cells r : ℕ} {w' : List ℕ} → cells ≡ G * G * G → Grew (runOf F E G coords) (G * G * G) 0 (G * G * G) w w' r → set w' cells (r - (cells + 1)) ≡ indexOf F E G coords ++ drop (need F E G coords) w
+  pub build-last : {cells r : ℕ} {w' : List ℕ} → cells ≡ G * G * G → Grew (runOf F E G coords) (G * G * G) 0 (G * G * G) w w' r → set w' cells (r - (cells + 1)) ≡ withIndex F E G coords w
   unfolding indexOf
   build-last {cells} {r} {w'} e a =
       let last : r - (cells + 1) ≡ length (joined (G * G * G) (runOf F E G coords)) = omega (arith, a .next) in
       rw (last, e, need-place F E G coords)
-      (index-whole (runOf F E G coords) (G * G * G) w w' (a .fills w (filled-none (runOf F E G coords) (G * G * G) w (omega (arith, need-place F E G coords)))))
+      (index-whole (runOf F E G coords) (G * G * G) w w' (a .fills w (runs-in-none (runOf F E G coords) (G * G * G) w (omega (arith, need-place F E G coords)))))

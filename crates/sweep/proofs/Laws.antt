@@ -30,7 +30,7 @@ use Rattle.buffer.specs.Wrote.{Wrote}
 use Rattle.buffer.proofs.WroteLaws.{front-part}
 use Rattle.grid.specs.Numbers.{has}
 use Rattle.grid.specs.Grid.{slabOf, shotCount, touchesSlab, meets}
-use Rattle.grid.proofs.NumberLaws.{has-keep}
+use Rattle.grid.proofs.NumberLaws.{has-those}
 use Rattle.grid.proofs.CellLaws.{slab-few}
 use Rattle.grid.proofs.ShotLaws.{width-times}
 use Rattle.grid_runs.proofs.SlabLaws.{plane-meets, slab-has}
@@ -184,7 +184,7 @@ module _ (F E G : ℕ) (coords : List ℕ) (v : Valid F E G coords) where
     slab-below k h =
         let i : ℕ = getD (slabOf F E G coords gx) k 0 in
         let t : T (ltb i (shotCount coords) && touchesSlab (F / G) gx (shotAt E coords i))
-        = subst T (has-keep i (λ i. touchesSlab (F / G) gx (shotAt E coords i)) (shotCount coords)) (place-has (slabOf F E G coords gx) k h) in
+        = subst T (has-those i (λ i. touchesSlab (F / G) gx (shotAt E coords i)) (shotCount coords)) (place-has (slabOf F E G coords gx) k h) in
         ltb→lt i (shotCount coords) (and-elim (ltb i (shotCount coords)) (touchesSlab (F / G) gx (shotAt E coords i)) t .0)
 
     pub slab-in-run : InRun 1024 E coords (slabOf F E G coords gx)
