@@ -22,14 +22,14 @@ use Rattle.lattice.proofs.PatternLaws.{x-axis, still-no-corner}
 use Rattle.lattice.proofs.ShotLaws.{and-elim, or-elim, NoFace, no-face-no-corner}
 use Rattle.lattice.proofs.Cases.{bool-ext}
 use Rattle.lattice.proofs.SameSolid.{join-nil, join-end, here-none}
-use Rattle.job.specs.Job.{Valid, shotsOf, shotAt}
+use Rattle.job.specs.Job.{Valid, shotsOf, shotAt, shotCount}
 use Rattle.job.proofs.Tests.{or-left, or-right}
 use Rattle.job.proofs.Shots.{stay-at, any-at, at-any}
 use Rattle.job.proofs.Conditions.{valid-within}
 use Rattle.buffer.specs.Wrote.{Wrote}
 use Rattle.buffer.proofs.WroteLaws.{front-part}
 use Rattle.grid.specs.Numbers.{has}
-use Rattle.grid.specs.Grid.{slabOf, shotCount, touchesSlab, meets}
+use Rattle.grid.specs.Grid.{slabOf, touchesSlab, meets}
 use Rattle.grid.proofs.NumberLaws.{has-those}
 use Rattle.grid.proofs.CellLaws.{slab-few}
 use Rattle.grid.proofs.ShotLaws.{width-times}
