@@ -14,7 +14,7 @@ use Rattle.lattice.specs.Shots.{Shot}
 use Rattle.job.specs.Job.{shotCount, shotAt, Valid}
 use Rattle.grid.specs.Grid.{meets, touches, touchesCell, spanOf, pairsOf, pairs, need}
 use Rattle.grid.proofs.TotalLaws.{total-agree, total-most, total-swap, total-digits, total-triples, count-inside, count-past}
-use Rattle.grid.proofs.CellLaws.{digit-high, digit-low, cube-most}
+use Rattle.grid.proofs.CellLaws.{digit-high, digit-low}
 use Rattle.grid.proofs.ShotLaws.{width-times, width-least}
 
 -- ---- how many intervals a span meets
@@ -29,13 +29,13 @@ leb-alike a b c d f g = one (leb a b) (leb c d) refl refl
 
 module _ (s c e : ℕ) (h : 1 ≤ s) where
   -- the interval after the last one that a span meets, and the first one
-  abbrev pub lastAfter : ℕ
+  abbrev lastAfter : ℕ
   lastAfter = (c + e) / s + 1
 
-  abbrev pub firstMet : ℕ
+  abbrev firstMet : ℕ
   firstMet = (c - 1) / s
 
-  pub meets-from : (g : ℕ) → meets s g c e ≡ (ltb g lastAfter && leb firstMet g)
+  meets-from : (g : ℕ) → meets s g c e ≡ (ltb g lastAfter && leb firstMet g)
   unfolding meets
   meets-from g =
       rw (leb-alike (g * s) (c + e) (suc g) ((c + e) / s + 1) (λ l. omega (arith, le-div-iff-mul-le {k = s} {x = g} {y = c + e} h .1 l)) (λ l. le-div-iff-mul-le {k = s} {x = g} {y = c + e} h .0 (omega arith)))
@@ -70,7 +70,7 @@ first-of-none s c h e = rw e (sym (div-eq-of-lt {n = 0} {m = s} h))
 
 -- ---- the grid cells that a shot belongs to
 
-pub span-most : (G s c e : ℕ) → spanOf G s c e ≤ G
+span-most : (G s c e : ℕ) → spanOf G s c e ≤ G
 span-most G s c e = omega (arith, total-most G 1 (λ g. bit (meets s g c e)) (λ g l. bit-most (meets s g c e)), mul-one G)
   where
     bit-most : (b : Bool) → bit b ≤ 1
@@ -110,7 +110,7 @@ span-in v c e h = (width-least v, omega (arith, width-times v))
 
 module _ (F E G : ℕ) (coords : List ℕ) where
   -- the pairs counted by shots are the pairs counted by grid cells
-  pub pairs-by-shots : total (shotCount coords) (pairsOf F E G coords) ≡ pairs F E G coords
+  pairs-by-shots : total (shotCount coords) (pairsOf F E G coords) ≡ pairs F E G coords
   unfolding pairs
   pairs-by-shots = total-swap (shotCount coords) (G * G * G) (λ i cell. bit (touchesCell F G cell (shotAt E coords i)))
 
@@ -134,8 +134,3 @@ module _ (F E G : ℕ) (coords : List ℕ) where
   pub need-by-shots : {cells a : ℕ} (n : ℕ) → n ≡ shotCount coords → cells ≡ G * G * G → a ≡ total n (pairsOf F E G coords) → cells + 1 + a ≡ need F E G coords
   unfolding need
   need-by-shots n e c p = rw (c, p, e, pairs-by-shots)
-
--- largest need
-pub need-most : (F E G : ℕ) (coords : List ℕ) → Valid F E G coords → need F E G coords ≤ 1074003969
-unfolding need
-need-most F E G coords v = omega (arith, pairs-by-shots F E G coords, pairs-few F E G coords (v .grid-most) (shotCount coords), v .few, cube-most G (v .grid-most))

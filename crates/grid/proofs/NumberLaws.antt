@@ -73,7 +73,7 @@ those-agree f g (suc n) h =
 -- ---- numbers below a bound
 
 module _ (n : ℕ) where
-  pub below-append : (l m : List ℕ) → AllBelow n l → AllBelow n m → AllBelow n (l ++ m)
+  below-append : (l m : List ℕ) → AllBelow n l → AllBelow n m → AllBelow n (l ++ m)
   unfolding AllBelow
   below-append [] m h k = k
   below-append (a ∷ l) m h k = (h .0, below-append l m (h .1) k)
@@ -148,7 +148,7 @@ module _ (f : ℕ → ℕ) where
 -- ---- membership
 
 module _ (a : ℕ) where
-  pub has-append : (l m : List ℕ) → has (l ++ m) a ≡ (has l a || has m a)
+  has-append : (l m : List ℕ) → has (l ++ m) a ≡ (has l a || has m a)
   unfolding has
   has-append [] m = refl
   has-append (b ∷ l) m = rw (has-append l m) (sym (or-assoc (eqb a b) (has l a) (has m a)))

@@ -3,7 +3,7 @@ use mathlib.Core.Path.{_≡_, refl, sym, ap, _∙_}
 use mathlib.Core.Bool.{Bool, true, false, cond, _||_}
 use mathlib.Core.Option.{none, some}
 use mathlib.Core.List.{List, [], _∷_, _++_}
-use Prim.Native.Nat.{ℕ, _+_, _-_, _*_, _/_, _≤_, _<_}
+use Prim.Native.Nat.{ℕ, _+_, _-_, _/_, _≤_, _<_}
 use native.Mathlib.Omega.{arith}
 use lib.Dec.{ltb}
 use lib.ListN.{length, getD, take, drop, take-append-drop, length-drop}
@@ -64,7 +64,7 @@ module _ (e : ℕ) (coords : List ℕ) (run : List ℕ) (i j k : ℕ) where
       nothing [] h = refl
       nothing (a ∷ l) h = absurd (omega arith)
 
-  pub run-split : (m : ℕ) → (runCovers e coords (take m run) i j k || runCovers e coords (drop m run) i j k) ≡ runCovers e coords run i j k
+  run-split : (m : ℕ) → (runCovers e coords (take m run) i j k || runCovers e coords (drop m run) i j k) ≡ runCovers e coords run i j k
   unfolding firstCovering
   run-split m =
       sym (first-append (λ s. shotCovers e coords s i j k) (take m run) (drop m run))

@@ -4,7 +4,6 @@ use mathlib.Core.Bool.{Bool, true, false, cond, _&&_, _||_, and-false, false≢t
 use mathlib.Core.Option.{none, some}
 use mathlib.Core.List.{List, [], _∷_}
 use Prim.Native.Nat.{ℕ, zero, suc, _+_, _*_, _/_, _≤_, _<_}
-use native.Mathlib.Nat.{div-mul-le-self, lt-div-mul-add, add-mul, one-mul}
 use native.Mathlib.Omega.{arith}
 use lib.Dec.{T, leb, ltb}
 use borrow.Author.Tests.{le-leb, lt-ltb, leb-true, ltb-true, ltb-false}
@@ -121,15 +120,6 @@ module _ (F E G : ℕ) (coords : List ℕ) (gx gy gz : ℕ) (hy : gy < G) (hz : 
       one s l =
           rw (digit-high G (gx * G + gy) gz hz, digit-low G (gx * G + gy) gz hz, digit-high G gx gy hy, digit-low G gx gy hy, lt-ltb s (shotCount coords) l)
           (absorb _ _ _ (spans E (shotAt E coords s .x) i) (spans E (shotAt E coords s .y) j) (spans E (shotAt E coords s .z) k) (near-meets (F / G) gx i E (shotAt E coords s .x) nx) (near-meets (F / G) gy j E (shotAt E coords s .y) ny) (near-meets (F / G) gz k E (shotAt E coords s .z) nz))
-
--- ---- the grid cell that holds a unit cell
-
-pub near-holding : (s i : ℕ) → 1 ≤ s → Near s (i / s) i
-near-holding s i h =
-    record {
-      low = omega (arith, div-mul-le-self i s);
-      high = omega (arith, lt-div-mul-add {a = i} {b = s} h, add-mul (i / s) 1 s, one-mul s);
-    }
 
 -- ---- the eight cells about a lattice point of a closed box
 

@@ -1,11 +1,11 @@
 -- The index of a list: what it needs, that a filled slice holds it, and the runs read from it.
 use mathlib.Core.Path.{_≡_, refl, sym, ap, _∙_, fun-ext}
 use mathlib.Core.Bool.{Bool, true, false, cond}
-use mathlib.Core.List.{List, [], _∷_, _++_}
+use mathlib.Core.List.{List, [], _∷_}
 use Prim.Native.Nat.{ℕ, zero, suc, _+_, _-_, _*_, _≤_}
 use native.Mathlib.Nat.{add-zero, add-suc, le-refl}
 use native.Mathlib.Omega.{arith}
-use lib.ListN.{length, take, drop, set, length-append}
+use lib.ListN.{length, take, set, length-append}
 use lib.Seq.{take-all, take-append-le}
 use mir.Val.{Fits}
 use mir.Syntax.{w32}
@@ -23,7 +23,7 @@ use Rattle.grid_filling.proofs.StoreLaws.{runs-in-none, index-whole}
 -- ---- the need
 
 -- how many pass a test
-pub those-count : (f : ℕ → Bool) (n : ℕ) → length (those f (upTo n)) ≡ total n (λ i. bit (f i))
+those-count : (f : ℕ → Bool) (n : ℕ) → length (those f (upTo n)) ≡ total n (λ i. bit (f i))
 unfolding upTo those total
 those-count f zero = refl
 those-count f (suc n) =
@@ -33,14 +33,14 @@ those-count f (suc n) =
     one true = refl
     one false = refl
 
-pub joined-count : (f : ℕ → List ℕ) (n : ℕ) → length (joined n f) ≡ total n (λ i. length (f i))
+joined-count : (f : ℕ → List ℕ) (n : ℕ) → length (joined n f) ≡ total n (λ i. length (f i))
 unfolding joined total
 joined-count f zero = refl
 joined-count f (suc n) = omega (arith, length-append (joined n f) (f n), joined-count f n)
 
 module _ (F E G : ℕ) (coords : List ℕ) where
   -- the pairs are the entries of the runs
-  pub pairs-runs : pairs F E G coords ≡ length (joined (G * G * G) (runOf F E G coords))
+  pairs-runs : pairs F E G coords ≡ length (joined (G * G * G) (runOf F E G coords))
   unfolding pairs runOf
   pairs-runs =
       sym (joined-count (runOf F E G coords) (G * G * G) ∙ ap (total (G * G * G)) (fun-ext λ cell. those-count (λ i. touchesCell F G cell (shotAt E coords i)) (shotCount coords)))
@@ -62,7 +62,7 @@ unfolding upTo
 upTo-more n zero = rw (add-zero n) (take-all n (upTo n) (omega (arith, upTo-length n)))
 upTo-more n (suc k) = rw (add-suc n k, take-append-le n (upTo (n + k)) ((n + k) ∷ []) (omega (arith, upTo-length (n + k)))) (upTo-more n k)
 
-pub upTo-front : (n m : ℕ) → n ≤ m → take n (upTo m) ≡ upTo n
+upTo-front : (n m : ℕ) → n ≤ m → take n (upTo m) ≡ upTo n
 upTo-front n m h =
     let e : n + (m - n) ≡ m = omega arith in
     rw e at (upTo-more n (m - n))

@@ -1,13 +1,13 @@
 // Putting the uniform grid index of a list into a lent work slice. Document 01, 'The grid index'.
 //
-// `build` leaves the index as a function of the list (specs/Grid.antt of `grid`), and past it what was there. The shots are narrowed to a slab, a row
-// and a cell, and each run goes behind the one before it; nothing of the work slice serves as scratch. specs/Filling.antt says what stands in the
-// slice while it is filled. Stands on `grid`, whose index it puts in, and on `buffer`, `lattice` and `job`.
+// `build` leaves the index as a function of the list (specs/Grid.antt of `grid`), and past it what was there. The shots are narrowed to a
+// slab, a row and a cell, and each run goes behind the one before it; nothing of the work slice serves as scratch. specs/Filling.antt says what
+// stands in the slice while it is filled. Stands on `grid`, whose index it puts in, and on `buffer`, `lattice` and `job`.
 ghost use mathlib.Core.Path.{_≡_};
 ghost use mathlib.Core.Bool.{cond};
-ghost use mathlib.Core.List.{[], _∷_, _++_};
+ghost use mathlib.Core.List.{[], _∷_};
 ghost use Prim.Native.Nat.{_+_, _-_, _*_, _≤_, _<_};
-ghost use lib.ListN.{length, drop, set};
+ghost use lib.ListN.{length, set};
 ghost use Rattle.lattice.specs.Cells.{bit};
 ghost use Rattle.job.specs.Job.{shotCount, Valid};
 ghost use Rattle.buffer.specs.Wrote.{Wrote};
