@@ -9,7 +9,8 @@ use lib.IntN.{ℤ, pos, natAbs, _+ℤ_, _*ℤ_, +ℤ-assoc, +ℤ-idl, +ℤ-idr, 
 use lib.ListN.{length, length-append}
 use Rattle.lattice.specs.Sums.{total, sum}
 use Rattle.lattice.specs.Cells.{Cells, bit}
-use Rattle.lattice.specs.Pattern.{Pattern, around, byte, ofByte, corner, Term, volumeTerm, areaTerm, edgeTerm}
+use Rattle.lattice.specs.Pattern.{Pattern, around, byte, ofByte, corner, Term}
+use Rattle.lattice.specs.Figures.{Figure, Volume, Area, EdgeLength, term}
 use Rattle.lattice.specs.Listing.{Corner, join, here, corners, cornerCount, recordOf, bytes, listing, readBack, over, termAt, cornerSum}
 use Rattle.lattice.proofs.Integers.{natAbs-add}
 use Rattle.lattice.proofs.SumLaws.{sum-ext, total-ext}
@@ -91,14 +92,10 @@ corners-points n s term h =
     at-point x y z true e = +ℤ-idr (termAt term (listed x y z)) ∙ ap (term x y z) (ofByte-byte (around s x y z))
     at-point x y z false e = sym (h x y z (around s x y z) e)
 
-pub volume-weighted : Weighted volumeTerm
-volume-weighted x y z p e = rw (no-corner-zero p e 0) (*ℤ-zero (pos (x * y * z)))
-
-pub area-weighted : Weighted areaTerm
-area-weighted x y z p e = simp (no-corner-zero p e 1, no-corner-zero p e 2, no-corner-zero p e 3, mul-zero)
-
-pub edge-weighted : Weighted edgeTerm
-edge-weighted x y z p e = simp (no-corner-zero p e 4, no-corner-zero p e 5, no-corner-zero p e 6, mul-zero)
+pub figure-weighted : (f : Figure) → Weighted (term f)
+figure-weighted Volume x y z p e = rw (no-corner-zero p e 0) (*ℤ-zero (pos (x * y * z)))
+figure-weighted Area x y z p e = simp (no-corner-zero p e 1, no-corner-zero p e 2, no-corner-zero p e 3, mul-zero)
+figure-weighted EdgeLength x y z p e = simp (no-corner-zero p e 4, no-corner-zero p e 5, no-corner-zero p e 6, mul-zero)
 
 -- how large a sum over corners is
 pub over-bound : (m : ℕ) (g : Corner → ℤ) (vs : List Corner) → ((v : Corner) → natAbs (g v) ≤ m) → natAbs (over g vs) ≤ length vs * m

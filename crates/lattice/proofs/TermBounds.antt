@@ -4,7 +4,8 @@ use Prim.Native.Nat.{ℕ, _+_, _*_, _≤_}
 use native.Mathlib.Nat.{mul-le-mul, le-trans, le-of-eq}
 use native.Mathlib.Omega.{arith}
 use lib.IntN.{ℤ, pos, natAbs, _+ℤ_, _*ℤ_}
-use Rattle.lattice.specs.Pattern.{Pattern, volumeTerm, areaTerm, edgeTerm, w, ax, ay, az, ex, ey, ez}
+use Rattle.lattice.specs.Pattern.{Pattern, w, ax, ay, az, ex, ey, ez}
+use Rattle.lattice.specs.Figures.{Figure, Volume, Area, EdgeLength, term}
 use Rattle.lattice.proofs.Integers.{natAbs-add, natAbs-mul}
 use Rattle.lattice.proofs.PatternLaws.{w-small, ax-small, ay-small, az-small, ex-small, ey-small, ez-small}
 
@@ -27,13 +28,8 @@ module _ (l m n : ℕ) (u v w : ℤ) (hl : l ≤ 1048576) (hm : m ≤ 1048576) (
   sum-of-three = omega (arith, natAbs-add (pos l *ℤ u +ℤ pos m *ℤ v) (pos n *ℤ w), sum-of-two, scaled-small 1048576 2 n w hn hw)
 
 -- ---- the terms of a point
-module _ (x y z : ℕ) (p : Pattern) (hx : x ≤ 1024) (hy : y ≤ 1024) (hz : z ≤ 1024) where
-  pub volume-term-small : natAbs (volumeTerm x y z p) ≤ 4294967296
-  volume-term-small = scaled-small 1073741824 4 (x * y * z) (w p) (three-small x y z hx hy hz) (w-small p)
-
-  pub area-term-small : natAbs (areaTerm x y z p) ≤ 4294967296
-  area-term-small =
-      sum-of-three (y * z) (x * z) (x * y) (ax p) (ay p) (az p) (two-small y z hy hz) (two-small x z hx hz) (two-small x y hx hy) (ax-small p) (ay-small p) (az-small p)
-
-  pub edge-term-small : natAbs (edgeTerm x y z p) ≤ 4294967296
-  edge-term-small = sum-of-three x y z (ex p) (ey p) (ez p) (omega arith) (omega arith) (omega arith) (ex-small p) (ey-small p) (ez-small p)
+pub term-small : (f : Figure) (x y z : ℕ) (p : Pattern) → x ≤ 1024 → y ≤ 1024 → z ≤ 1024 → natAbs (term f x y z p) ≤ 4294967296
+term-small Volume x y z p hx hy hz = scaled-small 1073741824 4 (x * y * z) (w p) (three-small x y z hx hy hz) (w-small p)
+term-small Area x y z p hx hy hz =
+    sum-of-three (y * z) (x * z) (x * y) (ax p) (ay p) (az p) (two-small y z hy hz) (two-small x z hx hz) (two-small x y hx hy) (ax-small p) (ay-small p) (az-small p)
+term-small EdgeLength x y z p hx hy hz = sum-of-three x y z (ex p) (ey p) (ez p) (omega arith) (omega arith) (omega arith) (ex-small p) (ey-small p) (ez-small p)

@@ -5,7 +5,7 @@ ghost use Prim.Native.Nat.{_+_, _*_, _<_, _≤_};
 ghost use lib.IntN.{pos, natAbs, _+ℤ_, _*ℤ_};
 ghost use mathlib.Core.List.{[]};
 ghost use Rattle.lattice.specs.Pattern.{ofByte, volumeTerm, areaTerm, edgeTerm};
-ghost use Rattle.lattice_sums.specs.CornerSums.{sumsOf, added, Room, Whole};
+ghost use Rattle.lattice_sums.specs.CornerSums.{sumsOf, added, Room, Whole, SomeTotals};
 use crate::tables::weight_ax;
 use crate::tables::weight_ay;
 use crate::tables::weight_az;
@@ -132,9 +132,9 @@ impl CornerSums {
         }
     }
 
-    // The totals that the sums are, where none is negative.
+    // The totals that the sums come to, where there are such: none of the sums is negative then.
     pub fn totals(self) -> Totals
-        requires { ⌜ (self .volume ≡ pos (natAbs (self .volume))) × (self .area ≡ pos (natAbs (self .area))) × (self .edge ≡ pos (natAbs (self .edge))) ⌝ }
+        requires { ⌜ SomeTotals self ⌝ }
         ensures { λ r. ⌜ Whole self r ⌝ }
     {
         Totals {

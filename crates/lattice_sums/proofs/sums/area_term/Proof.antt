@@ -6,8 +6,9 @@ use lib.IntN.{pos, _+ℤ_, _*ℤ_}
 use mir.Syntax.{w8}
 use mir.Val.{toZ, ofZ}
 use Rattle.lattice.specs.Pattern.{ofByte, ax, ay, az, areaTerm}
+use Rattle.lattice.specs.Figures.{Area}
 use Rattle.lattice.proofs.PatternLaws.{ax-small, ay-small, az-small}
-use Rattle.lattice.proofs.TermBounds.{two-small, area-term-small}
+use Rattle.lattice.proofs.TermBounds.{two-small, term-small}
 use Rattle.lattice_sums.proofs.CornerSumLaws.{told8, told64}
 use borrow.Author.Needs.{needs}
 use Rattle.lattice_sums.proofs.sums.area_term.Statement.{statement}
@@ -44,7 +45,7 @@ three-requires : tie.Need-three-requires
 three-requires c κs = let s = c .before .before .before in (two-small (s .args .y) (s .args .z) (s .pre .1) (s .pre .2), two-small (s .args .x) (s .args .z) (s .pre .0) (s .pre .2), two-small (s .args .x) (s .args .y) (s .pre .0) (s .pre .1), rw (weight-x (c .before .before)) (ax-small (ofByte (s .args .p))), rw (weight-y (c .before)) (ay-small (ofByte (s .args .p))), rw (weight-z c) (az-small (ofByte (s .args .p))))
 
 returns : tie.Need-returns
-returns c = let s = c .before .before .before .before in let e = told64 {v = areaTerm (s .args .x) (s .args .y) (s .args .z) (ofByte (s .args .p))} (c .three .ok) (c .three .ensures .0 ∙ rw (weight-x (c .before .before .before), weight-y (c .before .before), weight-z (c .before))) in (e, rw e (area-term-small (s .args .x) (s .args .y) (s .args .z) (ofByte (s .args .p)) (s .pre .0) (s .pre .1) (s .pre .2)))
+returns c = let s = c .before .before .before .before in let e = told64 {v = areaTerm (s .args .x) (s .args .y) (s .args .z) (ofByte (s .args .p))} (c .three .ok) (c .three .ensures .0 ∙ rw (weight-x (c .before .before .before), weight-y (c .before .before), weight-z (c .before))) in (e, rw e (term-small Area (s .args .x) (s .args .y) (s .args .z) (ofByte (s .args .p)) (s .pre .0) (s .pre .1) (s .pre .2)))
 
 pub area-term-spec : {M : Type 1} → statement M
 area-term-spec =

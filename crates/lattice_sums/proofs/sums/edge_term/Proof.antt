@@ -6,8 +6,9 @@ use lib.IntN.{pos, _+ℤ_, _*ℤ_}
 use mir.Syntax.{w8}
 use mir.Val.{toZ, ofZ}
 use Rattle.lattice.specs.Pattern.{ofByte, ex, ey, ez, edgeTerm}
+use Rattle.lattice.specs.Figures.{EdgeLength}
 use Rattle.lattice.proofs.PatternLaws.{ex-small, ey-small, ez-small}
-use Rattle.lattice.proofs.TermBounds.{edge-term-small}
+use Rattle.lattice.proofs.TermBounds.{term-small}
 use Rattle.lattice_sums.proofs.CornerSumLaws.{told8, told64}
 use borrow.Author.Needs.{needs}
 use Rattle.lattice_sums.proofs.sums.edge_term.Statement.{statement}
@@ -35,7 +36,7 @@ three-requires : tie.Need-three-requires
 three-requires c κs = let s = c .before .before .before in (omega (arith, s .pre), omega (arith, s .pre), omega (arith, s .pre), rw (weight-x (c .before .before)) (ex-small (ofByte (s .args .p))), rw (weight-y (c .before)) (ey-small (ofByte (s .args .p))), rw (weight-z c) (ez-small (ofByte (s .args .p))))
 
 returns : tie.Need-returns
-returns c = let s = c .before .before .before .before in let e = told64 {v = edgeTerm (s .args .x) (s .args .y) (s .args .z) (ofByte (s .args .p))} (c .three .ok) (c .three .ensures .0 ∙ rw (weight-x (c .before .before .before), weight-y (c .before .before), weight-z (c .before))) in (e, rw e (edge-term-small (s .args .x) (s .args .y) (s .args .z) (ofByte (s .args .p)) (s .pre .0) (s .pre .1) (s .pre .2)))
+returns c = let s = c .before .before .before .before in let e = told64 {v = edgeTerm (s .args .x) (s .args .y) (s .args .z) (ofByte (s .args .p))} (c .three .ok) (c .three .ensures .0 ∙ rw (weight-x (c .before .before .before), weight-y (c .before .before), weight-z (c .before))) in (e, rw e (term-small EdgeLength (s .args .x) (s .args .y) (s .args .z) (ofByte (s .args .p)) (s .pre .0) (s .pre .1) (s .pre .2)))
 
 pub edge-term-spec : {M : Type 1} → statement M
 edge-term-spec =
