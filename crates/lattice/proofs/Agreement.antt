@@ -2,12 +2,15 @@
 -- Each statement cites the law that proves it; the lists of a job come in above, in the crates that cover cells by shots.
 use mathlib.Core.Path.{_≡_, _∙_, ap}
 use mathlib.Core.Logic.{_↔_}
+use mathlib.Core.Bool.{false}
 use mathlib.Core.List.{List·Memᴰ}
-use Prim.Native.Nat.{ℕ, _*_}
+use Prim.Native.Nat.{ℕ, _*_, _≤_}
 use lib.ListN.{length}
 use Rattle.lattice.specs.Cells.{Cells, Within}
+use Rattle.lattice.specs.Pattern.{around, corner}
 use Rattle.lattice.specs.Figures.{Figure, cellCount, term}
 use Rattle.lattice.specs.Listing.{Corner, corners, cornerCount, IsCorner, Rising, listing, readBack, cornerSum, listedSum, SameBytes}
+use Rattle.lattice.proofs.Inside.{outside-no-corner}
 use Rattle.lattice.proofs.PointSums.{figure-points}
 use Rattle.lattice.proofs.ListingLaws.{readBack-bytes, length-corners, length-listing, corners-points, figure-weighted}
 use Rattle.lattice.proofs.Order.{corners-rising, corners-exactly}
@@ -26,10 +29,15 @@ module _ (n : ℕ) (s : Cells) (within : Within n s) where
   pub listed-sums : (f : Figure) → listedSum (term f) (listing n s) ≡ cellCount f n s
   listed-sums f = ap (cornerSum (term f)) read-back ∙ corner-sums f
 
-  -- the corner count is the number of lattice points with a weight that is not zero, and the listing has 7 bytes for each
+  -- the corner count is the number of lattice points with a weight that is not zero
   pub count-is : length (corners n s) ≡ cornerCount n s
   count-is = length-corners n s
 
+  -- no lattice point outside the field has such a weight
+  pub outside-weighs-nothing : (x y z : ℕ) → ((x ≤ n) × (y ≤ n) × (z ≤ n) → ⊥) → corner (around s x y z) ≡ false
+  outside-weighs-nothing = outside-no-corner n s within
+
+  -- the listing has 7 bytes for each corner
   pub listing-length : length (listing n s) ≡ 7 * cornerCount n s
   listing-length = length-listing n s
 

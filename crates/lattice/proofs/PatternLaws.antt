@@ -8,8 +8,8 @@ use lib.Dec.{T, eqb, eqb→eq, ltb, ltb→lt, leb, leb→le}
 use lib.IntN.{ℤ, pos, negsuc, natAbs}
 use lib.ListN.{getD}
 use Rattle.lattice.specs.Pattern.{Pattern, byte, ofByte, w, ax, ay, az, ex, ey, ez, weights, isZero, someNonzero, corner}
+use Rattle.lattice.specs.Axes.{Axis, x-axis, y-axis, z-axis}
 use Rattle.lattice.proofs.Cases.{same, same-at, each, each-at, eachPattern-at, eachBelow-at, and-left, and-right}
-use Rattle.lattice.proofs.Inside.{refute}
 
 -- ---- the pattern byte
 pub ofByte-byte : (p : Pattern) → ofByte (byte p) ≡ p
@@ -89,9 +89,6 @@ unfolding corner
 no-corner-zero p = none-nonzero (weights p)
 
 -- ---- the corners are the patterns that change across every axis
-pub data Axis : Type 0 where
-  x-axis y-axis z-axis : Axis
-
 -- the pattern with the axis first
 abbrev pub turned : Axis → Pattern → Pattern
 turned x-axis p a b c = p a b c

@@ -17,8 +17,8 @@ use Rattle.lattice.specs.Cells.{Cells, Within, below, bit}
 use Rattle.lattice.specs.Pattern.{Pattern, around, byte, corner, w, Term}
 use Rattle.lattice.specs.Listing.{Corner, join, here, corners, listing, bytes, readBack, cornerSum, SameBytes}
 use Rattle.lattice.proofs.SumLaws.{fall, sum-ext, sum-zero}
-use Rattle.lattice.proofs.Inside.{empty, outside}
-use Rattle.lattice.proofs.PatternLaws.{x-axis, still-no-corner, no-corner-zero}
+use Rattle.lattice.proofs.Inside.{outside-no-corner}
+use Rattle.lattice.proofs.PatternLaws.{no-corner-zero}
 use Rattle.lattice.proofs.PointSums.{signs-three}
 use Rattle.lattice.proofs.ListingLaws.{readBack-bytes, corners-points}
 
@@ -94,7 +94,7 @@ here-none s x y z e = ap (λ b. cond b (record { x = x; y = y; z = z; pattern = 
 
 module _ (n : ℕ) (s : Cells) (within : Within n s) where
   here-outside : (x y z : ℕ) → ((x ≤ n) × (y ≤ n) × (z ≤ n) → ⊥) → here s x y z ≡ []
-  here-outside x y z h = here-none s x y z (ap corner (outside n s within x y z h) ∙ still-no-corner x-axis empty (λ b c. refl))
+  here-outside x y z h = here-none s x y z (outside-no-corner n s within x y z h)
 
   wider : (k : ℕ) → corners (k + n) s ≡ corners n s
   unfolding corners
@@ -169,7 +169,7 @@ module _ (x₀ y₀ z₀ : ℕ) where
       at x y z = w (around s x y z)
 
       none : (x y z : ℕ) → ((x ≤ n) × (y ≤ n) × (z ≤ n) → ⊥) → at x y z ≡ pos 0
-      none x y z h = ap w (outside n s within x y z h) ∙ no-corner-zero empty (still-no-corner x-axis empty (λ b c. refl)) 0
+      none x y z h = no-corner-zero (around s x y z) (outside-no-corner n s within x y z h) 0
 
 pub same-solid : (n m : ℕ) (s t : Cells) → Within n s → Within m t → corners n s ≡ corners m t → (i j k : ℕ) → s i j k ≡ t i j k
 same-solid n m s t hs ht e = solid-known s t λ x y z.

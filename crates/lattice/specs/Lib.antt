@@ -4,3 +4,4 @@ pub mod Pattern
 pub mod Figures
 pub mod Listing
 pub mod Shots
+pub mod Axes

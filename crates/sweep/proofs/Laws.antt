@@ -18,8 +18,9 @@ use Rattle.lattice_sums.specs.CornerSums.{Room, sumsOf}
 use Rattle.lattice_sums.specs.declared.sums.CornerSums.{CornerSums}
 use Rattle.lattice_sums.proofs.CornerSumLaws.{room-more}
 use Rattle.lattice.proofs.Inside.{empty, outside}
-use Rattle.lattice.proofs.PatternLaws.{x-axis, still-no-corner}
-use Rattle.lattice.proofs.ShotLaws.{and-elim, or-elim, NoFace, no-face-no-corner}
+use Rattle.lattice.specs.Axes.{x-axis, NoFace}
+use Rattle.lattice.proofs.PatternLaws.{still-no-corner}
+use Rattle.lattice.proofs.ShotLaws.{and-elim, or-elim, no-face-no-corner}
 use Rattle.lattice.proofs.Cases.{bool-ext}
 use Rattle.lattice.proofs.SameSolid.{join-nil, join-end, here-none}
 use Rattle.job.specs.Job.{Valid, shotsOf, shotAt}

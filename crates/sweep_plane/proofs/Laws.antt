@@ -17,8 +17,8 @@ use Rattle.lattice.specs.Listing.{Corner, join, here}
 use Rattle.lattice_sums.specs.CornerSums.{Room}
 use Rattle.lattice_sums.specs.declared.sums.CornerSums.{CornerSums}
 use Rattle.lattice_sums.proofs.CornerSumLaws.{room-more}
-use Rattle.lattice.proofs.PatternLaws.{y-axis}
-use Rattle.lattice.proofs.ShotLaws.{and-elim, holds, below-cells, NoFace, no-face-no-corner}
+use Rattle.lattice.specs.Axes.{y-axis, NoFace}
+use Rattle.lattice.proofs.ShotLaws.{and-elim, holds, below-cells, no-face-no-corner}
 use Rattle.lattice.proofs.SameSolid.{join-nil, here-none}
 use Rattle.sweep_rows.specs.Runs.{InRun, InList, runTo, shotsIn}
 use Rattle.sweep_rows.specs.Rows.{Ends}
