@@ -65,20 +65,25 @@ fn three(l: u64, u: i8, m: u64, v: i8, n: u64, w: i8) -> i64
     plus(plus(scaled(l, u), scaled(m, v)), scaled(n, w))
 }
 
+// a · b.
+fn product(a: u16, b: u16) -> u64
+    requires { ⌜ (a ≤ 1024) × (b ≤ 1024) ⌝ }
+    ensures { λ r. ⌜ (r ≡ a * b) × (r ≤ 1048576) ⌝ }
+{
+    (a as u64) * (b as u64)
+}
+
 // What a point adds to the area: y·z·ax + x·z·ay + x·y·az.
 fn area_term(x: u16, y: u16, z: u16, p: u8) -> i64
     requires { ⌜ (x ≤ 1024) × (y ≤ 1024) × (z ≤ 1024) ⌝ }
     ensures { λ r. ⌜ (r ≡ areaTerm x y z (ofByte p)) × (natAbs r ≤ 4294967296) ⌝ }
 {
-    let i = x as u64;
-    let j = y as u64;
-    let k = z as u64;
     three(
-        j * k,
+        product(y, z),
         weight_ax(p),
-        i * k,
+        product(x, z),
         weight_ay(p),
-        i * j,
+        product(x, y),
         weight_az(p),
     )
 }
