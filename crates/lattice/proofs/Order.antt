@@ -8,7 +8,8 @@ use native.Mathlib.Nat.{zero-add, suc-add}
 use native.Mathlib.Omega.{arith}
 use Rattle.lattice.specs.Cells.{Cells}
 use Rattle.lattice.specs.Pattern.{around, byte, corner}
-use Rattle.lattice.specs.Listing.{Corner, join, here, corners, IsCorner, Precedes, All, Rising}
+use Rattle.lattice.specs.Sums.{join}
+use Rattle.lattice.specs.Listing.{Corner, here, corners, IsCorner, Precedes, All, Rising}
 
 -- ---- properties of all corners of a list
 pub all-map : (P Q : Corner → Type 0) → ((v : Corner) → P v → Q v) → (vs : List Corner) → All P vs → All Q vs

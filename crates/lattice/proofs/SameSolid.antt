@@ -12,11 +12,12 @@ use lib.Dec.{T, eqb, eqb→eq, eqb-refl}
 use lib.IntN.{ℤ, pos, _+ℤ_, _-ℤ_, negℤ, +ℤ-assoc, +ℤ-idl, +ℤ-idr, +ℤ-invr, negℤ-+ℤ, negℤ-negℤ}
 use lib.ListN.{length, getD}
 use lib.Seq.{ext-getD}
-use Rattle.lattice.specs.Sums.{sum}
+use Rattle.lattice.specs.Sums.{sum, join}
 use Rattle.lattice.specs.Cells.{Cells, Within, below, bit}
 use Rattle.lattice.specs.Pattern.{Pattern, around, byte, corner, w, Term}
-use Rattle.lattice.specs.Listing.{Corner, join, here, corners, listing, bytes, readBack, cornerSum, SameBytes}
+use Rattle.lattice.specs.Listing.{Corner, here, corners, listing, bytes, readBack, cornerSum, SameBytes}
 use Rattle.lattice.proofs.SumLaws.{fall, sum-ext, sum-zero}
+use Rattle.lattice.proofs.JoinLaws.{join-ext, join-nil, join-end}
 use Rattle.lattice.proofs.Inside.{outside-no-corner}
 use Rattle.lattice.proofs.PatternLaws.{no-corner-zero}
 use Rattle.lattice.proofs.PointSums.{signs-three}
@@ -74,19 +75,6 @@ solid-known s t h i j k = bit-known (s i j k) (t i j k) (by-z (suc i) (suc j) (s
     by-z x y = known-by-falls (count s x y) (count t x y) (simp none-z) (λ z. by-y x z y)
 
 -- ---- a wider field lists nothing more
-join-ext : (n : ℕ) {f g : ℕ → List Corner} → ((i : ℕ) → f i ≡ g i) → join n f ≡ join n g
-join-ext n h = ap (join n) (fun-ext h)
-
-pub join-nil : (n : ℕ) {f : ℕ → List Corner} → ((i : ℕ) → f i ≡ []) → join n f ≡ []
-unfolding join
-join-nil zero h = refl
-join-nil (suc n) h = rw (join-nil n h, h n)
-
-pub join-end : (n k : ℕ) (f : ℕ → List Corner) → ((i : ℕ) → n ≤ i → f i ≡ []) → join (k + n) f ≡ join n f
-unfolding join
-join-end n zero f h = rw zero-add
-join-end n (suc k) f h = rw (suc-add k n, h (k + n) (omega arith), append-nil) (join-end n k f h)
-
 -- a point that is no corner is not listed
 pub here-none : (s : Cells) (x y z : ℕ) → corner (around s x y z) ≡ false → here s x y z ≡ []
 unfolding here

@@ -7,7 +7,7 @@ use lib.IntN.{ℤ, pos, natAbs, _+ℤ_, _*ℤ_}
 use Rattle.lattice.specs.Pattern.{Pattern, w, ax, ay, az, ex, ey, ez}
 use Rattle.lattice.specs.Figures.{Figure, Volume, Area, EdgeLength, term}
 use Rattle.lattice.proofs.Integers.{natAbs-add, natAbs-mul}
-use Rattle.lattice.proofs.PatternLaws.{w-small, ax-small, ay-small, az-small, ex-small, ey-small, ez-small}
+use Rattle.lattice.proofs.PatternLaws.{weight-small}
 
 -- ---- products
 pub two-small : (x y : ℕ) → x ≤ 1024 → y ≤ 1024 → x * y ≤ 1048576
@@ -29,7 +29,7 @@ module _ (l m n : ℕ) (u v w : ℤ) (hl : l ≤ 1048576) (hm : m ≤ 1048576) (
 
 -- ---- the terms of a point
 pub term-small : (f : Figure) (x y z : ℕ) (p : Pattern) → x ≤ 1024 → y ≤ 1024 → z ≤ 1024 → natAbs (term f x y z p) ≤ 4294967296
-term-small Volume x y z p hx hy hz = scaled-small 1073741824 4 (x * y * z) (w p) (three-small x y z hx hy hz) (w-small p)
+term-small Volume x y z p hx hy hz = scaled-small 1073741824 4 (x * y * z) (w p) (three-small x y z hx hy hz) (weight-small 0 p)
 term-small Area x y z p hx hy hz =
-    sum-of-three (y * z) (x * z) (x * y) (ax p) (ay p) (az p) (two-small y z hy hz) (two-small x z hx hz) (two-small x y hx hy) (ax-small p) (ay-small p) (az-small p)
-term-small EdgeLength x y z p hx hy hz = sum-of-three x y z (ex p) (ey p) (ez p) (omega arith) (omega arith) (omega arith) (ex-small p) (ey-small p) (ez-small p)
+    sum-of-three (y * z) (x * z) (x * y) (ax p) (ay p) (az p) (two-small y z hy hz) (two-small x z hx hz) (two-small x y hx hy) (weight-small 1 p) (weight-small 2 p) (weight-small 3 p)
+term-small EdgeLength x y z p hx hy hz = sum-of-three x y z (ex p) (ey p) (ez p) (omega arith) (omega arith) (omega arith) (weight-small 4 p) (weight-small 5 p) (weight-small 6 p)

@@ -10,7 +10,8 @@ use native.Mathlib.Nat.{le-refl}
 use lib.ListN.{getD}
 use borrow.Author.Tests.{eq-eqb, ne-eqb, le-leb, lt-leb}
 use Rattle.lattice.specs.Shots.{Shot}
-use Rattle.lattice.specs.Listing.{Corner, join}
+use Rattle.lattice.specs.Sums.{join}
+use Rattle.lattice.specs.Listing.{Corner}
 use Rattle.lattice_sums.specs.CornerSums.{Room}
 use Rattle.lattice_sums.specs.declared.sums.CornerSums.{CornerSums}
 use Rattle.lattice_sums.proofs.CornerSumLaws.{room-more}

@@ -4,7 +4,8 @@ use mathlib.Core.List.{List}
 use Prim.Native.Nat.{ℕ, suc, _+_, _-_}
 use lib.ListN.{getD}
 use Rattle.lattice.specs.Shots.{Shot, cells}
-use Rattle.lattice.specs.Listing.{Corner, join, here}
+use Rattle.lattice.specs.Sums.{join}
+use Rattle.lattice.specs.Listing.{Corner, here}
 use Rattle.lattice_sums.specs.CornerSums.{Room}
 use Rattle.lattice.specs.Axes.{y-axis, NoFace}
 use Rattle.sweep_rows.specs.Runs.{InRun, shotsIn}

@@ -7,7 +7,7 @@ use mir.Syntax.{w8}
 use mir.Val.{toZ, ofZ}
 use Rattle.lattice.specs.Pattern.{ofByte, w, volumeTerm}
 use Rattle.lattice.specs.Figures.{Volume}
-use Rattle.lattice.proofs.PatternLaws.{w-small}
+use Rattle.lattice.proofs.PatternLaws.{weight-small}
 use Rattle.lattice.proofs.TermBounds.{two-small, three-small, term-small}
 use Rattle.lattice_sums.proofs.CornerSumLaws.{told8, told64}
 use borrow.Author.Needs.{needs}
@@ -27,7 +27,7 @@ weight-w-requires : tie.Need-weight-w-requires
 weight-w-requires c κs = search needs
 
 scaled-requires : tie.Need-scaled-requires
-scaled-requires c κs = (three-small (c .before .args .x) (c .before .args .y) (c .before .args .z) (c .before .pre .0) (c .before .pre .1) (c .before .pre .2), rw (weight c) (w-small (ofByte (c .before .args .p))))
+scaled-requires c κs = (three-small (c .before .args .x) (c .before .args .y) (c .before .args .z) (c .before .pre .0) (c .before .pre .1) (c .before .pre .2), rw (weight c) (weight-small 0 (ofByte (c .before .args .p))))
 
 returns : tie.Need-returns
 returns c = let e = told64 (c .scaled .ok) (c .scaled .ensures ∙ ap (λ v. pos (c .before .before .args .x * c .before .before .args .y * c .before .before .args .z) *ℤ v) (weight (c .before))) in (e, rw e (term-small Volume (c .before .before .args .x) (c .before .before .args .y) (c .before .before .args .z) (ofByte (c .before .before .args .p)) (c .before .before .pre .0) (c .before .before .pre .1) (c .before .before .pre .2)))
