@@ -1,17 +1,17 @@
 -- How large the figures of a field of at most 1,024 are: every partial corner sum fits 64 bits with its sign, and so does the figure.
-use mathlib.Core.Path.{_≡_, ap}
+use mathlib.Core.Path.{ap}
 use mathlib.Core.Bool.{Bool, true, false}
 use mathlib.Core.List.{List, [], _∷_}
 use Prim.Native.Nat.{ℕ, zero, suc, _*_, _^_, _<_, _≤_}
-use native.Mathlib.Nat.{mul-le-mul, le-trans}
+use native.Mathlib.Nat.{mul-le-mul, mul-one, le-trans, le-of-eq}
 use native.Mathlib.Omega.{arith}
 use lib.IntN.{natAbs}
 use lib.ListN.{length, take}
 use lib.Seq.{take-length}
 use Rattle.lattice.specs.Sums.{total}
-use Rattle.lattice.specs.Cells.{Cells, Within, most, bit}
+use Rattle.lattice.specs.Cells.{Cells, Within, fieldPoints, bit}
 use Rattle.lattice.specs.Pattern.{around, corner, ofByte}
-use Rattle.lattice.specs.Figures.{Figure, cellCount, term}
+use Rattle.lattice.specs.Figures.{Figure, cellCount, term, largestTerm}
 use Rattle.lattice.specs.Listing.{Corner, corners, cornerCount, IsCorner, All, over, termAt, cornerSum}
 use Rattle.lattice.proofs.Integers.{natAbs-add}
 use Rattle.lattice.proofs.SumLaws.{total-bound}
@@ -24,7 +24,7 @@ use Rattle.lattice.proofs.Agreement.{corner-sums}
 abbrev InReach : Corner → Type 0
 InReach v = (v .x ≤ 1024) × (v .y ≤ 1024) × (v .z ≤ 1024)
 
-sum-small : (f : Figure) (vs : List Corner) → All InReach vs → natAbs (cornerSum (term f) vs) ≤ length vs * 4294967296
+sum-small : (f : Figure) (vs : List Corner) → All InReach vs → natAbs (cornerSum (term f) vs) ≤ length vs * largestTerm
 unfolding cornerSum over
 sum-small f [] a = omega arith
 sum-small f (v ∷ vs) a =
@@ -40,32 +40,36 @@ all-take P zero vs a = (tt, omega arith)
 all-take P (suc k) [] a = (tt, omega arith)
 all-take P (suc k) (v ∷ vs) a = let r = all-take P k vs (a .1) in ((a .0, r .0), omega (arith, r .1))
 
--- ---- there are at most 1,025³ corners
+-- ---- there are no more corners than lattice points
 bit-le : (b : Bool) → bit b ≤ 1
 bit-le true = omega arith
 bit-le false = omega arith
 
-count-most : (n : ℕ) (s : Cells) → n ≤ 1024 → cornerCount n s ≤ most
+count-most : (n : ℕ) (s : Cells) → cornerCount n s ≤ fieldPoints n
 unfolding cornerCount
-count-most n s h =
+count-most n s =
     le-trans
     (total-bound (suc n * (suc n * 1)) (λ x. total (suc n) λ y. total (suc n) λ z. bit (corner (around s x y z))) (λ x.
     total-bound (suc n * 1) (λ y. total (suc n) λ z. bit (corner (around s x y z))) (λ y.
     total-bound 1 (λ z. bit (corner (around s x y z))) (λ z. bit-le (corner (around s x y z))) (suc n)) (suc n)) (suc n))
-    (mul-le-mul {n₂ = 1025} (omega arith) (mul-le-mul {n₂ = 1025} (omega arith) (mul-le-mul {n₂ = 1025} {m₂ = 1} (omega arith) (omega arith))))
+    (le-of-eq (rw mul-one))
+
+-- a field has no more points than a wider one
+points-up : (n m : ℕ) → n ≤ m → fieldPoints n ≤ fieldPoints m
+points-up n m h = let l : suc n ≤ suc m = omega arith in mul-le-mul l (mul-le-mul l l)
 
 module _ (n : ℕ) (s : Cells) (small : n ≤ 1024) where
   reach : All InReach (corners n s)
   reach = all-map (IsCorner n s) InReach (λ v c. (omega (arith, c .x-in), omega (arith, c .y-in), omega (arith, c .z-in))) (corners n s) (corners-are s n)
 
-  pub corners-fit : length (corners n s) ≤ most
-  corners-fit = omega (arith, length-corners n s, count-most n s small)
+  pub corners-fit : length (corners n s) ≤ fieldPoints 1024
+  corners-fit = le-trans (le-of-eq (length-corners n s)) (le-trans (count-most n s) (points-up n 1024 small))
 
   module _ (f : Figure) where
-    partial : (k : ℕ) → natAbs (cornerSum (term f) (take k (corners n s))) ≤ most * 4294967296
+    partial : (k : ℕ) → natAbs (cornerSum (term f) (take k (corners n s))) ≤ fieldPoints 1024 * largestTerm
     partial k =
         let r = all-take InReach k (corners n s) reach in
-        le-trans (sum-small f (take k (corners n s)) (r .0)) (mul-le-mul {n₂ = most} {m₂ = 4294967296} (omega (arith, r .1, corners-fit)) (omega arith))
+        le-trans (sum-small f (take k (corners n s)) (r .0)) (mul-le-mul {n₂ = fieldPoints 1024} {m₂ = largestTerm} (omega (arith, r .1, corners-fit)) (omega arith))
 
     -- the sum over the first k corners, whatever k is, is below 2⁶³
     pub partial-fits : (k : ℕ) → natAbs (cornerSum (term f) (take k (corners n s))) < 2 ^ 63

@@ -1,7 +1,7 @@
 -- A solid that lies within a field has no cell past the field's sides; the points outside have the empty pattern, and are no corners.
 use mathlib.Core.Path.{_≡_, refl, _∙_, ap, fun-ext}
 use mathlib.Core.Bool.{Bool, true, false}
-use Prim.Native.Nat.{ℕ, zero, suc, _<_, _≤_}
+use Prim.Native.Nat.{ℕ, zero, suc, _≤_}
 use native.Mathlib.Omega.{arith}
 use lib.Dec.{T}
 use Rattle.lattice.specs.Cells.{Cells, Within, below, up}

@@ -1,15 +1,15 @@
 -- The listing: what is read back from its bytes, its length, and sums over its corners.
-use mathlib.Core.Path.{_≡_, refl, sym, _∙_, ap, fun-ext}
+use mathlib.Core.Path.{_≡_, refl, sym, _∙_, ap}
 use mathlib.Core.Bool.{Bool, true, false, cond}
-use mathlib.Core.List.{List, [], _∷_, _++_, append-assoc}
-use Prim.Native.Nat.{ℕ, zero, suc, _+_, _*_, _/_, _%_, _≤_}
-use native.Mathlib.Nat.{zero-mul, suc-mul, mul-zero}
+use mathlib.Core.List.{List, [], _∷_, _++_}
+use Prim.Native.Nat.{ℕ, zero, suc, _+_, _*_, _/_, _%_}
+use native.Mathlib.Nat.{mul-zero}
 use native.Mathlib.Omega.{arith}
-use lib.IntN.{ℤ, pos, natAbs, _+ℤ_, _*ℤ_, +ℤ-assoc, +ℤ-idl, +ℤ-idr, *ℤ-zero}
-use lib.ListN.{length, length-append}
-use Rattle.lattice.specs.Sums.{total, sum, join}
+use lib.IntN.{ℤ, pos, _+ℤ_, _*ℤ_, +ℤ-assoc, +ℤ-idl, +ℤ-idr, *ℤ-zero}
+use lib.ListN.{length}
+use Rattle.lattice.specs.Sums.{sum, join}
 use Rattle.lattice.specs.Cells.{Cells, bit}
-use Rattle.lattice.specs.Pattern.{Pattern, around, byte, ofByte, corner, Term}
+use Rattle.lattice.specs.Pattern.{Pattern, around, byte, corner, Term}
 use Rattle.lattice.specs.Figures.{Figure, Volume, Area, EdgeLength, term}
 use Rattle.lattice.specs.Listing.{Corner, here, corners, cornerCount, cornerRecord, bytes, listing, readBack, over, termAt, cornerSum}
 use Rattle.lattice.proofs.SumLaws.{sum-ext, total-ext}

@@ -1,10 +1,9 @@
 -- Patterns and their bytes, the range of the weights, and which patterns are corners: those that change across every axis.
-use mathlib.Core.Path.{_≡_, refl, sym, _∙_, ap, subst, fun-ext}
+use mathlib.Core.Path.{_≡_, refl, _∙_, ap, subst, fun-ext}
 use mathlib.Core.Bool.{Bool, true, false, _&&_, _||_, not, and-false}
 use mathlib.Core.List.{List, [], _∷_}
-use Prim.Native.Nat.{ℕ, zero, suc, zero-le, _+_, _*_, _/_, _%_, _^_, _<_, _≤_}
-use native.Mathlib.Omega.{arith}
-use lib.Dec.{T, eqb, eqb→eq, ltb, ltb→lt, leb, leb→le}
+use Prim.Native.Nat.{ℕ, zero, suc, zero-le, _<_, _≤_}
+use lib.Dec.{T, eqb, eqb→eq, leb, leb→le}
 use lib.IntN.{ℤ, pos, negsuc, natAbs}
 use lib.ListN.{getD}
 use Rattle.lattice.specs.Pattern.{Pattern, byte, ofByte, w, ax, ay, az, ex, ey, ez, weights, isZero, someNonzero, corner}

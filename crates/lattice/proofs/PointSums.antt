@@ -1,10 +1,10 @@
 -- Over all lattice points of a field the weighted sums are the totals: volume, area by any count of two cells, length by any count of four.
-use mathlib.Core.Path.{_≡_, refl, sym, _∙_, ap, ap₂, fun-ext}
+use mathlib.Core.Path.{_≡_, refl, sym, _∙_, ap, ap₂}
 use mathlib.Core.Bool.{Bool, true, false}
-use Prim.Native.Nat.{ℕ, zero, suc, _+_, _*_, _≤_}
+use Prim.Native.Nat.{ℕ, suc, _+_, _*_}
 use native.Mathlib.Nat.{one-mul, mul-one}
-use lib.IntN.{ℤ, pos, negsuc, _+ℤ_, _-ℤ_, _*ℤ_}
-use Rattle.lattice.specs.Sums.{total, sum}
+use lib.IntN.{ℤ, pos, _+ℤ_, _-ℤ_, _*ℤ_}
+use Rattle.lattice.specs.Sums.{sum}
 use Rattle.lattice.specs.Cells.{Cells, Within, below, up, bit, volume, OfTwo, areaBy, square, OfFour, lengthBy, edge}
 use Rattle.lattice.specs.Pattern.{Pattern, around, sign, both, w, ax, ay, az, ex, ey, ez, across-x, across-y, across-z, along-x, along-y, along-z, volumeTerm}
 use Rattle.lattice.specs.Figures.{Figure, Volume, Area, EdgeLength, cellCount, term}

@@ -3,8 +3,8 @@
 use mathlib.Core.Path.{_≡_, refl, sym, _∙_, ap, subst, fun-ext}
 use mathlib.Core.Bool.{Bool, true, false, cond}
 use mathlib.Core.Logic.{_↔_}
-use mathlib.Core.List.{List, [], _∷_, _++_, append-nil}
-use Prim.Native.Nat.{ℕ, zero, suc, _+_, _-_, _<_, _≤_}
+use mathlib.Core.List.{[], _∷_}
+use Prim.Native.Nat.{ℕ, zero, suc, _+_, _-_, _≤_}
 use native.Mathlib.Nat.{add-comm, zero-add, suc-add, add-suc}
 use native.Mathlib.Decide.{decLe}
 use native.Mathlib.Omega.{arith}
@@ -14,8 +14,8 @@ use lib.ListN.{length, getD}
 use lib.Seq.{ext-getD}
 use Rattle.lattice.specs.Sums.{sum, join}
 use Rattle.lattice.specs.Cells.{Cells, Within, below, bit}
-use Rattle.lattice.specs.Pattern.{Pattern, around, byte, corner, w, Term}
-use Rattle.lattice.specs.Listing.{Corner, here, corners, listing, bytes, readBack, cornerSum, SameBytes}
+use Rattle.lattice.specs.Pattern.{around, byte, corner, w, Term}
+use Rattle.lattice.specs.Listing.{here, corners, listing, bytes, readBack, cornerSum, SameBytes}
 use Rattle.lattice.proofs.SumLaws.{fall, sum-ext, sum-zero}
 use Rattle.lattice.proofs.JoinLaws.{join-ext, join-nil, join-end}
 use Rattle.lattice.proofs.Inside.{outside-no-corner}

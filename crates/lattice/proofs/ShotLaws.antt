@@ -3,10 +3,10 @@ use mathlib.Core.Path.{_≡_, refl, sym, _∙_, ap, ap₂, fun-ext}
 use mathlib.Core.Logic.{_≢_}
 use mathlib.Core.Bool.{Bool, true, false, _&&_, _||_, and-false}
 use mathlib.Core.List.{List, [], _∷_}
-use Prim.Native.Nat.{ℕ, zero, suc, _+_, _<_, _≤_}
+use Prim.Native.Nat.{ℕ, zero, suc, _+_, _<_}
 use native.Mathlib.Omega.{arith}
 use lib.Dec.{T, leb, ltb, leb→le, le→leb, ltb→lt, lt→ltb}
-use Rattle.lattice.specs.Cells.{Cells, Within, below, up}
+use Rattle.lattice.specs.Cells.{Within, below, up}
 use Rattle.lattice.specs.Pattern.{around, corner}
 use Rattle.lattice.specs.Shots.{Shot, spans, covers, cells, any, InField, AllInField}
 use Rattle.lattice.specs.Axes.{Axis, x-axis, y-axis, z-axis, start, placeOn, NoFace}

@@ -20,3 +20,7 @@ abbrev pub term : Figure → Term
 term Volume = volumeTerm
 term Area = areaTerm
 term EdgeLength = edgeTerm
+
+-- no term of a point in a field of 1,024 is larger than 4 · 1,024³
+abbrev pub largestTerm : ℕ
+largestTerm = 4294967296

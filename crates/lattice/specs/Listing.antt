@@ -1,14 +1,14 @@
 -- The corner points of a field, their listing, and the sums over them: document 01, 'Corner points'.
 use mathlib.Core.Path.{_≡_}
 use mathlib.Core.Logic.{_⊎_}
-use mathlib.Core.Bool.{Bool, true, false, cond}
+use mathlib.Core.Bool.{true, cond}
 use mathlib.Core.List.{List, [], _∷_, _++_}
-use Prim.Native.Nat.{ℕ, zero, suc, _+_, _*_, _/_, _%_, _<_, _≤_}
+use Prim.Native.Nat.{ℕ, suc, _+_, _*_, _/_, _%_, _<_, _≤_}
 use lib.IntN.{ℤ, pos, _+ℤ_}
 use lib.ListN.{length, getD}
 use Rattle.lattice.specs.Sums.{total, join}
 use Rattle.lattice.specs.Cells.{Cells, bit}
-use Rattle.lattice.specs.Pattern.{Pattern, around, byte, ofByte, corner, Term}
+use Rattle.lattice.specs.Pattern.{around, byte, ofByte, corner, Term}
 
 -- a corner point with its pattern byte
 pub record Corner : Type 0 where

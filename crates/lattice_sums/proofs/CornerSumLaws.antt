@@ -1,7 +1,7 @@
 -- The corner sums: no term of a field of 1,024 is larger than 2³², so that the sums over all its points fit 64 bits.
 use mathlib.Core.Path.{_≡_, refl, sym, _∙_, ap, ap₂, subst, fun-ext}
 use mathlib.Core.List.{List, [], _∷_, _++_}
-use Prim.Native.Nat.{ℕ, zero, suc, _+_, _*_, _<_, _≤_}
+use Prim.Native.Nat.{ℕ, _+_, _-_, _*_, _<_, _≤_}
 use native.Mathlib.Omega.{arith}
 use lib.IntN.{ℤ, pos, natAbs, _+ℤ_, _*ℤ_, +ℤ-idr}
 use lib.ListN.{length, length-append}
@@ -10,11 +10,11 @@ use lib.Signed.{mag, nonNeg}
 use mir.Syntax.{w8, w64}
 use mir.Val.{Fits, SFits, toZ, ofZ}
 use mir.Facts.{toZ-ofZ, toZ-pos}
-use Rattle.lattice.specs.Cells.{Cells, Within}
+use Rattle.lattice.specs.Cells.{Cells, Within, fieldPoints}
 use Rattle.lattice.specs.Pattern.{ofByte, Term}
-use Rattle.lattice.specs.Figures.{Figure, Volume, Area, EdgeLength, cellCount, term}
+use Rattle.lattice.specs.Figures.{Figure, Volume, Area, EdgeLength, cellCount, term, largestTerm}
 use Rattle.lattice.specs.Listing.{Corner, corners, termAt, over, cornerSum}
-use Rattle.lattice_sums.specs.CornerSums.{sumIn, value, sumsBy, sumsOf, added, Room, Whole, totalsOf}
+use Rattle.lattice_sums.specs.CornerSums.{sumIn, value, sumsBy, sumsOf, added, Room, RoomFor, Whole, totalsOf}
 use Rattle.lattice_sums.specs.declared.sums.Totals.{Totals}
 use Rattle.lattice_sums.specs.declared.sums.CornerSums.{CornerSums}
 use Rattle.lattice.proofs.Integers.{natAbs-add}
@@ -55,11 +55,11 @@ module _ (n : ℕ) (v : ℤ) (hn : n ≤ 1073741824) (hv : natAbs v ≤ 4) where
 
 -- ---- one corner more
 -- a sum of n terms with one more
-pub sum-room : (n : ℕ) (s t : ℤ) → natAbs s ≤ n * 4294967296 → natAbs t ≤ 4294967296 → natAbs (s +ℤ t) ≤ (n + 1) * 4294967296
+pub sum-room : (n : ℕ) (s t : ℤ) → natAbs s ≤ n * largestTerm → natAbs t ≤ largestTerm → natAbs (s +ℤ t) ≤ (n + 1) * largestTerm
 sum-room n s t hs ht = omega (arith, natAbs-add s t, hs, ht)
 
 -- a sum with room for one more term, as the code takes it
-module _ (s t : ℤ) (hs : natAbs s ≤ 4625210011449032704) (ht : natAbs t ≤ 4294967296) (kt : mag t < 9223372036854775808) where
+module _ (s t : ℤ) (hs : natAbs s ≤ (fieldPoints 1024 - 1) * largestTerm) (ht : natAbs t ≤ largestTerm) (kt : mag t < 9223372036854775808) where
   sum-fits : SFits w64 s
   sum-fits = fits64 s (omega arith)
 
@@ -69,7 +69,7 @@ module _ (s t : ℤ) (hs : natAbs s ≤ 4625210011449032704) (ht : natAbs t ≤ 
   pub sum-told : {r v : ℤ} → mag r < 9223372036854775808 → r ≡ toZ w64 (ofZ w64 s) +ℤ toZ w64 (ofZ w64 t) → t ≡ v → toZ w64 (ofZ w64 r) ≡ s +ℤ v
   sum-told kr e k = told64 kr (e ∙ ap₂ _+ℤ_ (toZ-ofZ sum-fits) (told64 kt k))
 
-pub sum-bound : (f : Figure) (t : CornerSums) → Room t 1076890624 → natAbs (sumIn f t) ≤ 4625210011449032704
+pub sum-bound : (f : Figure) (t : CornerSums) → RoomFor 1 t → natAbs (sumIn f t) ≤ (fieldPoints 1024 - 1) * largestTerm
 sum-bound f t r = omega (arith, r .sum-in f, r .few)
 
 -- ---- sums by figure

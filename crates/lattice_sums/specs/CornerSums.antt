@@ -1,11 +1,11 @@
 -- The corner sums as they are taken, point after point, and the totals that they come to: document 01, 'Corner points'.
 use mathlib.Core.Path.{_≡_}
 use mathlib.Core.List.{List}
-use Prim.Native.Nat.{ℕ, _+_, _*_, _≤_}
+use Prim.Native.Nat.{ℕ, _+_, _-_, _*_, _≤_}
 use lib.IntN.{ℤ, pos, natAbs, _+ℤ_}
 use lib.ListN.{length}
-use Rattle.lattice.specs.Cells.{Cells, volume, area, edgeLength}
-use Rattle.lattice.specs.Figures.{Figure, Volume, Area, EdgeLength, term}
+use Rattle.lattice.specs.Cells.{Cells, fieldPoints, volume, area, edgeLength}
+use Rattle.lattice.specs.Figures.{Figure, Volume, Area, EdgeLength, term, largestTerm}
 use Rattle.lattice.specs.Listing.{Corner, cornerCount, termAt, cornerSum}
 use Rattle.lattice_sums.specs.declared.sums.CornerSums.{CornerSums}
 use Rattle.lattice_sums.specs.declared.sums.Totals.{Totals}
@@ -36,8 +36,12 @@ added t v = sumsBy (λ f. sumIn f t +ℤ termAt (term f) v) (t .corners + 1)
 
 -- no sum is larger than so many corners of a field of 1,024 allow, and there are at most n of them
 pub record Room (t : CornerSums) (n : ℕ) : Type 0 where
-  pub sum-in : (f : Figure) → natAbs (sumIn f t) ≤ t .corners * 4294967296
+  pub sum-in : (f : Figure) → natAbs (sumIn f t) ≤ t .corners * largestTerm
   pub few : t .corners ≤ n
+
+-- there is room for k corners more, in a field of 1,024
+abbrev pub RoomFor : ℕ → CornerSums → Type 0
+RoomFor k t = Room t (fieldPoints 1024 - k)
 
 -- sums, and the totals that they come to
 pub record Whole (t : CornerSums) (r : Totals) : Type 0 where

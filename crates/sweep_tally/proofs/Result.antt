@@ -1,7 +1,7 @@
 -- What is found at the end: the sums of all corners met, and, where the buffer has room for them all, their records and then what was there.
 use mathlib.Core.Path.{_≡_, refl, sym, _∙_, ap, ap₂}
 use mathlib.Core.List.{List, [], _∷_, _++_, append-nil, append-assoc}
-use Prim.Native.Nat.{ℕ, suc, _+_, _*_, _/_, _<_, _≤_}
+use Prim.Native.Nat.{ℕ, suc, _+_, _*_, _/_, _≤_}
 use native.Mathlib.Nat.{add-zero, zero-add}
 use native.Mathlib.Omega.{arith}
 use lib.ListN.{length, take, drop, length-append, length-drop}
@@ -11,7 +11,7 @@ use Rattle.lattice.specs.Listing.{Corner, cornerRecord, bytes}
 use Rattle.lattice_sums.specs.CornerSums.{sumsOf, added}
 use Rattle.lattice_sums.specs.declared.sums.CornerSums.{CornerSums}
 use Rattle.lattice_sums.proofs.CornerSumLaws.{sums-more}
-use Rattle.sweep_tally.specs.Found.{stored, Found, state, meet, found}
+use Rattle.sweep_tally.specs.Found.{stored, state, meet, found}
 
 -- ---- the sums
 found-more : (ms vs : List Corner) (b : List ℕ) → found (state (sumsOf ms) b) vs .sums ≡ sumsOf (ms ++ vs)

@@ -4,7 +4,7 @@ ghost use mathlib.Core.List.{_++_};
 ghost use Prim.Native.Nat.{_+_, _≤_};
 ghost use lib.ListN.{length, take, drop};
 ghost use Rattle.lattice.specs.Listing.{cornerRecord};
-ghost use Rattle.lattice_sums.specs.CornerSums.{Room};
+ghost use Rattle.lattice_sums.specs.CornerSums.{RoomFor};
 ghost use Rattle.sweep_tally.specs.Found.{at, spot, stored, state, found};
 use lattice_sums::edges::is_corner;
 use lattice_sums::sums::CornerSums;
@@ -35,7 +35,7 @@ fn put(buf: &mut [u8], n: usize, x: u16, y: u16, z: u16, p: u8)
 
 // One point more, of pattern p: a corner is added to the sums, and its record stored where there is room.
 pub fn point(t: CornerSums, buf: &mut [u8], x: u16, y: u16, z: u16, p: u8) -> CornerSums
-    requires { ⌜ (x ≤ 1024) × (y ≤ 1024) × (z ≤ 1024) × Room t 1076890624 ⌝ }
+    requires { ⌜ (x ≤ 1024) × (y ≤ 1024) × (z ≤ 1024) × RoomFor 1 t ⌝ }
     ensures { λ r. ⌜ state r (now (buf .exit)) ≡ found (state t (now (buf .entry))) (spot x y z p) ⌝ }
 {
     if is_corner(p) {

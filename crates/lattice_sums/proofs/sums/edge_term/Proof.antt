@@ -1,8 +1,6 @@
 -- The coordinates are at most 1,024, and the weights at most 2.
-use mathlib.Core.Path.{_≡_, _∙_, ap}
-use Prim.Native.Nat.{_*_}
+use mathlib.Core.Path.{_≡_, _∙_}
 use native.Mathlib.Omega.{arith}
-use lib.IntN.{pos, _+ℤ_, _*ℤ_}
 use mir.Syntax.{w8}
 use mir.Val.{toZ, ofZ}
 use Rattle.lattice.specs.Pattern.{ofByte, ex, ey, ez, edgeTerm}

@@ -5,7 +5,7 @@ use native.Mathlib.Omega.{arith}
 use lib.IntN.{pos, _*ℤ_}
 use mir.Syntax.{w8}
 use mir.Val.{toZ, ofZ}
-use Rattle.lattice.specs.Pattern.{ofByte, w, volumeTerm}
+use Rattle.lattice.specs.Pattern.{ofByte, w}
 use Rattle.lattice.specs.Figures.{Volume}
 use Rattle.lattice.proofs.PatternLaws.{weight-small}
 use Rattle.lattice.proofs.TermBounds.{two-small, three-small, term-small}
