@@ -32,10 +32,10 @@ int main(int count, char **arguments) {
         return heqdanu_measure(list.field, list.edge, list.grid, coords, ncoords, work, nwork, answer, HEQDANU_ANSWER);
     };
     uint32_t none = 0;
-    answered(measure(&none, 0), HEQDANU_WORK_SHORT);
+    answered(measure(&none, 0), HEQDANU_SHORT_WORK);
     std::vector<uint32_t> work(answer[1]);
     if (call == "need")
-        return report(patience, [&] { return answered(measure(&none, 0), HEQDANU_WORK_SHORT); });
+        return report(patience, [&] { return answered(measure(&none, 0), HEQDANU_SHORT_WORK); });
     if (call == "measure") return report(patience, [&] { return answered(measure(work.data(), work.size())); });
     if (call == "list") {
         std::vector<uint8_t> listing(HEQDANU_RECORD * answered(measure(work.data(), work.size())).corners + 1);

@@ -43,18 +43,18 @@ extern "C" {
  * condition holds; the reader takes the file record by record, and the first faulty record decides. */
 enum {
     HEQDANU_ACCEPTED = 0,
-    HEQDANU_NOT_THREES = 1,       /* ncoords is not a multiple of 3; 0 */
+    HEQDANU_BROKEN_SHOT = 1,      /* ncoords is not a multiple of 3; 0 */
     HEQDANU_TOO_MANY_SHOTS = 2,   /* more than 4,096 shots; 0, for the reader the offset of the 4,097th shot's map */
-    HEQDANU_NO_PLACES = 3,        /* no three places left in coords for the shot that begins; its map's offset */
+    HEQDANU_NO_PLACE = 3,         /* no three places left in coords for the shot that begins; its map's offset */
     HEQDANU_UNKNOWN_BIT = 4,      /* a map has a bit above bit 2; the map's offset */
-    HEQDANU_CUT_FILE = 5,         /* the file ends inside a record, or is empty; that record's map's offset, 0 if empty */
-    HEQDANU_FIELD = 6,            /* field is out of range; 0 */
-    HEQDANU_EDGE = 7,             /* edge is out of range; 0 */
-    HEQDANU_GRID = 8,             /* grid is out of range or does not divide field; 0 */
-    HEQDANU_OUTSIDE = 9,          /* a shot leaves the field; the first such shot, counted from 0 */
-    HEQDANU_WORK_SHORT = 10,      /* the work slice is too short; the entries needed */
-    HEQDANU_LISTING_SHORT = 11,   /* the listing is shorter than 7 times the corner count; the corners */
-    HEQDANU_BYTES_SHORT = 12      /* the byte buffer is shorter than the file; the bytes needed */
+    HEQDANU_CUT_SHORT = 5,        /* the file ends inside a record, or is empty; that record's map's offset, 0 if empty */
+    HEQDANU_FIELD_RANGE = 6,      /* field is out of range; 0 */
+    HEQDANU_EDGE_RANGE = 7,       /* edge is out of range; 0 */
+    HEQDANU_GRID_RANGE = 8,       /* grid is out of range or does not divide field; 0 */
+    HEQDANU_OUTSIDE_FIELD = 9,    /* a shot leaves the field; the first such shot, counted from 0 */
+    HEQDANU_SHORT_WORK = 10,      /* the work slice is too short; the entries needed */
+    HEQDANU_SHORT_LISTING = 11,   /* the listing is shorter than 7 times the corner count; the corners */
+    HEQDANU_SHORT_FILE = 12       /* the byte buffer is shorter than the file; the bytes needed */
 };
 
 /* Places of `answer` that the calls need: all calls but heqdanu_write, and heqdanu_write. */

@@ -86,7 +86,7 @@ pub fn measure(list: &List, work: &mut [u32]) -> Result<Totals, Refusal> {
 }
 
 /// Measures a list and stores its corner points, [`RECORD`] bytes each, in the first bytes of `listing`. Success and
-/// [`Reason::ListingShort`] leave the grid index in the first entries of `work`; nothing else changes.
+/// [`Reason::ShortListing`] leave the grid index in the first entries of `work`; nothing else changes.
 pub fn list(list: &List, work: &mut [u32], listing: &mut [u8]) -> Result<Totals, Refusal> {
     let mut answer = [0; 6];
     // SAFETY: each pointer comes from a slice with the length beside it, and no two of them overlap.
@@ -178,7 +178,7 @@ pub fn write(list: &List, bytes: &mut [u8]) -> Result<usize, Refusal> {
 /// The work entries that a list needs.
 pub fn work_needed(list: &List) -> Result<usize, Refusal> {
     match measure(list, &mut []) {
-        Err(Refusal { reason: Reason::WorkShort, detail }) => Ok(detail as usize),
+        Err(Refusal { reason: Reason::ShortWork, detail }) => Ok(detail as usize),
         Err(refusal) => Err(refusal),
         Ok(_) => unreachable!("an index has at least two entries"),
     }
