@@ -10,7 +10,8 @@ use lib.Dec.{eqb, ltb}
 use lib.ListN.{length, getD, take, drop, length-append, take-append-drop, List·getD-append}
 use lib.Seq.{take-suc, getD-at}
 use borrow.Author.Tests.{ltb-true, ltb-false, eqb-true, eqb-false, lt-ltb, le-ltb, eq-eqb}
-use Rattle.grid.specs.Numbers.{upTo, those, joined, AllBelow, has}
+use Rattle.lattice.specs.Sums.{join}
+use Rattle.grid.specs.Numbers.{upTo, those, AllBelow, has}
 
 -- ---- counting up
 
@@ -104,46 +105,46 @@ module _ (n : ℕ) where
 -- ---- joining
 
 module _ (f : ℕ → List ℕ) where
-  pub joined-next : (n : ℕ) → joined (n + 1) f ≡ joined n f ++ f n
-  unfolding joined
-  joined-next n = rw (add-one n)
+  pub join-next : (n : ℕ) → join (n + 1) f ≡ join n f ++ f n
+  unfolding join
+  join-next n = rw (add-one n)
 
-  pub joined-add : (n k : ℕ) → joined (n + k) f ≡ joined n f ++ joined k (λ j. f (n + j))
-  unfolding joined
-  joined-add n zero = rw (add-zero n) (sym (append-nil (joined n f)))
-  joined-add n (suc k) = rw (add-suc n k, joined-add n k) (append-assoc (joined n f) (joined k (λ j. f (n + j))) (f (n + k)))
+  pub join-add : (n k : ℕ) → join (n + k) f ≡ join n f ++ join k (λ j. f (n + j))
+  unfolding join
+  join-add n zero = rw (add-zero n) (sym (append-nil (join n f)))
+  join-add n (suc k) = rw (add-suc n k, join-add n k) (append-assoc (join n f) (join k (λ j. f (n + j))) (f (n + k)))
 
-  pub joined-length-next : (n : ℕ) → length (joined (n + 1) f) ≡ length (joined n f) + length (f n)
-  joined-length-next n = ap length (joined-next n) ∙ length-append (joined n f) (f n)
+  pub join-length-next : (n : ℕ) → length (join (n + 1) f) ≡ length (join n f) + length (f n)
+  join-length-next n = ap length (join-next n) ∙ length-append (join n f) (f n)
 
-  pub joined-length-up : (n m : ℕ) → n ≤ m → length (joined n f) ≤ length (joined m f)
-  joined-length-up n m h =
+  pub join-length-up : (n m : ℕ) → n ≤ m → length (join n f) ≤ length (join m f)
+  join-length-up n m h =
       let e : n + (m - n) ≡ m = omega arith in
-      omega (arith, ap (λ (k : ℕ). length (joined k f)) e, ap length (joined-add n (m - n)), length-append (joined n f) (joined (m - n) (λ j. f (n + j))))
+      omega (arith, ap (λ (k : ℕ). length (join k f)) e, ap length (join-add n (m - n)), length-append (join n f) (join (m - n) (λ j. f (n + j))))
 
-  pub joined-length-most : (k : ℕ) → ((i : ℕ) → length (f i) ≤ k) → (n : ℕ) → length (joined n f) ≤ n * k
-  unfolding joined
-  joined-length-most k h zero = omega (arith, zero-mul k)
-  joined-length-most k h (suc n) = omega (arith, length-append (joined n f) (f n), h n, joined-length-most k h n, suc-mul n k)
+  pub join-length-most : (k : ℕ) → ((i : ℕ) → length (f i) ≤ k) → (n : ℕ) → length (join n f) ≤ n * k
+  unfolding join
+  join-length-most k h zero = omega (arith, zero-mul k)
+  join-length-most k h (suc n) = omega (arith, length-append (join n f) (f n), h n, join-length-most k h n, suc-mul n k)
 
 -- single numbers: number g of the series is its g-th list's one element
 module _ (f : ℕ → ℕ) where
-  pub singles-length : (n : ℕ) → length (joined n (λ g. f g ∷ [])) ≡ n
-  unfolding joined
+  pub singles-length : (n : ℕ) → length (join n (λ g. f g ∷ [])) ≡ n
+  unfolding join
   singles-length zero = refl
-  singles-length (suc n) = omega (arith, length-append (joined n (λ g. f g ∷ [])) (f n ∷ []), singles-length n)
+  singles-length (suc n) = omega (arith, length-append (join n (λ g. f g ∷ [])) (f n ∷ []), singles-length n)
 
-  pub singles-at : (n g : ℕ) → g < n → getD (joined n (λ g. f g ∷ [])) g 0 ≡ f g
-  unfolding joined
+  pub singles-at : (n g : ℕ) → g < n → getD (join n (λ g. f g ∷ [])) g 0 ≡ f g
+  unfolding join
   singles-at zero g h = absurd (omega arith)
   singles-at (suc n) g h = one (ltb g n) refl (singles-at n g)
     where
-      one : (b : Bool) → ltb g n ≡ b → (g < n → getD (joined n (λ g. f g ∷ [])) g 0 ≡ f g) → getD (joined n (λ g. f g ∷ []) ++ f n ∷ []) g 0 ≡ f g
+      one : (b : Bool) → ltb g n ≡ b → (g < n → getD (join n (λ g. f g ∷ [])) g 0 ≡ f g) → getD (join n (λ g. f g ∷ []) ++ f n ∷ []) g 0 ≡ f g
       one true e before =
-          List·getD-append (joined n (λ g. f g ∷ [])) (f n ∷ []) 0 g (omega (arith, singles-length n, ltb-true g n e)) ∙ before (ltb-true g n e)
+          List·getD-append (join n (λ g. f g ∷ [])) (f n ∷ []) 0 g (omega (arith, singles-length n, ltb-true g n e)) ∙ before (ltb-true g n e)
       one false e before =
           let last : g ≡ n = omega (arith, ltb-false g n e) in
-          rw last (getD-at (joined n (λ g. f g ∷ [])) (f n) [] 0 n (singles-length n))
+          rw last (getD-at (join n (λ g. f g ∷ [])) (f n) [] 0 n (singles-length n))
 
 -- ---- membership
 
@@ -153,23 +154,23 @@ module _ (a : ℕ) where
   has-append [] m = refl
   has-append (b ∷ l) m = rw (has-append l m) (sym (or-assoc (eqb a b) (has l a) (has m a)))
 
-  -- a member of one list of a series is a member of the joined series, and the other way round
-  pub has-joined : (f : ℕ → List ℕ) (n g : ℕ) → g < n → has (f g) a ≡ true → has (joined n f) a ≡ true
-  unfolding joined
-  has-joined f zero g h e = absurd (omega arith)
-  has-joined f (suc n) g h e = has-append (joined n f) (f n) ∙ one (ltb g n) refl (λ l. has-joined f n g l e)
+  -- a member of one list of a series is a member of the join series, and the other way round
+  pub has-join : (f : ℕ → List ℕ) (n g : ℕ) → g < n → has (f g) a ≡ true → has (join n f) a ≡ true
+  unfolding join
+  has-join f zero g h e = absurd (omega arith)
+  has-join f (suc n) g h e = has-append (join n f) (f n) ∙ one (ltb g n) refl (λ l. has-join f n g l e)
     where
-      one : (b : Bool) → ltb g n ≡ b → (g < n → has (joined n f) a ≡ true) → (has (joined n f) a || has (f n) a) ≡ true
+      one : (b : Bool) → ltb g n ≡ b → (g < n → has (join n f) a ≡ true) → (has (join n f) a || has (f n) a) ≡ true
       one true t before = rw (before (ltb-true g n t))
       one false t before =
           let last : n ≡ g = omega (arith, ltb-false g n t) in
-          rw (last, e) (or-true (has (joined g f) a))
+          rw (last, e) (or-true (has (join g f) a))
 
-  pub has-joined-none : (f : ℕ → List ℕ) (n : ℕ) → ((g : ℕ) → g < n → has (f g) a ≡ false) → has (joined n f) a ≡ false
-  unfolding joined has
-  has-joined-none f zero h = refl
-  has-joined-none f (suc n) h =
-      has-append (joined n f) (f n) ∙ rw (has-joined-none f n (λ g l. h g (omega arith)), h n (omega arith))
+  pub has-join-none : (f : ℕ → List ℕ) (n : ℕ) → ((g : ℕ) → g < n → has (f g) a ≡ false) → has (join n f) a ≡ false
+  unfolding join has
+  has-join-none f zero h = refl
+  has-join-none f (suc n) h =
+      has-append (join n f) (f n) ∙ rw (has-join-none f n (λ g l. h g (omega arith)), h n (omega arith))
 
   -- a number as a list, or nothing
   has-same : (b : Bool) → has (cond b (a ∷ []) []) a ≡ b

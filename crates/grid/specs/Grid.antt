@@ -6,11 +6,11 @@ use mathlib.Core.List.{List, [], _∷_, _++_}
 use Prim.Native.Nat.{ℕ, zero, suc, _+_, _-_, _*_, _/_, _%_, _≤_}
 use lib.Dec.{leb}
 use lib.ListN.{length, getD, take, drop}
-use Rattle.lattice.specs.Sums.{total}
+use Rattle.lattice.specs.Sums.{total, join}
 use Rattle.lattice.specs.Cells.{bit}
 use Rattle.lattice.specs.Shots.{Shot}
 use Rattle.job.specs.Job.{shotCount, xAt, yAt, zAt, edgeAt, shotAt}
-use Rattle.grid.specs.Numbers.{upTo, those, joined}
+use Rattle.grid.specs.Numbers.{upTo, those}
 
 -- interval g of width s, with both its ends, shares a point with the e units from c, with both their ends
 unfoldable pub meets : ℕ → ℕ → ℕ → ℕ → Bool
@@ -44,11 +44,11 @@ runOf F E G coords cell = shotsThat (touchesCell F G cell) E coords
 
 -- where the first n runs of a series start, counted from the first run entry
 unfoldable pub starts : (ℕ → List ℕ) → ℕ → List ℕ
-starts run n = joined n λ cell. length (joined cell run) ∷ []
+starts run n = join n λ cell. length (join cell run) ∷ []
 
 -- the starting places of the runs, the last being the number of pairs; then the runs
 unfoldable pub indexOf : ℕ → ℕ → ℕ → List ℕ → List ℕ
-indexOf F E G coords = starts (runOf F E G coords) (G * G * G + 1) ++ joined (G * G * G) (runOf F E G coords)
+indexOf F E G coords = starts (runOf F E G coords) (G * G * G + 1) ++ join (G * G * G) (runOf F E G coords)
 
 -- pairs of a grid cell and a shot that belongs to it
 unfoldable pub pairs : ℕ → ℕ → ℕ → List ℕ → ℕ

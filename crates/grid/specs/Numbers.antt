@@ -14,11 +14,6 @@ unfoldable pub those : (ℕ → Bool) → List ℕ → List ℕ
 those f [] = []
 those f (a ∷ l) = cond (f a) (a ∷ those f l) (those f l)
 
--- f 0, f 1, .. f (n - 1), one after the other
-unfoldable pub joined : ℕ → (ℕ → List ℕ) → List ℕ
-joined zero f = []
-joined (suc n) f = joined n f ++ f n
-
 -- every number of a list is below n
 unfoldable pub AllBelow : ℕ → List ℕ → Type 0
 AllBelow n [] = Unit {0}

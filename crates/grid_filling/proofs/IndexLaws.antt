@@ -9,12 +9,13 @@ use lib.ListN.{length, take, set, length-append}
 use lib.Seq.{take-all, take-append-le}
 use mir.Val.{Fits}
 use mir.Syntax.{w32}
-use Rattle.lattice.specs.Sums.{total}
+use Rattle.lattice.specs.Sums.{total, join}
 use Rattle.lattice.specs.Cells.{bit}
 use Rattle.job.specs.Job.{shotCount, shotAt, Valid}
-use Rattle.grid.specs.Numbers.{upTo, those, joined}
+use Rattle.grid.specs.Numbers.{upTo, those}
 use Rattle.grid.specs.Grid.{touchesCell, runOf, starts, indexOf, pairs, need, withIndex}
 use Rattle.grid_filling.specs.Filling.{runPlace, Ready, Grew}
+use Rattle.lattice.proofs.JoinLaws.{length-join}
 use Rattle.grid.proofs.NumberLaws.{upTo-length, those-append}
 use Rattle.grid.proofs.CellLaws.{runs-few}
 use Rattle.grid.proofs.StartLaws.{starts-length}
@@ -33,17 +34,12 @@ those-count f (suc n) =
     one true = refl
     one false = refl
 
-joined-count : (f : ℕ → List ℕ) (n : ℕ) → length (joined n f) ≡ total n (λ i. length (f i))
-unfolding joined total
-joined-count f zero = refl
-joined-count f (suc n) = omega (arith, length-append (joined n f) (f n), joined-count f n)
-
 module _ (F E G : ℕ) (coords : List ℕ) where
   -- the pairs are the entries of the runs
-  pairs-runs : pairs F E G coords ≡ length (joined (G * G * G) (runOf F E G coords))
+  pairs-runs : pairs F E G coords ≡ length (join (G * G * G) (runOf F E G coords))
   unfolding pairs runOf
   pairs-runs =
-      sym (joined-count (runOf F E G coords) (G * G * G) ∙ ap (total (G * G * G)) (fun-ext λ cell. those-count (λ i. touchesCell F G cell (shotAt E coords i)) (shotCount coords)))
+      sym (length-join (G * G * G) (runOf F E G coords) ∙ ap (total (G * G * G)) (fun-ext λ cell. those-count (λ i. touchesCell F G cell (shotAt E coords i)) (shotCount coords)))
 
   pub need-place : need F E G coords ≡ runPlace (runOf F E G coords) (G * G * G) (G * G * G)
   unfolding need
@@ -53,7 +49,7 @@ module _ (F E G : ℕ) (coords : List ℕ) where
   pub need-length : need F E G coords ≡ length (indexOf F E G coords)
   unfolding indexOf
   need-length =
-      omega (arith, need-place, length-append (starts (runOf F E G coords) (G * G * G + 1)) (joined (G * G * G) (runOf F E G coords)), starts-length (runOf F E G coords) (G * G * G + 1))
+      omega (arith, need-place, length-append (starts (runOf F E G coords) (G * G * G + 1)) (join (G * G * G) (runOf F E G coords)), starts-length (runOf F E G coords) (G * G * G + 1))
 
 -- ---- a filled slice
 
@@ -75,7 +71,7 @@ upTo-part-count n h e = sym (ap length (upTo-part n h e) ∙ upTo-length n)
 
 module _ (F E G : ℕ) (coords : List ℕ) (w : List ℕ) (room : need F E G coords ≤ length w) where
   pub build-ready : {cells : ℕ} → cells ≡ G * G * G → Ready (runOf F E G coords) (G * G * G) 0 (cells + 1) w
-  unfolding joined
+  unfolding join
   build-ready e = record { next = omega arith; room = omega (arith, need-place F E G coords) }
 
   pub build-fits : Valid F E G coords → {cells r : ℕ} {w' : List ℕ} → cells ≡ G * G * G → Grew (runOf F E G coords) (G * G * G) 0 (G * G * G) w w' r → Fits w32 (r - (cells + 1))
@@ -84,6 +80,6 @@ module _ (F E G : ℕ) (coords : List ℕ) (w : List ℕ) (room : need F E G coo
   pub build-last : {cells r : ℕ} {w' : List ℕ} → cells ≡ G * G * G → Grew (runOf F E G coords) (G * G * G) 0 (G * G * G) w w' r → set w' cells (r - (cells + 1)) ≡ withIndex F E G coords w
   unfolding indexOf
   build-last {cells} {r} {w'} e a =
-      let last : r - (cells + 1) ≡ length (joined (G * G * G) (runOf F E G coords)) = omega (arith, a .next) in
+      let last : r - (cells + 1) ≡ length (join (G * G * G) (runOf F E G coords)) = omega (arith, a .next) in
       rw (last, e, need-place F E G coords)
       (index-whole (runOf F E G coords) (G * G * G) w w' (a .fills w (runs-in-none (runOf F E G coords) (G * G * G) w (omega (arith, need-place F E G coords)))))
