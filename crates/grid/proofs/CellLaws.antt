@@ -32,7 +32,7 @@ pub cube-most : (g : ℕ) → g ≤ 64 → g * g * g ≤ 262144
 cube-most g h = mul-le-mul (square-most g h) h
 
 module _ (F E G : ℕ) (coords : List ℕ) (v : Valid F E G coords) where
-  run-few : (cell : ℕ) → length (runOf F E G coords cell) ≤ 4096
+  pub run-few : (cell : ℕ) → length (runOf F E G coords cell) ≤ 4096
   unfolding runOf
   run-few cell = omega (arith, those-length (λ i. touchesCell F G cell (shotAt E coords i)) (upTo (shotCount coords)), upTo-length (shotCount coords), v .few)
 

@@ -128,7 +128,7 @@ near-point s g x low high false i e = record { low = omega arith; high = omega a
 near-point s g x low high true i e = record { low = omega arith; high = omega arith }
 
 -- two solids that agree at the cells that end at one of eight places agree about the point
-below-agree : (s t : Cells) (x y z : ℕ) → ((i j k : ℕ) → x ≡ suc i → y ≡ suc j → z ≡ suc k → s i j k ≡ t i j k) → below s x y z ≡ below t x y z
+pub below-agree : (s t : Cells) (x y z : ℕ) → ((i j k : ℕ) → x ≡ suc i → y ≡ suc j → z ≡ suc k → s i j k ≡ t i j k) → below s x y z ≡ below t x y z
 below-agree s t zero y z h = refl
 below-agree s t (suc i) zero z h = refl
 below-agree s t (suc i) (suc j) zero h = refl

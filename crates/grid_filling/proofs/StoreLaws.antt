@@ -1,44 +1,20 @@
--- Lent slices: numbers written one by one, and the index put in cell by cell.
-use mathlib.Core.Path.{_≡_, refl, sym, ap, _∙_}
-use mathlib.Core.Bool.{Bool, true, false, cond}
+-- Lent slices: places numbered one by one, and the index put in cell by cell.
+use mathlib.Core.Path.{_≡_, refl, sym, _∙_}
 use mathlib.Core.List.{List, [], _∷_, _++_, append-assoc, append-nil}
 use Prim.Native.Nat.{ℕ, suc, _+_, _-_, _≤_, _<_}
 use native.Mathlib.Nat.{add-zero}
 use native.Mathlib.Numerals.{add-one}
 use native.Mathlib.Omega.{arith}
 use lib.ListN.{length, take, drop, set, getD, length-append, length-drop, length-set, take-append-drop}
-use lib.Seq.{length-take-le, drop-drop, drop-cons, set-at, set-append-left, append-snoc, take-length, drop-length}
+use lib.Seq.{length-take-le, drop-drop, drop-cons, set-at, set-append-left, append-snoc, drop-length}
 use Rattle.lattice.specs.Sums.{join}
-use Rattle.lattice.specs.Cells.{bit}
 use Rattle.buffer.specs.Wrote.{Wrote}
-use Rattle.buffer.proofs.WroteLaws.{wrote-none, wrote-length, wrote-then, wrote-behind}
-use Rattle.grid.specs.Numbers.{upTo, those}
+use Rattle.buffer.proofs.WroteLaws.{wrote-length, wrote-behind}
+use Rattle.grid.specs.Numbers.{upTo}
 use Rattle.grid.specs.Grid.{starts}
 use Rattle.grid_filling.specs.Filling.{runPlace, RunsIn, Ready, Grew}
 use Rattle.grid.proofs.StartLaws.{starts-length, starts-next}
-use Rattle.grid.proofs.NumberLaws.{upTo-length, join-next, join-length-next, join-length-up, those-next, those-front}
-
--- ---- the numbers of a list that pass a test, written one by one
-
-module _ (f : ℕ → Bool) (l w : List ℕ) (at : ℕ) where
-  pub narrowed-none : at + length (those f l) ≤ length w → Wrote w w at at (those f (take 0 l))
-  unfolding those
-  narrowed-none h = wrote-none w at (omega arith)
-
-  module _ {b : List ℕ} {o i : ℕ} (h : i < length l) (a : Wrote w b at o (those f (take i l))) where
-    pub narrowed-room : at + length (those f l) ≤ length w → {t : Bool} → t ≡ f (getD l i 0) → o + bit t ≤ length b
-    narrowed-room room {t} e =
-        omega (arith, ap bit e, one (f (getD l i 0)), wrote-length a, a .next, ap length (those-next f l i h), length-append (those f (take i l)) (cond (f (getD l i 0)) (getD l i 0 ∷ []) []), those-front f l (i + 1))
-      where
-        one : (b : Bool) → length (cond b (getD l i 0 ∷ []) []) ≡ bit b
-        one true = refl
-        one false = refl
-
-    pub narrowed-turn : {b' : List ℕ} {o' : ℕ} {t : Bool} → t ≡ f (getD l i 0) → Wrote b b' o o' (cond t (getD l i 0 ∷ []) []) → Wrote w b' at o' (those f (take (i + 1) l))
-    narrowed-turn e c = rw (those-next f l i h) (wrote-then a (rw e at c))
-
-  pub narrowed-all : {b : List ℕ} {o : ℕ} (i : ℕ) → i ≡ length l → Wrote w b at o (those f (take i l)) → Wrote w b at o (those f l)
-  narrowed-all i e a = rw (e, take-length l) at a
+use Rattle.grid.proofs.NumberLaws.{upTo-length, join-next, join-length-next, join-length-up}
 
 -- ---- a slice whose places are numbered one by one
 

@@ -4,11 +4,8 @@
 // slab, a row and a cell, and each run goes behind the one before it; nothing of the work slice serves as scratch. specs/Filling.antt says what
 // stands in the slice while it is filled. Stands on `grid`, whose index it puts in, and on `buffer`, `lattice` and `job`.
 ghost use mathlib.Core.Path.{_≡_};
-ghost use mathlib.Core.Bool.{cond};
-ghost use mathlib.Core.List.{[], _∷_};
 ghost use Prim.Native.Nat.{_+_, _-_, _*_, _≤_, _<_};
 ghost use lib.ListN.{length, set};
-ghost use Rattle.lattice.specs.Cells.{bit};
 ghost use Rattle.job.specs.Job.{shotCount, Valid};
 ghost use Rattle.buffer.specs.Wrote.{Wrote};
 ghost use Rattle.grid.specs.Numbers.{upTo, AllBelow};
@@ -16,19 +13,8 @@ ghost use Rattle.grid.specs.Grid.{runOf, rowOf, slabOf, need, withIndex};
 ghost use Rattle.grid_filling.specs.Filling.{narrowed, Ready, Grew};
 use grid::intervals::cells_of;
 use grid::intervals::shot_meets;
+use grid::put::put_if;
 use job::shot;
-
-// Puts a number at a place if it is wanted, and gives the place after it.
-fn put_if(wanted: bool, shot: u32, to: &mut [u32], at: usize) -> usize
-    requires { ⌜ at + bit wanted ≤ length (now to) ⌝ }
-    ensures { λ r. ⌜ Wrote (now (to .entry)) (now (to .exit)) at r (cond wanted (shot ∷ []) []) ⌝ }
-{
-    if wanted {
-        to[at] = shot;
-        return at + 1;
-    }
-    at
-}
 
 // Of the shots in `from`, puts those that meet an interval of an axis from a place on, in their order, and gives the place after them.
 fn narrow(

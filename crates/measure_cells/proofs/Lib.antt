@@ -1,3 +1,4 @@
+pub mod LineLaws
 pub mod TallyLaws
 pub mod PointLaws
 pub mod SumLaws

@@ -1,11 +1,11 @@
 -- Sums of figures: one point, line or plane more, and how large they can get.
-use mathlib.Core.Path.{_≡_, refl}
-use Prim.Native.Nat.{ℕ, zero, suc, _+_, _*_, _≤_}
-use native.Mathlib.Nat.{add-assoc, add-zero, zero-mul, suc-mul}
+use mathlib.Core.Path.{_≡_, refl, sym}
+use Prim.Native.Nat.{ℕ, zero, suc, _+_, _*_, _≤_, _<_}
+use native.Mathlib.Nat.{add-assoc, add-zero, add-suc, zero-mul, suc-mul}
 use native.Mathlib.Numerals.{add-one}
 use native.Mathlib.Omega.{arith}
 use Rattle.lattice.specs.Cells.{Cells}
-use Rattle.lattice.specs.Pattern.{around}
+use Rattle.lattice.specs.Pattern.{Pattern, around}
 use Rattle.lattice_sums.specs.declared.sums.Totals.{Totals}
 use Rattle.measure_cells.specs.Points.{atPattern, nothing, plus, sumTo, lineTo, planeTo, fieldTo, AtMost}
 use Rattle.measure_cells.proofs.TallyLaws.{pattern-most}
@@ -13,6 +13,20 @@ use Rattle.measure_cells.proofs.TallyLaws.{pattern-most}
 plus-assoc : (t u v : Totals) → plus (plus t u) v ≡ plus t (plus u v)
 unfolding plus
 plus-assoc t u v = rw (add-assoc (t .volume) (u .volume) (v .volume), add-assoc (t .area) (u .area) (v .area), add-assoc (t .edge) (u .edge) (v .edge), add-assoc (t .corners) (u .corners) (v .corners))
+
+plus-nothing : (t : Totals) → plus t nothing ≡ t
+unfolding plus
+plus-nothing t = rw (add-zero (t .volume), add-zero (t .area), add-zero (t .edge), add-zero (t .corners))
+
+sum-parts : (f : ℕ → Totals) (n k : ℕ) → sumTo (n + k) f ≡ plus (sumTo n f) (sumTo k λ i. f (n + i))
+unfolding sumTo
+sum-parts f n zero = rw (add-zero n) (sym (plus-nothing (sumTo n f)))
+sum-parts f n (suc k) = rw (add-suc n k, sum-parts f n k) (plus-assoc (sumTo n f) (sumTo k λ i. f (n + i)) (f (n + k)))
+
+pub sum-agree : (n : ℕ) (f g : ℕ → Totals) → ((i : ℕ) → i < n → f i ≡ g i) → sumTo n f ≡ sumTo n g
+unfolding sumTo
+sum-agree zero f g h = refl
+sum-agree (suc n) f g h = rw (sum-agree n f g (λ i l. h i (omega arith)), h n (omega arith))
 
 module _ (f : ℕ → Totals) (t₀ : Totals) where
   pub sums-none : t₀ ≡ plus t₀ (sumTo 0 f)
@@ -22,6 +36,10 @@ module _ (f : ℕ → Totals) (t₀ : Totals) where
   pub sums-turn : (n : ℕ) {t t' : Totals} → t ≡ plus t₀ (sumTo n f) → t' ≡ plus t (f n) → t' ≡ plus t₀ (sumTo (n + 1) f)
   unfolding sumTo
   sums-turn n e e' = rw (e', e, add-one n) (plus-assoc t₀ (sumTo n f) (f n))
+
+  -- k more at once
+  pub sums-add : (n k : ℕ) {t t' : Totals} → t ≡ plus t₀ (sumTo n f) → t' ≡ plus t (sumTo k λ i. f (n + i)) → t' ≡ plus t₀ (sumTo (n + k) f)
+  sums-add n k e e' = rw (e', e, sum-parts f n k) (plus-assoc t₀ (sumTo n f) (sumTo k λ i. f (n + i)))
 
 -- sums from nothing
 module _ (f : ℕ → Totals) where
@@ -56,6 +74,12 @@ weaker : (a b : ℕ) (t : Totals) → a ≤ b → AtMost a t → AtMost b t
 weaker a b t l h = record { volume-in = omega (arith, h .volume-in); area-in = omega (arith, h .area-in); edge-in = omega (arith, h .edge-in); corners-in = omega (arith, h .corners-in) }
 
 -- the sums stay small, in a field of at most 1,024
+pub points-low : (f : ℕ → Pattern) (n : ℕ) → n ≤ 1025 → (a b : ℕ) → a + 6150 ≤ b → (t₀ : Totals) {t : Totals} → AtMost a t₀ → t ≡ plus t₀ (sumTo n λ i. atPattern (f i)) → AtMost b t
+points-low f n h a b l t₀ k e = rw e (plus-most a 6150 b t₀ (sumTo n λ i. atPattern (f i)) k (points-most f n h) l)
+  where
+    points-most : (f : ℕ → Pattern) (n : ℕ) → n ≤ 1025 → AtMost 6150 (sumTo n λ i. atPattern (f i))
+    points-most f n h = weaker (n * 6) 6150 _ (omega arith) (sum-most 6 (λ i. atPattern (f i)) (λ i. pattern-most (f i)) n)
+
 module _ (s : Cells) where
   line-most : (n : ℕ) → n ≤ 1025 → (x y : ℕ) → AtMost 6150 (lineTo s n x y)
   line-most n h x y = weaker (n * 6) 6150 _ (omega arith) (sum-most 6 (λ z. atPattern (around s x y z)) (λ z. pattern-most (around s x y z)) n)
@@ -66,11 +90,8 @@ module _ (s : Cells) where
   field-most : (n m l : ℕ) → n ≤ 1025 → m ≤ 1025 → l ≤ 1025 → AtMost 6461343750 (fieldTo s n m l)
   field-most n m l h k i = weaker (l * 6303750) 6461343750 _ (omega arith) (sum-most 6303750 (λ x. planeTo s n m x) (λ x. plane-most n m h k x) l)
 
-  pub line-low : (n x y : ℕ) → n ≤ 1025 → (t₀ : Totals) {t : Totals} → AtMost 2305843009213693952 t₀ → t ≡ plus t₀ (lineTo s n x y) → AtMost 4611686018427387904 t
-  line-low n x y h t₀ k e = rw e (plus-most 2305843009213693952 6150 4611686018427387904 t₀ (lineTo s n x y) k (line-most n h x y) (omega arith))
+  pub plane-low : (n m x : ℕ) → n ≤ 1025 → m ≤ 1025 → (t₀ : Totals) {t : Totals} → AtMost 576460752303423488 t₀ → t ≡ plus t₀ (planeTo s n m x) → AtMost 1152921504606846976 t
+  plane-low n m x h i t₀ k e = rw e (plus-most 576460752303423488 6303750 1152921504606846976 t₀ (planeTo s n m x) k (plane-most n m h i x) (omega arith))
 
-  pub plane-low : (n m x : ℕ) → n ≤ 1025 → m ≤ 1025 → (t₀ : Totals) {t : Totals} → AtMost 1152921504606846976 t₀ → t ≡ plus t₀ (planeTo s n m x) → AtMost 2305843009213693952 t
-  plane-low n m x h i t₀ k e = rw e (plus-most 1152921504606846976 6303750 2305843009213693952 t₀ (planeTo s n m x) k (plane-most n m h i x) (omega arith))
-
-  pub field-low : (n m l : ℕ) → n ≤ 1025 → m ≤ 1025 → l ≤ 1025 → {t : Totals} → t ≡ fieldTo s n m l → AtMost 1152921504606846976 t
-  field-low n m l h i k e = rw e (weaker 6461343750 1152921504606846976 _ (omega arith) (field-most n m l h i k))
+  pub field-low : (n m l : ℕ) → n ≤ 1025 → m ≤ 1025 → l ≤ 1025 → {t : Totals} → t ≡ fieldTo s n m l → AtMost 576460752303423488 t
+  field-low n m l h i k e = rw e (weaker 6461343750 576460752303423488 _ (omega arith) (field-most n m l h i k))

@@ -1,10 +1,12 @@
 -- Counting point by point: each lattice point counts the cell, the three unit squares and the three unit edges above it, and itself if it is
 -- a corner. Over all points of a field every cell, square and edge is met once: the sums are the totals of document 01 (proofs/PointLaws).
-use mathlib.Core.Bool.{Bool, true, false, not}
+use mathlib.Core.Bool.{Bool, true, not, _&&_}
+use mathlib.Core.List.{List}
 use Prim.Native.Nat.{ℕ, zero, suc, _+_, _*_, _≤_, _<_}
-use lib.Dec.{eqb}
-use Rattle.lattice.specs.Cells.{Cells, bit, square, edge}
+use lib.Dec.{eqb, leb}
+use Rattle.lattice.specs.Cells.{Cells, bit, below, square, edge}
 use Rattle.lattice.specs.Pattern.{Pattern, around, corner}
+use Rattle.job.specs.Job.{xAt, yAt, edgeAt}
 use Rattle.lattice_sums.specs.declared.sums.Totals.{Totals}
 
 -- what a point of pattern p counts
@@ -46,15 +48,37 @@ planeTo s n m x = sumTo m λ y. lineTo s n x y
 abbrev pub fieldTo : Cells → ℕ → ℕ → ℕ → Totals
 fieldTo s n m l = sumTo l λ x. planeTo s n m x
 
--- four cells as the low four bits of a byte
-abbrev pub fourBits : (Bool → Bool → Bool) → ℕ
-fourBits q = bit (q false false) + 2 * bit (q false true) + 4 * bit (q true false) + 8 * bit (q true true)
+-- n points of a line, from one on
+abbrev pub lineFrom : Cells → ℕ → ℕ → ℕ → ℕ → Totals
+lineFrom s x y from n = sumTo n λ i. atPattern (around s x y (from + i))
+
+-- the four cells about the line at (x, y) that end at z, as bits 0, 2, 4 and 6 of a byte
+abbrev pub quad : Cells → ℕ → ℕ → ℕ → ℕ
+quad s x y z = bit (below s x y z) + 4 * bit (below s x (suc y) z) + 16 * bit (below s (suc x) y z) + 64 * bit (below s (suc x) (suc y) z)
+
+-- the e units from a hold the place x of the axis, ends included
+abbrev pub reaches : ℕ → ℕ → ℕ → Bool
+reaches e a x = leb a x && leb x (a + e)
+
+-- the closed cube of shot number i reaches the line of points at (x, y), on those two axes
+abbrev pub reachesLine : ℕ → List ℕ → ℕ → ℕ → ℕ → Bool
+reachesLine E coords x y i = reaches (edgeAt E coords i) (xAt coords i) x && reaches (edgeAt E coords i) (yAt coords i) y
 
 -- interval g of G intervals of width s holds the lattice point x, ends included
 pub record InInterval (s G g x : ℕ) : Type 0 where
   pub below : g < G
   pub low : g * s ≤ x
   pub high : x ≤ (g + 1) * s
+
+-- the points from one on are in interval g of G intervals of width s, ends included
+pub record Between (s G g from points : ℕ) : Type 0 where
+  pub below : g < G
+  pub low : g * s ≤ from
+  pub high : from + points ≤ (g + 1) * s + 1
+
+-- the planes of points of a field before x
+abbrev pub planesTo : ℕ → Cells → ℕ → Totals
+planesTo F s x = fieldTo s (F + 1) (F + 1) x
 
 -- no figure is above k
 pub record AtMost (k : ℕ) (t : Totals) : Type 0 where

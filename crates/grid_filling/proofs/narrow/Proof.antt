@@ -10,7 +10,7 @@ use Rattle.grid.specs.Grid.{meetsOn}
 use Rattle.grid.proofs.NumberLaws.{below-at}
 use Rattle.grid_filling.specs.Filling.{narrowed}
 use Rattle.buffer.proofs.WroteLaws.{wrote-length}
-use Rattle.grid_filling.proofs.StoreLaws.{narrowed-none, narrowed-room, narrowed-turn, narrowed-all}
+use Rattle.grid.proofs.PutLaws.{put-those-none, put-those-room, put-those-turn, put-those-all}
 use Rattle.grid_filling.proofs.narrow.Statement.{statement}
 use Rattle.grid_filling.proofs.narrow.Tie as tie
 
@@ -21,7 +21,7 @@ abbrev μ-loop : tie.MeasureT-loop
 μ-loop coords edge axis width interval from to₀ at next₀ i₀ i-end to next i = i-end - i
 
 loop-holds : tie.Need-loop-holds Inv-loop μ-loop
-loop-holds c = let a = c .before .before .before in (omega arith, refl, narrowed-none (meetsOn (a .args .axis) (a .args .width) (a .args .interval) (a .args .edge) (a .args .coords .now)) (a .args .from .now) (a .args .to .now) (a .args .at) (a .pre .1))
+loop-holds c = let a = c .before .before .before in (omega arith, refl, put-those-none (meetsOn (a .args .axis) (a .args .width) (a .args .interval) (a .args .edge) (a .args .coords .now)) (a .args .from .now) (a .args .to .now) (a .args .at) (a .pre .1))
 
 mul-shot-meets : tie.Need-mul-shot-meets Inv-loop μ-loop
 mul-shot-meets c = search needs
@@ -39,7 +39,7 @@ shared-slice-read-put-if : tie.Need-shared-slice-read-put-if Inv-loop μ-loop
 shared-slice-read-put-if c = search needs
 
 put-if-requires : tie.Need-put-if-requires Inv-loop μ-loop
-put-if-requires c κs = let a = c .before .before .before .before .before .before .before .before .before in narrowed-room (meetsOn (a .args .axis) (a .args .width) (a .args .interval) (a .args .edge) (a .args .coords .now)) (a .args .from .now) (a .args .to .now) (a .args .at) (c .before .before .before .before .loop-test .taken) (c .before .before .before .before .before .loop .inv .2) (a .pre .1) (c .before .before .shot-meets .ensures)
+put-if-requires c κs = let a = c .before .before .before .before .before .before .before .before .before in put-those-room (meetsOn (a .args .axis) (a .args .width) (a .args .interval) (a .args .edge) (a .args .coords .now)) (a .args .from .now) (a .args .to .now) (a .args .at) (c .before .before .before .before .loop-test .taken) (c .before .before .before .before .before .loop .inv .2) (a .pre .1) (c .before .before .shot-meets .ensures)
 
 add-i : tie.Need-add-i Inv-loop μ-loop
 add-i c = search needs
@@ -48,13 +48,13 @@ loop-less : tie.Need-loop-less Inv-loop μ-loop
 loop-less c = search needs
 
 loop-again : tie.Need-loop-again Inv-loop μ-loop
-loop-again c = let a = c .before .before .before .before .before .before .before .before .before .before .before .before in (omega arith, refl, narrowed-turn (meetsOn (a .args .axis) (a .args .width) (a .args .interval) (a .args .edge) (a .args .coords .now)) (a .args .from .now) (a .args .to .now) (a .args .at) (c .before .before .before .before .before .before .before .loop-test .taken) (c .before .before .before .before .before .before .before .before .loop .inv .2) (c .before .before .before .before .before .shot-meets .ensures) (c .before .before .put-if .ensures))
+loop-again c = let a = c .before .before .before .before .before .before .before .before .before .before .before .before in (omega arith, refl, put-those-turn (meetsOn (a .args .axis) (a .args .width) (a .args .interval) (a .args .edge) (a .args .coords .now)) (a .args .from .now) (a .args .to .now) (a .args .at) (c .before .before .before .before .before .before .before .loop-test .taken) (c .before .before .before .before .before .before .before .before .loop .inv .2) (c .before .before .before .before .before .shot-meets .ensures) (c .before .before .put-if .ensures))
 
 same-length : tie.Need-same-length Inv-loop μ-loop
 same-length c = wrote-length (c .before .loop .inv .2)
 
 returns : tie.Need-returns Inv-loop μ-loop
-returns c = let a = c .before .before .before .before .before in narrowed-all (meetsOn (a .args .axis) (a .args .width) (a .args .interval) (a .args .edge) (a .args .coords .now)) (a .args .from .now) (a .args .to .now) (a .args .at) (c .before .loop .i) (omega arith) (c .before .loop .inv .2)
+returns c = let a = c .before .before .before .before .before in put-those-all (meetsOn (a .args .axis) (a .args .width) (a .args .interval) (a .args .edge) (a .args .coords .now)) (a .args .from .now) (a .args .to .now) (a .args .at) (c .before .loop .i) (omega arith) (c .before .loop .inv .2)
 
 pub narrow-spec : {M : Type 1} → statement M
 narrow-spec =

@@ -1,7 +1,8 @@
 -- The lines passed are counted.
-use mathlib.Core.Path.{_≡_}
+use mathlib.Core.Path.{_≡_, sym, _∙_}
 use Prim.Native.Nat.{ℕ, _+_, _-_, _≤_}
 use native.Mathlib.Omega.{arith}
+use lib.ListN.{length}
 use borrow.Author.Needs.{needs}
 use Rattle.lattice.specs.Shots.{cells}
 use Rattle.job.specs.Job.{shotsOf}
@@ -11,16 +12,16 @@ use Rattle.measure_cells.proofs.points.count_plane.Statement.{statement
 use Rattle.measure_cells.proofs.points.count_plane.Tie as tie
 
 abbrev Inv-loop : tie.InvT-loop
-Inv-loop field edge grid coords work x sums₀ y₀ sums y = (y ≤ field + 1) × (sums ≡ plus sums₀ (planeTo (cells (shotsOf edge coords)) (field + 1) y x))
+Inv-loop field edge grid coords work x few₀ sums₀ y₀ few sums y = (y ≤ field + 1) × (length few ≡ 4096) × (sums ≡ plus sums₀ (planeTo (cells (shotsOf edge coords)) (field + 1) y x))
 
 abbrev μ-loop : tie.MeasureT-loop
-μ-loop field edge grid coords work x sums₀ y₀ sums y = field + 1 - y
+μ-loop field edge grid coords work x few₀ sums₀ y₀ few sums y = field + 1 - y
 
 loop-holds : tie.Need-loop-holds Inv-loop μ-loop
-loop-holds c = let a = c .before .before in (omega arith, sums-none (λ (y : ℕ). lineTo (cells (shotsOf (a .args .edge) (a .args .coords .now))) (a .args .field + 1) (a .args .x) y) (a .args .t))
+loop-holds c = let a = c .before .before .before in (omega arith, a .pre .1 .1 .1 .0, sums-none (λ (y : ℕ). lineTo (cells (shotsOf (a .args .edge) (a .args .coords .now))) (a .args .field + 1) (a .args .x) y) (a .args .t))
 
 count-line-requires : tie.Need-count-line-requires Inv-loop μ-loop
-count-line-requires c κs = let a = c .before .before .before .before in (a .pre .0, (a .pre .1 .0, (a .pre .1 .1 .0, (c .loop-test .taken, plane-low (cells (shotsOf (a .args .edge) (a .args .coords .now))) (a .args .field + 1) (c .before .loop .y) (a .args .x) (omega (arith, a .pre .0 .field-most)) (omega (arith, a .pre .0 .field-most)) (a .args .t) (a .pre .1 .1 .1) (c .before .loop .inv .1)))))
+count-line-requires c κs = let a = c .before .before .before .before .before .before in (a .pre .0, (a .pre .1 .0, (a .pre .1 .1 .0, (c .before .loop-test .taken, (c .before .before .loop .inv .1, plane-low (cells (shotsOf (a .args .edge) (a .args .coords .now))) (a .args .field + 1) (c .before .before .loop .y) (a .args .x) (omega (arith, a .pre .0 .field-most)) (omega (arith, a .pre .0 .field-most)) (a .args .t) (a .pre .1 .1 .1 .1) (c .before .before .loop .inv .2))))))
 
 add-y : tie.Need-add-y Inv-loop μ-loop
 add-y c = search needs
@@ -29,12 +30,24 @@ loop-less : tie.Need-loop-less Inv-loop μ-loop
 loop-less c = search needs
 
 loop-again : tie.Need-loop-again Inv-loop μ-loop
-loop-again c = let a = c .before .before .before .before .before in (omega arith, sums-turn (λ (y : ℕ). lineTo (cells (shotsOf (a .args .edge) (a .args .coords .now))) (a .args .field + 1) (a .args .x) y) (a .args .t) (c .before .before .loop .y) (c .before .before .loop .inv .1) (c .count-line .ensures))
+loop-again c = let a = c .before .before .before .before .before .before .before .before .before in (omega arith, c .before .before .count-line .kept .1 .1 .1 .1 .1 .1 .1 .0 ∙ c .before .before .before .before .before .loop .inv .1, sums-turn (λ (y : ℕ). lineTo (cells (shotsOf (a .args .edge) (a .args .coords .now))) (a .args .field + 1) (a .args .x) y) (a .args .t) (c .before .before .before .before .before .loop .y) (c .before .before .before .before .before .loop .inv .2) (c .before .before .count-line .ensures))
+
+same-length : tie.Need-same-length Inv-loop μ-loop
+same-length c = let a = c .before .before .before .before .before in c .before .loop .inv .1 ∙ sym (a .pre .1 .1 .1 .0)
 
 returns : tie.Need-returns Inv-loop μ-loop
-returns c = let e : c .before .loop .y ≡ c .before .before .before .before .args .field + 1 = omega arith in rw e at (c .before .loop .inv .1)
+returns c = let e : c .before .loop .y ≡ c .before .before .before .before .before .args .field + 1 = omega arith in rw e at (c .before .loop .inv .2)
 
 pub count-plane-spec : {M : Type 1} → statement M
 count-plane-spec =
     tie.close
-    (tie.spec Inv-loop μ-loop loop-holds count-line-requires add-y loop-less loop-again returns)
+    (tie.spec
+    Inv-loop
+    μ-loop
+    loop-holds
+    count-line-requires
+    add-y
+    loop-less
+    loop-again
+    same-length
+    returns)

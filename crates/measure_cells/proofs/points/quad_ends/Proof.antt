@@ -1,10 +1,13 @@
--- Four bits.
+-- Four bits; an empty run covers nothing.
 use native.Mathlib.Omega.{arith}
 use borrow.Author.Needs.{needs}
 use Rattle.grid_cover.specs.Cover.{runCovers}
-use Rattle.measure_cells.proofs.PointLaws.{four-is}
-use Rattle.measure_cells.proofs.points.four_ends.Statement.{statement}
-use Rattle.measure_cells.proofs.points.four_ends.Tie as tie
+use Rattle.measure_cells.proofs.PointLaws.{quad-is, quad-none}
+use Rattle.measure_cells.proofs.points.quad_ends.Statement.{statement}
+use Rattle.measure_cells.proofs.points.quad_ends.Tie as tie
+
+returns : tie.Need-returns
+returns c = let a = c .before .before .before in (quad-none (a .args .edge) (a .args .coords .now) (a .args .run .now) (a .args .x) (a .args .y) (a .args .z) (c .if1 .taken), omega arith)
 
 cell-ends-requires : tie.Need-cell-ends-requires
 cell-ends-requires c κs = search needs
@@ -48,13 +51,14 @@ mul-result-3 c = search needs
 add-result-3 : tie.Need-add-result-3
 add-result-3 c = search needs
 
-returns : tie.Need-returns
-returns c = let a = c .before .before .before .before .before .before in (four-is (runCovers (a .args .edge) (a .args .coords .now) (a .args .run .now)) (a .args .x) (a .args .y) (a .args .z) (c .before .before .before .cell-ends .ensures .0) (c .before .before .cell-ends2 .ensures .0) (c .before .cell-ends3 .ensures .0) (c .cell-ends4 .ensures .0), omega arith)
+returns-2 : tie.Need-returns-2
+returns-2 c = let a = c .before .before .before .before .before .before .before in (quad-is (runCovers (a .args .edge) (a .args .coords .now) (a .args .run .now)) (a .args .x) (a .args .y) (a .args .z) (c .before .before .before .cell-ends .ensures .0) (c .before .before .cell-ends2 .ensures .0) (c .before .cell-ends3 .ensures .0) (c .cell-ends4 .ensures .0), omega arith)
 
-pub four-ends-spec : {M : Type 1} → statement M
-four-ends-spec =
+pub quad-ends-spec : {M : Type 1} → statement M
+quad-ends-spec =
     tie.close
     (tie.spec
+    returns
     cell-ends-requires
     add-cell-ends
     cell-ends-requires-2
@@ -69,4 +73,4 @@ four-ends-spec =
     add-result-2
     mul-result-3
     add-result-3
-    returns)
+    returns-2)
