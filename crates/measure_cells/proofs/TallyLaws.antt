@@ -2,15 +2,15 @@
 use mathlib.Core.Path.{_≡_, refl, ap}
 use mathlib.Core.Bool.{Bool, true, false, not}
 use Prim.Native.Nat.{ℕ, zero, suc, _+_, _/_, _%_, _≤_, _<_}
-use native.Mathlib.Nat.{mod-eq-of-lt}
+use native.Mathlib.Nat.{add-zero, mod-eq-of-lt}
 use native.Mathlib.Omega.{arith}
 use lib.Dec.{eqb, leb, leb→le}
 use borrow.Author.Tests.{eq-eqb, ne-eqb}
 use Rattle.lattice.specs.Cells.{bit, square, edge}
-use Rattle.lattice.specs.Pattern.{Pattern, ofByte, corner}
+use Rattle.lattice.specs.Pattern.{Pattern, ofByte, w, ax, ay, az, ex, ey, ez, someNonzero, corner}
 use Rattle.lattice_sums.specs.declared.sums.Totals.{Totals}
 use Rattle.lattice.proofs.Cases.{eachFour-at}
-use Rattle.measure_cells.specs.Points.{atPattern, plus, differs, AtMost}
+use Rattle.measure_cells.specs.Points.{atPattern, nothing, plus, differs, AtMost}
 
 pub alike : (a b : ℕ) → a ≡ b → 0 ≡ differs a b
 alike a b e = rw (eq-eqb a b e)
@@ -96,3 +96,30 @@ no-corner-is p e h = rw (← e, h)
 pub plus-is : (t u : Totals) {a b c d : ℕ} → a ≡ u .volume → b ≡ u .area → c ≡ u .edge → d ≡ u .corners → record { volume = t .volume + a; area = t .area + b; edge = t .edge + c; corners = t .corners + d } ≡ plus t u
 unfolding plus
 plus-is t u ea eb ec ed = rw (ea, eb, ec, ed)
+
+-- ---- points that lie wholly outside or inside
+
+none-no-corner : corner (ofByte 0) ≡ false
+unfolding corner someNonzero w ax ay az ex ey ez ofByte
+none-no-corner = refl
+
+full-no-corner : corner (ofByte 255) ≡ false
+unfolding corner someNonzero w ax ay az ex ey ez ofByte
+full-no-corner = refl
+
+none-counts : atPattern (ofByte 0) ≡ nothing
+unfolding atPattern ofByte
+none-counts = rw none-no-corner
+
+full-counts : atPattern (ofByte 255) ≡ record { volume = 1; area = 0; edge = 0; corners = 0 }
+unfolding atPattern ofByte
+full-counts = rw full-no-corner
+
+module _ (t : Totals) (p : ℕ) where
+  pub tally-none : p ≡ 0 → t ≡ plus t (atPattern (ofByte p))
+  unfolding plus
+  tally-none e = rw (e, none-counts, add-zero (t .volume), add-zero (t .area), add-zero (t .edge), add-zero (t .corners))
+
+  pub tally-full : p ≡ 255 → record { volume = t .volume + 1; area = t .area; edge = t .edge; corners = t .corners } ≡ plus t (atPattern (ofByte p))
+  unfolding plus
+  tally-full e = rw (e, full-counts, add-zero (t .area), add-zero (t .edge), add-zero (t .corners))

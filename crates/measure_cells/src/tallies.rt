@@ -49,8 +49,8 @@ fn corners(p: u8) -> usize
     0
 }
 
-// The figures with those of a point of pattern p.
-pub fn tally(t: Totals, p: u8) -> Totals
+// The figures with those of a point of pattern p, each counted.
+fn tally_each(t: Totals, p: u8) -> Totals
     requires { ⌜ AtMost 4611686018427387904 t ⌝ }
     ensures { λ r. ⌜ r ≡ plus t (atPattern (ofByte p)) ⌝ }
 {
@@ -60,4 +60,23 @@ pub fn tally(t: Totals, p: u8) -> Totals
         edge: t.edge + edges(p),
         corners: t.corners + corners(p),
     }
+}
+
+// The figures with those of a point of pattern p: nothing where no cell about it is covered, and one cell where all are.
+pub fn tally(t: Totals, p: u8) -> Totals
+    requires { ⌜ AtMost 4611686018427387904 t ⌝ }
+    ensures { λ r. ⌜ r ≡ plus t (atPattern (ofByte p)) ⌝ }
+{
+    if p == 0 {
+        return t;
+    }
+    if p == 255 {
+        return Totals {
+            volume: t.volume + 1,
+            area: t.area,
+            edge: t.edge,
+            corners: t.corners,
+        };
+    }
+    tally_each(t, p)
 }

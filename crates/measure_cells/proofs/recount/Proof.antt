@@ -1,5 +1,5 @@
 -- A refusal of the checks is the answer; otherwise the field is counted.
-use mathlib.Core.Path.{_≡_, sym, _∙_}
+use mathlib.Core.Path.{sym, _∙_}
 use Rattle.measure_intake.proofs.IntakeLaws.{accepted-list, accepted-holds, refused-answer, accepted-answer}
 use borrow.Author.Needs.{needs}
 use Rattle.measure_cells.proofs.recount.Statement.{statement}
