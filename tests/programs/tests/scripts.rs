@@ -87,14 +87,14 @@ fn one_status_for_each_outcome() {
     tree.file("good", &OVERLAP);
     tree.file("cut", &OVERLAP[..14]);
     for script in ["quote", "recount"] {
-        tree.run(script, &["good"]).is(OVERLAP_QUOTE, "", 0);
+        // A recount may say on standard error how far it is.
+        let ended = tree.run(script, &["good"]);
+        assert_eq!((ended.text().as_str(), ended.status), (OVERLAP_QUOTE, 0), "{script}: {}", ended.complaint);
         tree.run(script, &["cut"]).is("refused 5 8\n", "", 1);
-        tree.shell(&format!("\"$TREE/{script}\" </"), &[]).is(
-            "",
-            &format!("{script}: standard input cannot be read\n"),
-            2,
-        );
+        let complaint = format!("{script}: standard input cannot be read\n");
+        tree.shell(&format!("\"$TREE/{script}\" </"), &[]).is("", &complaint, 2);
     }
+    tree.run("quote", &["good"]).is(OVERLAP_QUOTE, "", 0);
     for (file, status) in [("good", 0), ("cut", 1)] {
         let told = run::on("shots", if status == 0 { &OVERLAP } else { &OVERLAP[..14] });
         tree.run("shots", &[file]).is(&told.text(), "", status);
