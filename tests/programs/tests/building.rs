@@ -4,7 +4,7 @@ use programs::tree::{Tree, NEVER};
 use std::process::{Command, Stdio};
 use std::time::{Duration, Instant};
 
-/// Stands in for `rt check NAME`: three crates and a program that prints one line.
+/// Stands in for `rt check NAME`: three crates and a program that prints one line. As rt does, it builds none whose stamp stands.
 const PROVES: &str = r#"
 [ "$#" = 2 ] && [ "$1" = check ] || exit 2
 if ! mkdir target/busy; then echo 'rt: two at a time'; exit 1; fi
@@ -12,10 +12,12 @@ cat
 echo 'fn buffer::put: proved'
 for crate in buffer lattice job; do echo "rt: $crate proved (1 s)"; done
 sleep 0.2
-mkdir -p target/bin target/stamp
-printf '#!/bin/sh\ncat; echo volume 8\n' >target/bin/$2
-chmod +x target/bin/$2
-echo stamp >target/stamp/$2
+if [ ! -f target/stamp/$2 ]; then
+    mkdir -p target/bin target/stamp
+    printf '#!/bin/sh\ncat; echo volume 8\n' >target/bin/$2
+    chmod +x target/bin/$2
+    echo stamp >target/stamp/$2
+fi
 echo "rt: $2 proved (unchanged since it was last proved)"
 echo "rt: $2 ran as nobody, and wrote what its file 'stdout' has (0 s)"
 echo 'rt: ok, 4 crates proved'
@@ -82,7 +84,8 @@ fn a_source_that_is_newer() {
     tree.shell("\"$TREE/quote\"", &[]);
     tree.shell("\"$TREE/quote\"; touch -d '+1 second' \"$TREE/crates/quote/src/main.rt\"", &[]);
     assert_eq!(tree.calls(), "check quote\n");
-    tree.shell("sleep 1.1; \"$TREE/quote\"; \"$TREE/quote\"; rm \"$TREE/target/bin/quote\"; \"$TREE/quote\"", &[]);
+    let line = "sleep 1.1; \"$TREE/quote\"; \"$TREE/quote\"; rm \"$TREE/target/bin/quote\"; \"$TREE/quote\"";
+    assert_eq!(tree.shell(line, &[]).text(), "volume 8\n".repeat(3));
     assert_eq!(tree.calls(), "check quote\n".repeat(3));
 }
 
@@ -91,11 +94,19 @@ fn scripts_of_one_pipe_take_turns() {
     let tree = Tree::bare(PROVES);
     let ended = tree.shell("\"$TREE/shots\" | \"$TREE/quote\"", &[]);
     assert_eq!((ended.text().as_str(), ended.status), ("volume 8\nvolume 8\n", 0), "{}", ended.complaint);
-    tree.shell("rm -r \"$TREE/target\"; \"$TREE/quote\" | \"$TREE/quote\"", &[]).is(
-        "volume 8\nvolume 8\n",
-        &told("quote", crates_of("quote")),
-        0,
-    );
+    // Of two for one program only the first builds.
+    let ended = tree.shell("rm -r \"$TREE/target\"; \"$TREE/quote\" | \"$TREE/quote\"", &[]);
+    assert_eq!((ended.text().as_str(), ended.status), ("volume 8\nvolume 8\n", 0), "{}", ended.complaint);
+    assert_eq!(tree.calls().matches("check quote\n").count(), 2);
+}
+
+#[test]
+fn a_script_that_waits_says_so() {
+    let tree = Tree::bare(PROVES);
+    let line =
+        "mkdir \"$TREE/target\"; exec 8>\"$TREE/target/.building\"; flock 8; sleep 2 & exec 8>&-; \"$TREE/quote\"";
+    let complaint = format!("quote: waiting for another script to build\n{}", told("quote", crates_of("quote")));
+    tree.shell(line, &[]).is("volume 8\n", &complaint, 0);
 }
 
 #[test]
@@ -128,8 +139,8 @@ fn no_toolchain() {
 
 #[test]
 fn a_signal_leaves_nothing() {
-    let tree = Tree::bare("echo 'rt: buffer proved (1 s)'; exec sleep 2");
-    for signal in ["TERM", "HUP", "INT"] {
+    let tree = Tree::bare("echo 'rt: buffer proved (1 s)'; exec sleep 0.3");
+    for (turn, signal) in ["TERM", "HUP", "INT"].into_iter().cycle().take(15).enumerate() {
         let path = format!("{}:/usr/bin:/bin", tree.root().join("../bin").display());
         let mut command = Command::new(tree.root().join("quote"));
         command.env("PATH", path).env("TMPDIR", tree.root().join("../scratch"));
@@ -137,9 +148,10 @@ fn a_signal_leaves_nothing() {
             command.stdin(Stdio::null()).stdout(Stdio::null()).stderr(Stdio::null()).spawn().expect("the script runs");
         let start = Instant::now();
         while tree.left_over() == 0 && start.elapsed() < Duration::from_secs(5) {
-            std::thread::sleep(Duration::from_millis(20));
+            std::thread::sleep(Duration::from_millis(1));
         }
         assert_eq!(tree.left_over(), 1, "a temporary folder while it proves");
+        std::thread::sleep(Duration::from_millis(turn as u64));
         let kill = Command::new("kill").arg(format!("-{signal}")).arg(child.id().to_string()).status();
         assert!(kill.is_ok_and(|status| status.success()));
         assert!(!child.wait().expect("the script ends").success(), "{signal}");

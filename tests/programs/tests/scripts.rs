@@ -209,6 +209,7 @@ fn what_programs_say_passes_through() {
     let tree = Tree::standing_in("echo 'plane 1 of 8' >&2; echo volume 8");
     tree.shell("\"$TREE/recount\"", &[]).is("volume 8\n", "plane 1 of 8\n", 0);
     tree.shell("\"$TREE/quote\"", &[]).is("volume 8\n", "plane 1 of 8\n", 2);
+    Tree::standing_in("echo volume 8; exit 3").shell("\"$TREE/quote\"", &[]).is("volume 8\n", "", 2);
     let tree = Tree::standing_in("echo half; kill -9 $$");
     let ended = tree.shell("\"$TREE/quote\"", &[]);
     assert_eq!((ended.text().as_str(), ended.status), ("half\n", 2));
