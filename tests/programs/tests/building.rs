@@ -118,6 +118,12 @@ fn a_proof_that_fails() {
     assert!(ended.complaint.ends_with(end), "{}", ended.complaint);
     let again = tree.shell("\"$TREE/quote\"", &[]);
     assert_eq!(again, ended);
+    let silent = Tree::bare("exit 1").shell("\"$TREE/quote\"", &[]);
+    assert!(
+        silent.complaint.ends_with(" crates\nquote: quote is not proved, so it is not run\n"),
+        "{}",
+        silent.complaint
+    );
 }
 
 #[test]
@@ -133,7 +139,7 @@ fn a_program_whose_stamp_is_gone() {
 #[test]
 fn no_toolchain() {
     let tree = Tree::bare(NEVER);
-    let complaint = "quote: quote is not built yet, and the Rattle toolchain (rt) is not on the path\n";
+    let complaint = "quote: quote has to be built, and the Rattle toolchain (rt) is not on the path\n";
     tree.shell("PATH=/usr/bin:/bin; \"$TREE/quote\"", &[]).is("", complaint, 2);
 }
 
