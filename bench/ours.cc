@@ -1,6 +1,6 @@
-// Ours: one call of heqdanu.h, timed: `ours FILE SECONDS [CALL]`, CALL being measure (unless said), list, index, recount,
-// need, read or write. `need` is the measuring call with an empty work slice: the list's checks and the count of the
-// index's entries.
+// Ours: one call of heqdanu.h, timed: `ours FILE SECONDS [CALL]`, CALL being measure (unless said), list, index,
+// recount, need, read or write. `need` is the measuring call with an empty work slice: the list's checks and the count
+// of the index's entries.
 #include "../include/heqdanu.h"
 #include "common.hpp"
 

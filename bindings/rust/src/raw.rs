@@ -1,6 +1,7 @@
 //! The calls as the archive has them. `include/heqdanu.h` says what each does with its buffers.
 
-/// The calls that take a list and leave its index in a work slice: `heqdanu_measure`, `heqdanu_recount`, `heqdanu_index`.
+/// The calls that take a list and leave its index in a work slice: `heqdanu_measure`, `heqdanu_recount` and
+/// `heqdanu_index`.
 pub type Indexing = unsafe extern "C" fn(u16, u16, u16, *const u16, usize, *mut u32, usize, *mut u64, usize) -> u8;
 
 #[allow(missing_docs)]

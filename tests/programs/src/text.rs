@@ -1,5 +1,6 @@
-//! A shot file as plain text. The lines and their order are written from README's description; the sentences are those that the programs
-//! print (crate `text_wording`), since README shows only some of them: the tests hold the programs to these words and do not judge them.
+//! A shot file as plain text. The lines and their order are written from README's description; the sentences are those
+//! that the programs print (crate `text_wording`), since README shows only some of them: the tests hold the programs to
+//! these words and do not judge them.
 
 use oracle::list::{List, Refusal};
 use oracle::quote::{BYTES, PLACES};

@@ -51,7 +51,7 @@ impl Tree {
             fs::create_dir_all(tree.folder.join(part)).expect("the tree is made");
         }
         let repository = Path::new(env!("CARGO_MANIFEST_DIR")).join("../..");
-        for file in SCRIPTS.into_iter().chain(["crates.txt", "scripts/common", "scripts/program"]) {
+        for file in SCRIPTS.into_iter().chain(["crates.txt", "scripts/building", "scripts/common", "scripts/program"]) {
             fs::copy(repository.join(file), tree.root().join(file)).expect("a script is copied");
         }
         tree.write_program(&tree.folder.join("bin/rt"), &format!("#!/bin/sh\necho \"$@\" >>../calls\n{rt}\n"));

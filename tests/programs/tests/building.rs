@@ -1,10 +1,12 @@
-//! The scripts while they prove and build: what they say meanwhile, once and no more than needed, and what is left when it fails.
+//! The scripts while they prove and build: what they say meanwhile, that they do it once, and what is left when it
+//! fails.
 
 use programs::tree::{Tree, NEVER};
 use std::process::{Command, Stdio};
 use std::time::{Duration, Instant};
 
-/// Stands in for `rt check NAME`: three crates and a program that prints one line. As rt does, it builds none whose stamp stands.
+/// Stands in for `rt check NAME`: three crates and a program that prints one line. As rt does, it builds none whose
+/// stamp stands.
 const PROVES: &str = r#"
 [ "$#" = 2 ] && [ "$1" = check ] || exit 2
 if ! mkdir target/busy; then echo 'rt: two at a time'; exit 1; fi

@@ -1,4 +1,5 @@
-//! The files in examples/: what each is made of, and the quote that README gives it. An accepted one is what `write_shots` makes of the text here, as in
+//! The files in examples/: what each is made of, and the quote that README gives it. An accepted one is what
+//! `write_shots` makes of the text here, as in
 //! `printf 'field 8\nedge 2\ngrid 2\nshot 1 1 1\n' | ./write_shots >examples/one_cube.shots`.
 
 use programs::run::on;

@@ -1,4 +1,4 @@
-//! Two shot files through `same`: it says that they cure the same cells, or names the first corner by which they differ.
+//! Two shot files through `same`: it says that they cure the same cells, or names the first corner that differs.
 
 use oracle::inputs::{accepted, coarsen, Random, Size};
 use oracle::list::List;

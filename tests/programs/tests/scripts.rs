@@ -1,4 +1,5 @@
-//! The scripts at the root: their words are looked at before anything is built, files are answered as `head` does, and the status says how it went.
+//! The scripts at the root: their words are looked at before anything is built, files are answered as `head` does, and
+//! the status says how it went.
 
 use programs::run;
 use programs::tree::{Ended, Tree, NEVER, PROGRAMS, SCRIPTS};
@@ -77,8 +78,9 @@ fn a_file_that_is_not_ours_to_read() {
     let tree = Tree::bare(NEVER);
     tree.file("part", &CUBE);
     // The superuser may read everything, so another user asks.
-    let line = "chmod 0 part; user=; if [ $(id -u) = 0 ]; then user='setpriv --reuid=65534 --regid=65534 --clear-groups'; fi; $user \"$TREE/quote\" part";
-    tree.shell(line, &[]).is("", "quote: part: cannot be read\n", 2);
+    let nobody = "setpriv --reuid=65534 --regid=65534 --clear-groups";
+    let line = format!("chmod 0 part; user=; [ $(id -u) != 0 ] || user='{nobody}'; $user \"$TREE/quote\" part");
+    tree.shell(&line, &[]).is("", "quote: part: cannot be read\n", 2);
 }
 
 #[test]
