@@ -1,4 +1,4 @@
-// Corners met one after the other: their sums, and their records in a lent buffer as far as it has room. Stands on `lattice`.
+// Corners met one after the other: their sums, and their records in a lent buffer as far as it has room. Stands on `lattice_sums`.
 ghost use mathlib.Core.Path.{_≡_};
 ghost use mathlib.Core.List.{_++_};
 ghost use Prim.Native.Nat.{_+_, _≤_};
