@@ -2,7 +2,7 @@
 use mathlib.Core.Path.{_≡_}
 use mathlib.Core.List.{List, [], _∷_}
 use Prim.Native.Nat.{ℕ, _+_, _*_, _/_, _%_, _≤_}
-use lib.ListN.{length, getD}
+use lib.ListN.{length, getD, take}
 use Rattle.lattice.specs.Shots.{Shot, AllInField}
 
 -- the shots of a coordinate list: today every shot has the list's edge
@@ -12,9 +12,38 @@ shotsOf e (x ∷ []) = []
 shotsOf e (x ∷ y ∷ []) = []
 shotsOf e (x ∷ y ∷ z ∷ rest) = record { x = x; y = y; z = z; edge = e } ∷ shotsOf e rest
 
--- shot number i, from 0
+-- how many shots there are, or how many there is place for
+abbrev pub shotCount : List ℕ → ℕ
+shotCount coords = length coords / 3
+
+-- the place of the first number of shot i, from 0
+abbrev pub placeOf : ℕ → ℕ
+placeOf i = 3 * i
+
+-- the numbers of shot i: x, y, z, and its edge, today the list's
+abbrev pub xAt : List ℕ → ℕ → ℕ
+xAt coords i = getD coords (3 * i) 0
+
+abbrev pub yAt : List ℕ → ℕ → ℕ
+yAt coords i = getD coords (3 * i + 1) 0
+
+abbrev pub zAt : List ℕ → ℕ → ℕ
+zAt coords i = getD coords (3 * i + 2) 0
+
+abbrev pub edgeAt : ℕ → List ℕ → ℕ → ℕ
+edgeAt e coords i = e
+
+-- shot i
 abbrev pub shotAt : ℕ → List ℕ → ℕ → Shot
-shotAt e coords i = record { x = getD coords (3 * i) 0; y = getD coords (3 * i + 1) 0; z = getD coords (3 * i + 2) 0; edge = e }
+shotAt e coords i = record { x = xAt coords i; y = yAt coords i; z = zAt coords i; edge = edgeAt e coords i }
+
+-- the numbers that say a shot
+abbrev pub numbersOf : ℕ → ℕ → ℕ → List ℕ
+numbersOf x y z = x ∷ y ∷ z ∷ []
+
+-- the first n shots of a coordinate list
+abbrev pub firstShots : ℕ → List ℕ → List ℕ
+firstShots n coords = take (placeOf n) coords
 
 -- a valid list: F is 1 to 1,024, E is 1 to F, G is 1 to 64 and divides F, there are 0 to 4,096 shots, and each stays in the field
 pub record Valid (F E G : ℕ) (coords : List ℕ) : Type 0 where
