@@ -9,15 +9,14 @@ use lib.ListN.{length, take}
 use lib.Seq.{take-length}
 use mathlib.Core.Bool.{Bool, true, false}
 use Rattle.lattice.specs.Sums.{total}
-use Rattle.lattice.specs.Cells.{Cells, Within, bit, volume, area, edgeLength}
+use Rattle.lattice.specs.Cells.{Cells, Within, most, bit, volume, area, edgeLength}
 use Rattle.lattice.specs.Pattern.{around, corner, Term, volumeTerm, areaTerm, edgeTerm, ofByte}
 use Rattle.lattice.specs.Listing.{Corner, corners, cornerCount, IsCorner, All, over, termAt, cornerSum}
-use Rattle.lattice.specs.CornerSums.{most}
 use Rattle.lattice.proofs.Integers.{natAbs-add}
 use Rattle.lattice.proofs.SumLaws.{total-bound}
 use Rattle.lattice.proofs.ListingLaws.{length-corners}
 use Rattle.lattice.proofs.Order.{all-map, corners-are}
-use Rattle.lattice.proofs.CornerSumLaws.{volume-term-small, area-term-small, edge-term-small, sum-room}
+use Rattle.lattice.proofs.TermBounds.{volume-term-small, area-term-small, edge-term-small}
 use Rattle.lattice.proofs.Agreement.{corner-sums}
 
 -- a corner in a field of 1,024

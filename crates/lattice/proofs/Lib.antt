@@ -10,7 +10,5 @@ pub mod ListingLaws
 pub mod Order
 pub mod SameSolid
 pub mod Agreement
-pub mod TableLaws
-pub mod EdgeLaws
-pub mod CornerSumLaws
+pub mod TermBounds
 pub mod Bounds

@@ -13,6 +13,10 @@ Cells = ℕ → ℕ → ℕ → Bool
 abbrev pub Within : ℕ → Cells → Type 0
 Within n s = (i j k : ℕ) → T (s i j k) → (i < n) × (j < n) × (k < n)
 
+-- the lattice points of a field of 1,024: 1,025 on each axis
+abbrev pub most : ℕ
+most = 1076890625
+
 -- the cell that ends at (x, y, z); no cell ends at 0
 abbrev pub below : Cells → ℕ → ℕ → ℕ → Bool
 below s zero y z = false

@@ -3,5 +3,3 @@ pub mod Cells
 pub mod Pattern
 pub mod Listing
 pub mod Shots
-pub mod UnitEdges
-pub mod CornerSums

@@ -9,9 +9,9 @@ use lib.ListN.{length, drop}
 use borrow.Author.Tests.{lt-ltb, le-ltb}
 use Rattle.lattice.specs.Cells.{Cells, Within}
 use Rattle.lattice.specs.Listing.{corners, cornerCount, listing, bytes}
-use Rattle.lattice.specs.CornerSums.{sumsOf, totalsOf, Whole}
-use Rattle.lattice.specs.declared.sums.CornerSums.{CornerSums}
-use Rattle.lattice.specs.declared.sums.Totals.{Totals}
+use Rattle.lattice_sums.specs.CornerSums.{sumsOf, totalsOf, Whole}
+use Rattle.lattice_sums.specs.declared.sums.CornerSums.{CornerSums}
+use Rattle.lattice_sums.specs.declared.sums.Totals.{Totals}
 use Rattle.lattice.proofs.Agreement.{corner-sums}
 use Rattle.lattice.proofs.ListingLaws.{length-corners}
 use Rattle.job.specs.Checking.{andThen}

@@ -17,8 +17,8 @@ use Rattle.lattice.specs.Cells.{Cells, volume, area, edgeLength}
 use Rattle.lattice.specs.Pattern.{volumeTerm, areaTerm, edgeTerm}
 use Rattle.lattice.specs.Shots.{Shot, covers}
 use Rattle.lattice.specs.Listing.{Corner, corners, cornerCount, IsCorner, Rising, listing, readBack, cornerSum, listedSum, SameBytes}
-use Rattle.lattice.specs.CornerSums.{totalsOf}
-use Rattle.lattice.specs.declared.sums.Totals.{Totals}
+use Rattle.lattice_sums.specs.CornerSums.{totalsOf}
+use Rattle.lattice_sums.specs.declared.sums.Totals.{Totals}
 use Rattle.lattice.proofs.Cases.{bool-ext}
 use Rattle.lattice.proofs.Agreement as agreement
 use Rattle.lattice.proofs.SameSolid.{same-corners}

@@ -14,9 +14,9 @@ use Rattle.lattice.specs.Cells.{Within}
 use Rattle.lattice.specs.Shots.{Shot, any, cells, InField}
 use Rattle.lattice.specs.Listing.{join, here, corners}
 use Rattle.lattice.specs.Pattern.{corner}
-use Rattle.lattice.specs.CornerSums.{Room, sumsOf}
-use Rattle.lattice.specs.declared.sums.CornerSums.{CornerSums}
-use Rattle.lattice.proofs.CornerSumLaws.{room-more}
+use Rattle.lattice_sums.specs.CornerSums.{Room, sumsOf}
+use Rattle.lattice_sums.specs.declared.sums.CornerSums.{CornerSums}
+use Rattle.lattice_sums.proofs.CornerSumLaws.{room-more}
 use Rattle.lattice.proofs.Inside.{empty, outside}
 use Rattle.lattice.proofs.PatternLaws.{x-axis, still-no-corner}
 use Rattle.lattice.proofs.ShotLaws.{and-elim, or-elim, NoFace, no-face-no-corner}

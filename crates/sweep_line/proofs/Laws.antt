@@ -11,9 +11,9 @@ use lib.ListN.{getD}
 use borrow.Author.Tests.{eq-eqb, ne-eqb, le-leb, lt-leb}
 use Rattle.lattice.specs.Shots.{Shot}
 use Rattle.lattice.specs.Listing.{Corner, join}
-use Rattle.lattice.specs.CornerSums.{Room}
-use Rattle.lattice.specs.declared.sums.CornerSums.{CornerSums}
-use Rattle.lattice.proofs.CornerSumLaws.{room-more}
+use Rattle.lattice_sums.specs.CornerSums.{Room}
+use Rattle.lattice_sums.specs.declared.sums.CornerSums.{CornerSums}
+use Rattle.lattice_sums.proofs.CornerSumLaws.{room-more}
 use Rattle.sweep_rows.specs.Runs.{shotsIn}
 use Rattle.sweep_rows.specs.Rows.{Ends}
 use Rattle.sweep_chains.specs.Chains.{Started}

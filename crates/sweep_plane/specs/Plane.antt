@@ -5,7 +5,7 @@ use Prim.Native.Nat.{ℕ, suc, _+_, _-_}
 use lib.ListN.{getD}
 use Rattle.lattice.specs.Shots.{Shot, cells}
 use Rattle.lattice.specs.Listing.{Corner, join, here}
-use Rattle.lattice.specs.CornerSums.{Room}
+use Rattle.lattice_sums.specs.CornerSums.{Room}
 use Rattle.lattice.proofs.PatternLaws.{y-axis}
 use Rattle.lattice.proofs.ShotLaws.{NoFace}
 use Rattle.sweep_rows.specs.Runs.{InRun, shotsIn}

@@ -9,9 +9,9 @@ use lib.Seq.{sets-eq}
 use borrow.Author.Tests.{lt-ltb, le-ltb}
 use Rattle.lattice.specs.Pattern.{ofByte, corner}
 use Rattle.lattice.specs.Listing.{Corner, recordOf}
-use Rattle.lattice.specs.CornerSums.{added, Room}
-use Rattle.lattice.specs.declared.sums.CornerSums.{CornerSums}
-use Rattle.lattice.proofs.CornerSumLaws.{added-room, room-more}
+use Rattle.lattice_sums.specs.CornerSums.{added, Room}
+use Rattle.lattice_sums.specs.declared.sums.CornerSums.{CornerSums}
+use Rattle.lattice_sums.proofs.CornerSumLaws.{added-room, room-more}
 use Rattle.sweep_tally.specs.Found.{at, spot, stored, Found, state, meet, found}
 
 -- ---- the buffer

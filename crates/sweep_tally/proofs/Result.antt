@@ -8,9 +8,9 @@ use lib.ListN.{length, take, drop, length-append, length-drop}
 use lib.Seq.{take-at, drop-append-add, drop-drop}
 use borrow.Author.Tests.{lt-ltb}
 use Rattle.lattice.specs.Listing.{Corner, recordOf, bytes}
-use Rattle.lattice.specs.CornerSums.{sumsOf, added}
-use Rattle.lattice.specs.declared.sums.CornerSums.{CornerSums}
-use Rattle.lattice.proofs.CornerSumLaws.{sums-more}
+use Rattle.lattice_sums.specs.CornerSums.{sumsOf, added}
+use Rattle.lattice_sums.specs.declared.sums.CornerSums.{CornerSums}
+use Rattle.lattice_sums.proofs.CornerSumLaws.{sums-more}
 use Rattle.sweep_tally.specs.Found.{stored, Found, state, meet, found}
 
 -- ---- the sums

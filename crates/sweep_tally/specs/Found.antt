@@ -6,8 +6,8 @@ use lib.Dec.{ltb}
 use lib.ListN.{length, take, drop}
 use Rattle.lattice.specs.Pattern.{ofByte, corner}
 use Rattle.lattice.specs.Listing.{Corner, recordOf}
-use Rattle.lattice.specs.CornerSums.{added}
-use Rattle.lattice.specs.declared.sums.CornerSums.{CornerSums}
+use Rattle.lattice_sums.specs.CornerSums.{added}
+use Rattle.lattice_sums.specs.declared.sums.CornerSums.{CornerSums}
 
 abbrev pub at : ℕ → ℕ → ℕ → ℕ → Corner
 at x y z p = record { x = x; y = y; z = z; pattern = p }

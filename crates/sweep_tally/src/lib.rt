@@ -4,10 +4,10 @@ ghost use mathlib.Core.List.{_++_};
 ghost use Prim.Native.Nat.{_+_, _≤_};
 ghost use lib.ListN.{length, take, drop};
 ghost use Rattle.lattice.specs.Listing.{recordOf};
-ghost use Rattle.lattice.specs.CornerSums.{Room};
+ghost use Rattle.lattice_sums.specs.CornerSums.{Room};
 ghost use Rattle.sweep_tally.specs.Found.{at, spot, stored, state, found};
-use lattice::edges::is_corner;
-use lattice::sums::CornerSums;
+use lattice_sums::edges::is_corner;
+use lattice_sums::sums::CornerSums;
 
 // Writes a record at a place of the buffer.
 fn put_record(buf: &mut [u8], start: usize, x: u16, y: u16, z: u16, p: u8)

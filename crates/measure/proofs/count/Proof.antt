@@ -1,7 +1,7 @@
 -- A sweep that stores nothing: its sums are the totals.
 use mathlib.Core.Path.{_≡_}
 use Rattle.lattice.specs.Listing.{corners}
-use Rattle.lattice.specs.CornerSums.{sumsOf}
+use Rattle.lattice_sums.specs.CornerSums.{sumsOf}
 use Rattle.job.proofs.Conditions.{valid-within}
 use Rattle.measure_intake.specs.Intake.{solid}
 use Rattle.measure.proofs.AnswerLaws.{swept-sums, swept-nonnegative, swept-totals}

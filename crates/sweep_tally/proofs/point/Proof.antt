@@ -6,8 +6,8 @@ use Rattle.sweep_tally.proofs.point.Statement.{statement}
 use Rattle.sweep_tally.proofs.point.Tie as tie
 use Rattle.sweep_tally.proofs.point.Reads as reads
 use Rattle.sweep_tally.proofs.point.Lts as lts
-use Rattle.lattice.proofs.edges.is_corner.Reads as is-corner-reads
-use Rattle.lattice.proofs.sums.CornerSums.add.Reads as add-reads
+use Rattle.lattice_sums.proofs.edges.is_corner.Reads as is-corner-reads
+use Rattle.lattice_sums.proofs.sums.CornerSums.add.Reads as add-reads
 use Rattle.sweep_tally.proofs.put.Reads as put-reads
 
 is-corner-requires : tie.Need-is-corner-requires
