@@ -1,5 +1,6 @@
 -- What the listing call answers, and what it leaves in the lent buffer, after the intake that it shares with measuring: document 01, 'Corner points'
--- and 'When a job is refused'.
+-- and 'When a job is refused'. `ListCall` is the promise of the call.
+use mathlib.Core.Path.{_≡_}
 use mathlib.Core.List.{List, _++_}
 use Prim.Native.Nat.{ℕ, _*_}
 use lib.Dec.{ltb}
@@ -9,7 +10,8 @@ use Rattle.lattice.specs.Listing.{cornerCount, listing}
 use Rattle.job.specs.Checking.{Test, andThen}
 use Rattle.job.specs.declared.Refusal.the-variants.{ShortListing}
 use Rattle.job.specs.declared.Checked.{Checked}
-use Rattle.measure_intake.specs.Intake.{solid, measureChecked, answerOf, onChecked}
+use Rattle.job.specs.declared.Checked.the-variants.{Accepted}
+use Rattle.measure_intake.specs.Intake.{solid, measureChecked, answerOf, Numbers, numbersOf, numbersAfter, onChecked, workAfter}
 use Rattle.measure_intake.specs.declared.Measured.{Measured}
 
 -- refusal 11, after those of the intake: a listing buffer of so many bytes is shorter than 7 times the corner count
@@ -22,8 +24,25 @@ listChecked F E G coords entries room = andThen (measureChecked F E G coords ent
 unfoldable pub listAnswer : ℕ → ℕ → ℕ → List ℕ → ℕ → ℕ → Measured
 listAnswer F E G coords entries room = answerOf (listChecked F E G coords entries room) F (solid E coords)
 
--- the listing and the bytes after the last record
+unfoldable pub listNumbers : ℕ → ℕ → ℕ → List ℕ → ℕ → ℕ → Numbers
+listNumbers F E G coords entries room = numbersAfter (listChecked F E G coords entries room) F (solid E coords)
+
+-- the listing, and the bytes after the last record as they were
+abbrev pub listingOver : ℕ → Cells → List ℕ → List ℕ
+listingOver F s buffer = listing F s ++ drop (7 * cornerCount F s) buffer
+
 unfoldable pub listingAfter : ℕ → ℕ → ℕ → List ℕ → ℕ → List ℕ → List ℕ
-listingAfter F E G coords entries buffer =
-    onChecked (listChecked F E G coords entries (length buffer)) buffer
-    (listing F (solid E coords) ++ drop (7 * cornerCount F (solid E coords)) buffer)
+listingAfter F E G coords entries buffer = onChecked (listChecked F E G coords entries (length buffer)) buffer (listingOver F (solid E coords) buffer)
+
+-- ---- the promises
+-- listing the cells of an accepted list: refusal 11, or the totals and the listing
+pub record CornersListed (F : ℕ) (s : Cells) (buffer : List ℕ) (r : Measured) (buffer' : List ℕ) : Type 0 where
+  pub answer : r ≡ answerOf (andThen Accepted (shortListing F s (length buffer))) F s
+  pub listing : buffer' ≡ onChecked (andThen Accepted (shortListing F s (length buffer))) buffer (listingOver F s buffer)
+
+-- listing a list
+pub record ListCall (F E G : ℕ) (coords work buffer : List ℕ) (r : Measured) (work' buffer' : List ℕ) : Type 0 where
+  pub answer : r ≡ listAnswer F E G coords (length work) (length buffer)
+  pub numbers : numbersOf r ≡ listNumbers F E G coords (length work) (length buffer)
+  pub index : work' ≡ workAfter F E G coords work
+  pub listing : buffer' ≡ listingAfter F E G coords (length work) buffer

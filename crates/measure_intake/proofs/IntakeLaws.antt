@@ -75,18 +75,19 @@ module _ {F E G : ℕ} {coords work work' : List ℕ} {c : Checked} (call : Inde
     is = call .index ∙ ap (left F E G coords work) (sym (call .answer) ∙ k);
   }
 
+-- ---- the numbers of an answer
+pub answer-numbers : (c : Checked) (F : ℕ) (s : Cells) → numbersOf (answerOf c F s) ≡ numbersAfter c F s
+unfolding numbersOf
+answer-numbers Accepted F s = refl
+answer-numbers (Refused r) F s = refl
+
 -- ---- measuring, after the intake
 module _ {F E G : ℕ} {coords work work' : List ℕ} {c : Checked} (call : IndexCall F E G coords work c work') where
-  numbers-of : (c : Checked) (s : Cells) → numbersOf (answerOf c F s) ≡ numbersAfter c F s
-  unfolding numbersOf
-  numbers-of Accepted s = refl
-  numbers-of (Refused r) s = refl
-
   pub measure-is : {m : Measured} → m ≡ answerOf c F (solid E coords) → MeasureCall F E G coords work m work'
   unfolding measureAnswer measureNumbers
   measure-is e =
       let k = e ∙ ap (λ c. answerOf c F (solid E coords)) (call .answer) in
-      record { answer = k; numbers = ap numbersOf k ∙ numbers-of (measureChecked F E G coords (length work)) (solid E coords); index = call .index }
+      record { answer = k; numbers = ap numbersOf k ∙ answer-numbers (measureChecked F E G coords (length work)) F (solid E coords); index = call .index }
 
   pub refused-measure : (r : Refusal) → c ≡ Refused r → MeasureCall F E G coords work (Unmeasured r) work'
   refused-measure r k = measure-is (ap (λ c. answerOf c F (solid E coords)) (sym k))
