@@ -1,6 +1,7 @@
 pub mod Integers
 pub mod SumLaws
 pub mod ByParts
+pub mod JoinLaws
 pub mod Inside
 pub mod PointSums
 pub mod Cases

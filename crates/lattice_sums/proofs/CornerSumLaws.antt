@@ -1,7 +1,7 @@
 -- The corner sums: no term of a field of 1,024 is larger than 2³², so that the sums over all its points fit 64 bits.
-use mathlib.Core.Path.{_≡_, refl, sym, _∙_, ap, ap₂, subst}
+use mathlib.Core.Path.{_≡_, refl, sym, _∙_, ap, ap₂, subst, fun-ext}
 use mathlib.Core.List.{List, [], _∷_, _++_}
-use Prim.Native.Nat.{ℕ, zero, suc, _+_, _*_, _<_, _≤_}
+use Prim.Native.Nat.{ℕ, _+_, _-_, _*_, _<_, _≤_}
 use native.Mathlib.Omega.{arith}
 use lib.IntN.{ℤ, pos, natAbs, _+ℤ_, _*ℤ_, +ℤ-idr}
 use lib.ListN.{length, length-append}
@@ -10,13 +10,17 @@ use lib.Signed.{mag, nonNeg}
 use mir.Syntax.{w8, w64}
 use mir.Val.{Fits, SFits, toZ, ofZ}
 use mir.Facts.{toZ-ofZ, toZ-pos}
-use Rattle.lattice.specs.Pattern.{ofByte, Term, volumeTerm, areaTerm, edgeTerm}
-use Rattle.lattice.specs.Listing.{Corner, termAt, over, cornerSum}
-use Rattle.lattice_sums.specs.CornerSums.{sumsOf, added, Room}
+use Rattle.lattice.specs.Cells.{Cells, Within, fieldPoints}
+use Rattle.lattice.specs.Pattern.{ofByte, Term}
+use Rattle.lattice.specs.Figures.{Figure, Volume, Area, EdgeLength, cellCount, term, largestTerm}
+use Rattle.lattice.specs.Listing.{Corner, corners, termAt, over, cornerSum}
+use Rattle.lattice_sums.specs.CornerSums.{sumIn, value, sumsBy, sumsOf, added, Room, RoomFor, Whole, totalsOf}
+use Rattle.lattice_sums.specs.declared.sums.Totals.{Totals}
 use Rattle.lattice_sums.specs.declared.sums.CornerSums.{CornerSums}
 use Rattle.lattice.proofs.Integers.{natAbs-add}
-use Rattle.lattice.proofs.TermBounds.{scaled-small, volume-term-small, area-term-small, edge-term-small}
+use Rattle.lattice.proofs.TermBounds.{scaled-small, term-small}
 use Rattle.lattice.proofs.ListingLaws.{over-append}
+use Rattle.lattice.proofs.Agreement.{corner-sums, count-is}
 use Rattle.lattice_sums.proofs.TableLaws.{fits64}
 
 -- ---- a result that went through a place of memory
@@ -30,8 +34,13 @@ told64 h e = toZ-ofZ (record { sfits = h }) ∙ e
 pub whole-asked : (v : ℤ) → v ≡ pos (natAbs v) → SFits w64 v → T (nonNeg (toZ w64 (ofZ w64 v))) × Fits w64 (natAbs (toZ w64 (ofZ w64 v)))
 whole-asked v e h = rw (toZ-ofZ h) (subst (λ (z : ℤ). T (nonNeg z)) (sym e) tt, record { fits = omega (arith, ap mag e, h .sfits) })
 
-pub whole-told : (v : ℤ) {n : ℕ} → v ≡ pos (natAbs v) → mag v < 9223372036854775808 → n ≡ natAbs (toZ w64 (ofZ w64 v)) → v ≡ pos n
-whole-told v e h k = e ∙ ap pos (sym (k ∙ ap natAbs (told64 {z = v} h refl)))
+-- a sum that totals can hold, as it is asked for and told
+module _ (v : ℤ) {m : ℕ} (e : v ≡ pos m) (h : mag v < 9223372036854775808) where
+  pub held-asked : toZ w64 (ofZ w64 v) ≡ pos (natAbs (toZ w64 (ofZ w64 v)))
+  held-asked = told64 h e ∙ ap (λ z. pos (natAbs z)) (sym (told64 h e))
+
+  pub held-told : {n : ℕ} → n ≡ natAbs (toZ w64 (ofZ w64 v)) → v ≡ pos n
+  held-told k = e ∙ ap pos (sym (k ∙ ap natAbs (told64 h e)))
 
 -- n · v, where n and v are small
 module _ (n : ℕ) (v : ℤ) (hn : n ≤ 1073741824) (hv : natAbs v ≤ 4) where
@@ -46,11 +55,11 @@ module _ (n : ℕ) (v : ℤ) (hn : n ≤ 1073741824) (hv : natAbs v ≤ 4) where
 
 -- ---- one corner more
 -- a sum of n terms with one more
-pub sum-room : (n : ℕ) (s t : ℤ) → natAbs s ≤ n * 4294967296 → natAbs t ≤ 4294967296 → natAbs (s +ℤ t) ≤ (n + 1) * 4294967296
+pub sum-room : (n : ℕ) (s t : ℤ) → natAbs s ≤ n * largestTerm → natAbs t ≤ largestTerm → natAbs (s +ℤ t) ≤ (n + 1) * largestTerm
 sum-room n s t hs ht = omega (arith, natAbs-add s t, hs, ht)
 
 -- a sum with room for one more term, as the code takes it
-module _ (s t : ℤ) (hs : natAbs s ≤ 4625210011449032704) (ht : natAbs t ≤ 4294967296) (kt : mag t < 9223372036854775808) where
+module _ (s t : ℤ) (hs : natAbs s ≤ (fieldPoints 1024 - 1) * largestTerm) (ht : natAbs t ≤ largestTerm) (kt : mag t < 9223372036854775808) where
   sum-fits : SFits w64 s
   sum-fits = fits64 s (omega arith)
 
@@ -60,32 +69,29 @@ module _ (s t : ℤ) (hs : natAbs s ≤ 4625210011449032704) (ht : natAbs t ≤ 
   pub sum-told : {r v : ℤ} → mag r < 9223372036854775808 → r ≡ toZ w64 (ofZ w64 s) +ℤ toZ w64 (ofZ w64 t) → t ≡ v → toZ w64 (ofZ w64 r) ≡ s +ℤ v
   sum-told kr e k = told64 kr (e ∙ ap₂ _+ℤ_ (toZ-ofZ sum-fits) (told64 kt k))
 
-module _ (t : CornerSums) (r : Room t 1076890624) where
-  pub volume-bound : natAbs (t .volume) ≤ 4625210011449032704
-  volume-bound = omega (arith, r .volume-in, r .few)
+pub sum-bound : (f : Figure) (t : CornerSums) → RoomFor 1 t → natAbs (sumIn f t) ≤ (fieldPoints 1024 - 1) * largestTerm
+sum-bound f t r = omega (arith, r .sum-in f, r .few)
 
-  pub area-bound : natAbs (t .area) ≤ 4625210011449032704
-  area-bound = omega (arith, r .area-in, r .few)
+-- ---- sums by figure
+pub sum-by : (f : Figure) (g : Figure → ℤ) (n : ℕ) → sumIn f (sumsBy g n) ≡ g f
+sum-by Volume g n = refl
+sum-by Area g n = refl
+sum-by EdgeLength g n = refl
 
-  pub edge-bound : natAbs (t .edge) ≤ 4625210011449032704
-  edge-bound = omega (arith, r .edge-in, r .few)
-
-module _ (t : CornerSums) (v : Corner) (hx : v .x ≤ 1024) (hy : v .y ≤ 1024) (hz : v .z ≤ 1024) where
-  pub added-room : (n : ℕ) → Room t n → Room (added t v) (n + 1)
-  unfolding added
-  added-room n r = record {
-    volume-in = sum-room (t .corners) (t .volume) (termAt volumeTerm v) (r .volume-in) (volume-term-small (v .x) (v .y) (v .z) (ofByte (v .pattern)) hx hy hz);
-    area-in = sum-room (t .corners) (t .area) (termAt areaTerm v) (r .area-in) (area-term-small (v .x) (v .y) (v .z) (ofByte (v .pattern)) hx hy hz);
-    edge-in = sum-room (t .corners) (t .edge) (termAt edgeTerm v) (r .edge-in) (edge-term-small (v .x) (v .y) (v .z) (ofByte (v .pattern)) hx hy hz);
-    few = omega (arith, r .few);
-  }
+pub added-room : (t : CornerSums) (v : Corner) → v .x ≤ 1024 → v .y ≤ 1024 → v .z ≤ 1024 → (n : ℕ) → Room t n → Room (added t v) (n + 1)
+unfolding added
+added-room t v hx hy hz n r = record {
+  sum-in = λ f. rw (sum-by f)
+      (sum-room (t .corners) (sumIn f t) (termAt (term f) v) (r .sum-in f) (term-small f (v .x) (v .y) (v .z) (ofByte (v .pattern)) hx hy hz));
+  few = omega (arith, r .few);
+}
 
 pub no-room : Room (sumsOf []) 0
 unfolding sumsOf cornerSum over
-no-room = record { volume-in = omega arith; area-in = omega arith; edge-in = omega arith; few = omega arith }
+no-room = record { sum-in = λ f. rw (sum-by f) (omega arith); few = omega arith }
 
 pub room-more : (t : CornerSums) (n m : ℕ) → n ≤ m → Room t n → Room t m
-room-more t n m h r = record { volume-in = r .volume-in; area-in = r .area-in; edge-in = r .edge-in; few = omega (arith, r .few) }
+room-more t n m h r = record { sum-in = r .sum-in; few = omega (arith, r .few) }
 
 -- the sums of a list, corner after corner
 sum-more : (term : Term) (vs : List Corner) (v : Corner) → cornerSum term (vs ++ (v ∷ [])) ≡ cornerSum term vs +ℤ termAt term v
@@ -94,12 +100,29 @@ sum-more term vs v = over-append (termAt term) vs (v ∷ []) ∙ ap (λ k. over 
 
 pub sums-more : (vs : List Corner) (v : Corner) → added (sumsOf vs) v ≡ sumsOf (vs ++ (v ∷ []))
 unfolding added sumsOf
-sums-more vs v = λ i. record {
-  volume = one-more volumeTerm i;
-  area = one-more areaTerm i;
-  edge = one-more edgeTerm i;
-  corners = sym (length-append vs (v ∷ [])) i;
+sums-more vs v =
+    ap₂ sumsBy
+    (fun-ext λ f. ap (λ k. k +ℤ termAt (term f) v) (sum-by f (λ f. cornerSum (term f) vs) (length vs)) ∙ sym (sum-more (term f) vs v))
+    (sym (length-append vs (v ∷ [])))
+
+-- ---- the totals that sums come to
+value-counts : (f : Figure) (n : ℕ) (s : Cells) → value f (totalsOf n s) ≡ cellCount f n s
+unfolding totalsOf
+value-counts Volume n s = refl
+value-counts Area n s = refl
+value-counts EdgeLength n s = refl
+
+-- the corner sums of a solid come to its totals by counting
+pub sums-whole : (n : ℕ) (s : Cells) → Within n s → Whole (sumsOf (corners n s)) (totalsOf n s)
+unfolding sumsOf totalsOf
+sums-whole n s within = record {
+  figure-is = λ f. sum-by f (λ f. cornerSum (term f) (corners n s)) (length (corners n s)) ∙ corner-sums n s within f ∙ sym (value-counts f n s);
+  corners-is = count-is n s within;
 }
-  where
-    one-more : (term : Term) → cornerSum term vs +ℤ termAt term v ≡ cornerSum term (vs ++ (v ∷ []))
-    one-more term = sym (sum-more term vs v)
+
+-- totals are known by the values of their figures and their corner count
+pub totals-known : {r u : Totals} → ((f : Figure) → value f r ≡ value f u) → r .corners ≡ u .corners → r ≡ u
+totals-known h k = λ i. record { volume = ap natAbs (h Volume) i; area = ap natAbs (h Area) i; edge = ap natAbs (h EdgeLength) i; corners = k i }
+
+pub whole-same : {t : CornerSums} {r u : Totals} → Whole t r → Whole t u → r ≡ u
+whole-same h k = totals-known (λ f. sym (h .figure-is f) ∙ k .figure-is f) (sym (h .corners-is) ∙ k .corners-is)

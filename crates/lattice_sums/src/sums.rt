@@ -5,7 +5,8 @@ ghost use Prim.Native.Nat.{_+_, _*_, _<_, _≤_};
 ghost use lib.IntN.{pos, natAbs, _+ℤ_, _*ℤ_};
 ghost use mathlib.Core.List.{[]};
 ghost use Rattle.lattice.specs.Pattern.{ofByte, volumeTerm, areaTerm, edgeTerm};
-ghost use Rattle.lattice_sums.specs.CornerSums.{sumsOf, added, Room, Whole};
+ghost use Rattle.lattice.specs.Figures.{largestTerm};
+ghost use Rattle.lattice_sums.specs.CornerSums.{sumsOf, added, RoomFor, Whole, SomeTotals};
 use crate::tables::weight_ax;
 use crate::tables::weight_ay;
 use crate::tables::weight_az;
@@ -49,7 +50,7 @@ fn plus(a: i64, b: i64) -> i64
 // What a point adds to the volume: x·y·z·w.
 fn volume_term(x: u16, y: u16, z: u16, p: u8) -> i64
     requires { ⌜ (x ≤ 1024) × (y ≤ 1024) × (z ≤ 1024) ⌝ }
-    ensures { λ r. ⌜ (r ≡ volumeTerm x y z (ofByte p)) × (natAbs r ≤ 4294967296) ⌝ }
+    ensures { λ r. ⌜ (r ≡ volumeTerm x y z (ofByte p)) × (natAbs r ≤ largestTerm) ⌝ }
 {
     let i = x as u64;
     let j = y as u64;
@@ -60,25 +61,30 @@ fn volume_term(x: u16, y: u16, z: u16, p: u8) -> i64
 // l·u + m·v + n·w.
 fn three(l: u64, u: i8, m: u64, v: i8, n: u64, w: i8) -> i64
     requires { ⌜ (l ≤ 1048576) × (m ≤ 1048576) × (n ≤ 1048576) × (natAbs u ≤ 2) × (natAbs v ≤ 2) × (natAbs w ≤ 2) ⌝ }
-    ensures { λ r. ⌜ (r ≡ pos l *ℤ u +ℤ pos m *ℤ v +ℤ pos n *ℤ w) × (natAbs r ≤ 4294967296) ⌝ }
+    ensures { λ r. ⌜ (r ≡ pos l *ℤ u +ℤ pos m *ℤ v +ℤ pos n *ℤ w) × (natAbs r ≤ largestTerm) ⌝ }
 {
     plus(plus(scaled(l, u), scaled(m, v)), scaled(n, w))
+}
+
+// a · b.
+fn product(a: u16, b: u16) -> u64
+    requires { ⌜ (a ≤ 1024) × (b ≤ 1024) ⌝ }
+    ensures { λ r. ⌜ (r ≡ a * b) × (r ≤ 1048576) ⌝ }
+{
+    (a as u64) * (b as u64)
 }
 
 // What a point adds to the area: y·z·ax + x·z·ay + x·y·az.
 fn area_term(x: u16, y: u16, z: u16, p: u8) -> i64
     requires { ⌜ (x ≤ 1024) × (y ≤ 1024) × (z ≤ 1024) ⌝ }
-    ensures { λ r. ⌜ (r ≡ areaTerm x y z (ofByte p)) × (natAbs r ≤ 4294967296) ⌝ }
+    ensures { λ r. ⌜ (r ≡ areaTerm x y z (ofByte p)) × (natAbs r ≤ largestTerm) ⌝ }
 {
-    let i = x as u64;
-    let j = y as u64;
-    let k = z as u64;
     three(
-        j * k,
+        product(y, z),
         weight_ax(p),
-        i * k,
+        product(x, z),
         weight_ay(p),
-        i * j,
+        product(x, y),
         weight_az(p),
     )
 }
@@ -86,7 +92,7 @@ fn area_term(x: u16, y: u16, z: u16, p: u8) -> i64
 // What a point adds to the edge length: x·ex + y·ey + z·ez.
 fn edge_term(x: u16, y: u16, z: u16, p: u8) -> i64
     requires { ⌜ (x ≤ 1024) × (y ≤ 1024) × (z ≤ 1024) ⌝ }
-    ensures { λ r. ⌜ (r ≡ edgeTerm x y z (ofByte p)) × (natAbs r ≤ 4294967296) ⌝ }
+    ensures { λ r. ⌜ (r ≡ edgeTerm x y z (ofByte p)) × (natAbs r ≤ largestTerm) ⌝ }
 {
     three(
         x as u64,
@@ -121,7 +127,7 @@ impl CornerSums {
 
     // The sums with one corner more, of a field of at most 1,024.
     pub fn add(self, x: u16, y: u16, z: u16, p: u8) -> CornerSums
-        requires { ⌜ (x ≤ 1024) × (y ≤ 1024) × (z ≤ 1024) × Room self 1076890624 ⌝ }
+        requires { ⌜ (x ≤ 1024) × (y ≤ 1024) × (z ≤ 1024) × RoomFor 1 self ⌝ }
         ensures { λ r. ⌜ r ≡ added self (record { x = x; y = y; z = z; pattern = p }) ⌝ }
     {
         CornerSums {
@@ -132,9 +138,9 @@ impl CornerSums {
         }
     }
 
-    // The totals that the sums are, where none is negative.
+    // The totals that the sums come to, where there are such: none of the sums is negative then.
     pub fn totals(self) -> Totals
-        requires { ⌜ (self .volume ≡ pos (natAbs (self .volume))) × (self .area ≡ pos (natAbs (self .area))) × (self .edge ≡ pos (natAbs (self .edge))) ⌝ }
+        requires { ⌜ SomeTotals self ⌝ }
         ensures { λ r. ⌜ Whole self r ⌝ }
     {
         Totals {

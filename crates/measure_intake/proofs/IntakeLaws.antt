@@ -1,72 +1,64 @@
 -- How the promises follow from the checks, the length of the work slice and the index, and what is known of an accepted list.
 use mathlib.Core.Path.{_≡_, refl, sym, _∙_, ap}
-use mathlib.Core.Bool.{Bool, true, false, cond}
-use mathlib.Core.List.{List, _++_}
+use mathlib.Core.List.{List, [], _∷_, _++_}
 use Prim.Native.Nat.{ℕ, _≤_, _<_}
 use native.Mathlib.Omega.{arith}
-use lib.Dec.{ltb}
 use lib.ListN.{length, drop}
-use borrow.Author.Tests.{lt-ltb, le-ltb}
 use Rattle.lattice.specs.Cells.{Cells}
 use Rattle.lattice_sums.specs.CornerSums.{totalsOf}
 use Rattle.lattice_sums.specs.declared.sums.Totals.{Totals}
 use Rattle.job.specs.Job.{Valid}
-use Rattle.job.specs.Checking.{checked, andThen}
+use Rattle.job.specs.Checking.{tests, checked}
 use Rattle.job.specs.declared.Refusal.{Refusal}
 use Rattle.job.specs.declared.Refusal.the-variants.{ShortWork}
 use Rattle.job.specs.declared.Checked.{Checked}
 use Rattle.job.specs.declared.Checked.the-variants.{Accepted, Refused}
 use Rattle.job.proofs.Conditions.{accepted-valid}
+use Rattle.job.proofs.Places.{first-stopped, checks}
 use Rattle.grid.specs.Grid.{indexOf, need, Holds}
-use Rattle.measure_intake.specs.Intake.{solid, measureChecked, shortWork, answerOf, measureAnswer, numbersOf, numbersAfter, measureNumbers, onChecked, workAfter, IndexCall, MeasureCall}
+use Rattle.measure_intake.specs.Intake.{solid, shortWork, measureTests, measureChecked, answerOf, measureAnswer, measuredNumbers, numbersAfter, measureNumbers, sliceAfter, workAfter, IndexCall, MeasureCall}
 use Rattle.measure_intake.specs.declared.Measured.{Measured}
 use Rattle.measure_intake.specs.declared.Measured.the-variants.{Quote, Refused as Unmeasured}
+use Rattle.measure_intake.proofs.OneMore.{too-short, long-enough, more-accepted}
 
 -- ---- the intake
 module _ (F E G : ℕ) (coords work : List ℕ) where
-  short : Checked → Checked
-  short c = andThen c (shortWork F E G coords (length work))
-
   -- the work slice after these checks
   left : Checked → List ℕ
-  left c = onChecked c work (indexOf F E G coords ++ drop (need F E G coords) work)
+  left c = sliceAfter c work (indexOf F E G coords ++ drop (need F E G coords) work)
 
   intake-is : {c : Checked} {work' : List ℕ} → c ≡ measureChecked F E G coords (length work) → work' ≡ left c → IndexCall F E G coords work c work'
   unfolding workAfter left
-  intake-is e k = record { answer = e; index = k ∙ ap left e }
+  intake-is e k = record { answer = e; numbers = checks (measureTests F E G coords (length work)) e .numbers; index = k ∙ ap left e }
 
   -- a list that the checks refuse
   pub refused-intake : {c : Checked} (r : Refusal) → c ≡ checked F E G coords → c ≡ Refused r → IndexCall F E G coords work c work
-  unfolding measureChecked short left
-  refused-intake r e k = intake-is (k ∙ ap short (sym k ∙ e)) (sym (ap left k))
+  unfolding measureTests left
+  refused-intake r e k =
+      intake-is (k ∙ sym (first-stopped (shortWork F E G coords (length work) ∷ []) (tests F E G coords) (sym e ∙ k))) (sym (ap left k))
 
   -- one that they accept, and a work slice that is too short or long enough
   module _ (accepted : checked F E G coords ≡ Accepted) where
     pub valid : Valid F E G coords
     valid = accepted-valid F E G coords .0 accepted
 
-    compared : {b : Bool} → ltb (length work) (need F E G coords) ≡ b → cond b (Refused (ShortWork (need F E G coords))) Accepted ≡ measureChecked F E G coords (length work)
-    unfolding measureChecked short
-    compared e = sym (ap short accepted ∙ ap (λ b. cond b (Refused (ShortWork (need F E G coords))) Accepted) e)
-
     pub short-intake : {n : ℕ} → n ≡ need F E G coords → length work < n → IndexCall F E G coords work (Refused (ShortWork n)) work
-    unfolding left
-    short-intake e h = intake-is (ap (λ n. Refused (ShortWork n)) e ∙ compared (lt-ltb (length work) (need F E G coords) (omega (arith, e)))) refl
+    unfolding measureTests left
+    short-intake e h =
+        intake-is (ap (λ n. Refused (ShortWork n)) e ∙ sym (too-short (tests F E G coords) (length work) (need F E G coords) (ShortWork (need F E G coords)) accepted (omega (arith, e)))) refl
 
     pub long-intake : {n : ℕ} {work' : List ℕ} → n ≡ need F E G coords → n ≤ length work → work' ≡ indexOf F E G coords ++ drop (need F E G coords) work
         → IndexCall F E G coords work Accepted work'
-    unfolding left
-    long-intake e h k = intake-is (compared (le-ltb (length work) (need F E G coords) (omega (arith, e)))) k
+    unfolding measureTests left
+    long-intake e h k = intake-is (sym (long-enough (tests F E G coords) (length work) (need F E G coords) (ShortWork (need F E G coords)) accepted (omega (arith, e)))) k
 
 -- ---- an accepted list: it is valid, and the work slice holds its index
 module _ {F E G : ℕ} {coords work work' : List ℕ} {c : Checked} (call : IndexCall F E G coords work c work') (k : c ≡ Accepted) where
   pub accepted-list : Valid F E G coords
-  unfolding measureChecked
-  accepted-list = accepted-valid F E G coords .0 (first (checked F E G coords) (sym (call .answer) ∙ k))
-    where
-      first : (c : Checked) → andThen c (shortWork F E G coords (length work)) ≡ Accepted → c ≡ Accepted
-      first Accepted k = refl
-      first (Refused r) k = k
+  unfolding measureTests
+  accepted-list =
+      accepted-valid F E G coords .0
+      (more-accepted (tests F E G coords) (length work) (need F E G coords) (ShortWork (need F E G coords)) .0 (sym (call .answer) ∙ k) .0)
 
   pub accepted-holds : Holds F E G coords work'
   unfolding workAfter left
@@ -76,18 +68,22 @@ module _ {F E G : ℕ} {coords work work' : List ℕ} {c : Checked} (call : Inde
   }
 
 -- ---- the numbers of an answer
-pub answer-numbers : (c : Checked) (F : ℕ) (s : Cells) → numbersOf (answerOf c F s) ≡ numbersAfter c F s
-unfolding numbersOf
+pub answer-numbers : (c : Checked) (F : ℕ) (s : Cells) → measuredNumbers (answerOf c F s) ≡ numbersAfter c F s
+unfolding measuredNumbers
 answer-numbers Accepted F s = refl
 answer-numbers (Refused r) F s = refl
 
 -- ---- measuring, after the intake
 module _ {F E G : ℕ} {coords work work' : List ℕ} {c : Checked} (call : IndexCall F E G coords work c work') where
-  pub measure-is : {m : Measured} → m ≡ answerOf c F (solid E coords) → MeasureCall F E G coords work m work'
+  measure-is : {m : Measured} → m ≡ answerOf c F (solid E coords) → MeasureCall F E G coords work m work'
   unfolding measureAnswer measureNumbers
   measure-is e =
       let k = e ∙ ap (λ c. answerOf c F (solid E coords)) (call .answer) in
-      record { answer = k; numbers = ap numbersOf k ∙ answer-numbers (measureChecked F E G coords (length work)) F (solid E coords); index = call .index }
+      record {
+        answer = k;
+        numbers = ap measuredNumbers k ∙ answer-numbers (measureChecked F E G coords (length work)) F (solid E coords);
+        index = call .index;
+      }
 
   pub refused-measure : (r : Refusal) → c ≡ Refused r → MeasureCall F E G coords work (Unmeasured r) work'
   refused-measure r k = measure-is (ap (λ c. answerOf c F (solid E coords)) (sym k))

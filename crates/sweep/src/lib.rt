@@ -7,7 +7,7 @@ ghost use lib.ListN.{length};
 ghost use Rattle.lattice.specs.Shots.{cells};
 ghost use Rattle.lattice.specs.Listing.{corners};
 ghost use Rattle.lattice_sums.specs.CornerSums.{Room, sumsOf};
-ghost use Rattle.lattice.proofs.PatternLaws.{x-axis};
+ghost use Rattle.lattice.specs.Axes.{x-axis};
 ghost use Rattle.job.specs.Job.{Valid, shotsOf, shotAt};
 ghost use Rattle.grid.specs.Grid.{Holds};
 ghost use Rattle.sweep_rows.specs.Runs.{InList, InRun, shotsIn};

@@ -4,7 +4,7 @@
 ghost use mathlib.Core.Path.{_≡_};
 ghost use Prim.Native.Nat.{_+_, _*_, _≤_};
 ghost use lib.ListN.{length};
-ghost use Rattle.lattice.specs.Listing.{join};
+ghost use Rattle.lattice.specs.Sums.{join};
 ghost use Rattle.lattice_sums.specs.CornerSums.{Room};
 ghost use Rattle.sweep_rows.specs.Runs.{shotsIn};
 ghost use Rattle.sweep_fours.specs.Fours.{Bounded};

@@ -6,7 +6,7 @@ ghost use Prim.Native.Nat.{_+_, _≤_};
 ghost use lib.ListN.{length};
 ghost use Rattle.job.specs.Job.{shotAt};
 ghost use Rattle.lattice_sums.specs.CornerSums.{Room};
-ghost use Rattle.lattice.proofs.PatternLaws.{y-axis};
+ghost use Rattle.lattice.specs.Axes.{y-axis};
 ghost use Rattle.sweep_rows.specs.Runs.{InList, InRun, shotsIn};
 ghost use Rattle.sweep_marks.specs.Marks.{MarkedMore, Marked};
 ghost use Rattle.sweep_tally.specs.Found.{state};

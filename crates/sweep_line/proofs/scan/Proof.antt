@@ -4,7 +4,7 @@ use mathlib.Core.Logic.{_≢_}
 use Prim.Native.Nat.{_≤_, _-_, _+_}
 use native.Mathlib.Omega.{arith}
 use lib.ListN.{length, getD}
-use Rattle.lattice.specs.Listing.{join}
+use Rattle.lattice.specs.Sums.{join}
 use Rattle.lattice_sums.specs.CornerSums.{Room}
 use Rattle.sweep_tally.specs.Found.{state, found}
 use Rattle.sweep_line.specs.Line.{lineFrom}

@@ -1,13 +1,12 @@
 -- The coordinates are at most 1,024, and the weights at most 2.
-use mathlib.Core.Path.{_≡_, _∙_, ap}
-use Prim.Native.Nat.{_*_}
+use mathlib.Core.Path.{_≡_, _∙_}
 use native.Mathlib.Omega.{arith}
-use lib.IntN.{pos, _+ℤ_, _*ℤ_}
 use mir.Syntax.{w8}
 use mir.Val.{toZ, ofZ}
 use Rattle.lattice.specs.Pattern.{ofByte, ex, ey, ez, edgeTerm}
-use Rattle.lattice.proofs.PatternLaws.{ex-small, ey-small, ez-small}
-use Rattle.lattice.proofs.TermBounds.{edge-term-small}
+use Rattle.lattice.specs.Figures.{EdgeLength}
+use Rattle.lattice.proofs.PatternLaws.{weight-small}
+use Rattle.lattice.proofs.TermBounds.{term-small}
 use Rattle.lattice_sums.proofs.CornerSumLaws.{told8, told64}
 use borrow.Author.Needs.{needs}
 use Rattle.lattice_sums.proofs.sums.edge_term.Statement.{statement}
@@ -32,10 +31,10 @@ weight-ez-requires : tie.Need-weight-ez-requires
 weight-ez-requires c κs = search needs
 
 three-requires : tie.Need-three-requires
-three-requires c κs = let s = c .before .before .before in (omega (arith, s .pre), omega (arith, s .pre), omega (arith, s .pre), rw (weight-x (c .before .before)) (ex-small (ofByte (s .args .p))), rw (weight-y (c .before)) (ey-small (ofByte (s .args .p))), rw (weight-z c) (ez-small (ofByte (s .args .p))))
+three-requires c κs = let s = c .before .before .before in (omega (arith, s .pre), omega (arith, s .pre), omega (arith, s .pre), rw (weight-x (c .before .before)) (weight-small 4 (ofByte (s .args .p))), rw (weight-y (c .before)) (weight-small 5 (ofByte (s .args .p))), rw (weight-z c) (weight-small 6 (ofByte (s .args .p))))
 
 returns : tie.Need-returns
-returns c = let s = c .before .before .before .before in let e = told64 {v = edgeTerm (s .args .x) (s .args .y) (s .args .z) (ofByte (s .args .p))} (c .three .ok) (c .three .ensures .0 ∙ rw (weight-x (c .before .before .before), weight-y (c .before .before), weight-z (c .before))) in (e, rw e (edge-term-small (s .args .x) (s .args .y) (s .args .z) (ofByte (s .args .p)) (s .pre .0) (s .pre .1) (s .pre .2)))
+returns c = let s = c .before .before .before .before in let e = told64 {v = edgeTerm (s .args .x) (s .args .y) (s .args .z) (ofByte (s .args .p))} (c .three .ok) (c .three .ensures .0 ∙ rw (weight-x (c .before .before .before), weight-y (c .before .before), weight-z (c .before))) in (e, rw e (term-small EdgeLength (s .args .x) (s .args .y) (s .args .z) (ofByte (s .args .p)) (s .pre .0) (s .pre .1) (s .pre .2)))
 
 pub edge-term-spec : {M : Type 1} → statement M
 edge-term-spec =

@@ -1,8 +1,8 @@
 -- Each product is at most 2²¹.
 use mathlib.Core.Path.{_≡_, _∙_, ap, ap₂}
-use Prim.Native.Nat.{_*_, _≤_}
+use Prim.Native.Nat.{_*_}
 use native.Mathlib.Omega.{arith}
-use lib.IntN.{pos, natAbs, _+ℤ_, _*ℤ_}
+use lib.IntN.{pos, _+ℤ_, _*ℤ_}
 use mir.Facts.{toZ-ofZ}
 use Rattle.lattice.proofs.TermBounds.{scaled-small, sum-of-two, sum-of-three}
 use Rattle.lattice_sums.proofs.CornerSumLaws.{told64}

@@ -1,7 +1,4 @@
 -- The number is not negative, so that it is its magnitude.
-use mathlib.Core.Path.{subst, sym, _∙_}
-use lib.IntN.{ℤ, pos, natAbs}
-use mir.Facts.{toZ-ofZ}
 use Rattle.lattice_sums.proofs.CornerSumLaws.{whole-asked}
 use borrow.Author.Needs.{needs}
 use Rattle.lattice_sums.proofs.sums.whole.Statement.{statement}

@@ -2,7 +2,7 @@
 use borrow.Author.Needs.{needs}
 use native.Mathlib.Omega.{arith}
 use Rattle.lattice.specs.Pattern.{ax, ofByte}
-use Rattle.lattice.proofs.PatternLaws.{ax-small}
+use Rattle.lattice.proofs.PatternLaws.{weight-small}
 use Rattle.lattice_sums.proofs.TableLaws.{entry}
 use Rattle.lattice_sums.proofs.tables.weight_ax.Statement.{statement}
 use Rattle.lattice_sums.proofs.tables.weight_ax.Tie as tie
@@ -12,7 +12,7 @@ array-copy-out-result c = search needs
 
 returns : tie.Need-returns
 unfolding ax ofByte
-returns c = entry 2 ax ax-small (omega arith) (c .before .args .p) (search needs)
+returns c = entry 2 ax (weight-small 1) (omega arith) (c .before .args .p) (search needs)
 
 pub weight-ax-spec : {M : Type 1} → statement M
 weight-ax-spec = tie.close (tie.spec array-copy-out-result returns)
