@@ -2,8 +2,8 @@
 //! whole-number lattice, and the shot files that hold such lists.
 //!
 //! The work is done by the proved library `libcapi.a`; this crate turns its calls into safe functions. [`measure`],
-//! [`list`], [`recount`], [`read`] and [`write`] use buffers that the caller lends and allocate nothing; [`quote`],
-//! [`corners`], [`from_file`] and [`to_file`] allocate what they need.
+//! [`list`], [`recount`], [`index`], [`read`] and [`write`] use buffers that the caller lends and allocate nothing;
+//! [`quote`], [`corners`], [`from_file`] and [`to_file`] allocate what they need.
 //!
 //! ```
 //! use heqdanu::{quote, List, Totals};
@@ -113,9 +113,23 @@ pub fn recount(list: &List, work: &mut [u32]) -> Result<Totals, Refusal> {
     measure_by(raw::heqdanu_recount, list, work)
 }
 
+/// Leaves the grid index of a list in the first entries of `work` and measures nothing; nothing else changes. The same
+/// refusals as [`measure`].
+pub fn index(list: &List, work: &mut [u32]) -> Result<(), Refusal> {
+    let (written, [number, detail]) = answer_of(raw::heqdanu_index, list, work);
+    numbers(written, [number, detail, 0, 0, 0, 0])?;
+    Ok(())
+}
+
 /// Measures a list by one of the calls that do.
-fn measure_by(call: raw::Measuring, list: &List, work: &mut [u32]) -> Result<Totals, Refusal> {
-    let mut answer = [0; 6];
+fn measure_by(call: raw::Indexing, list: &List, work: &mut [u32]) -> Result<Totals, Refusal> {
+    let (written, answer) = answer_of(call, list, work);
+    totals(written, answer)
+}
+
+/// What a call on a list and a work slice answers in so many places.
+fn answer_of<const N: usize>(call: raw::Indexing, list: &List, work: &mut [u32]) -> (u8, [u64; N]) {
+    let mut answer = [0; N];
     // SAFETY: each pointer comes from a slice with the length beside it, and no two of them overlap.
     let written = unsafe {
         call(
@@ -130,7 +144,7 @@ fn measure_by(call: raw::Measuring, list: &List, work: &mut [u32]) -> Result<Tot
             answer.len(),
         )
     };
-    totals(written, answer)
+    (written, answer)
 }
 
 /// Reads a shot file. Success stores the shots in the first places of `coords`; nothing else changes. Ranges are not
