@@ -1,5 +1,5 @@
 // From the bytes of a shot file to the bytes that the quoting program prints: specs/Quoting.antt says which.
-// The programs `quote` and `recount` only move these bytes in and out. Stands on `shotfile`, `measure`, `measure_cells` and `text_report`.
+// The programs `quote` and `recount` only move these bytes in and out. Stands on `shotfile`, `measure`, `measure_shown` and `text_report`.
 ghost use Prim.Native.Nat.{_≤_};
 ghost use lib.ListN.{length};
 ghost use Rattle.buffer.specs.Wrote.{Wrote};
@@ -29,7 +29,7 @@ fn figures(
     ensures { λ r. ⌜ MeasureCall field edge grid (now (coords .entry)) (now (work .entry)) r (now (work .exit)) ⌝ }
 {
     if again {
-        return measure_cells::recount(field, edge, grid, coords, work);
+        return measure_shown::recount(field, edge, grid, coords, work);
     }
     measure::measure(field, edge, grid, coords, work)
 }
