@@ -35,7 +35,7 @@ fn shot_covers(coords: &[u16], edge: u16, shot: u32, i: u16, j: u16, k: u16) -> 
 }
 
 // Whether some shot of the run covers the cell (i, j, k): a recursion on the run's halves. The run may be any numbers.
-pub fn covers(coords: &[u16], edge: u16, run: &[u32], i: u16, j: u16, k: u16) -> bool
+fn halves(coords: &[u16], edge: u16, run: &[u32], i: u16, j: u16, k: u16) -> bool
     ensures { λ r. ⌜ r ≡ runCovers edge (now (coords .entry)) (now (run .entry)) i j k ⌝ }
 {
     let n = run.len();
@@ -46,8 +46,18 @@ pub fn covers(coords: &[u16], edge: u16, run: &[u32], i: u16, j: u16, k: u16) ->
         return shot_covers(coords, edge, run[0], i, j, k);
     }
     let half = n / 2;
-    if covers(coords, edge, &run[..half], i, j, k) {
+    if halves(coords, edge, &run[..half], i, j, k) {
         return true;
     }
-    covers(coords, edge, &run[half..], i, j, k)
+    halves(coords, edge, &run[half..], i, j, k)
+}
+
+// Whether some shot of the run covers the cell (i, j, k). A run of one shot, which most lines of cells have, needs no recursion.
+pub fn covers(coords: &[u16], edge: u16, run: &[u32], i: u16, j: u16, k: u16) -> bool
+    ensures { λ r. ⌜ r ≡ runCovers edge (now (coords .entry)) (now (run .entry)) i j k ⌝ }
+{
+    if run.len() == 1 {
+        return shot_covers(coords, edge, run[0], i, j, k);
+    }
+    halves(coords, edge, run, i, j, k)
 }
