@@ -1,8 +1,8 @@
 // Putting the uniform grid index of a list into a lent work slice. Document 01, 'The grid index'.
 //
 // `build` leaves the index as a function of the list (specs/Grid.antt of `grid`), and past it what was there. The shots are narrowed to a
-// slab, a row and a cell, and each run goes behind the one before it; nothing of the work slice serves as scratch. specs/Filling.antt says what
-// stands in the slice while it is filled. Stands on `grid`, whose index it puts in, and on `buffer`, `lattice` and `job`.
+// slab, a row and a cell, and each run goes behind the one before it; nothing of the work slice serves as scratch. specs/Filling.antt says
+// what stands in the slice while it is filled. Stands on `grid`, whose index it puts in, and on `buffer`, `lattice` and `job`.
 ghost use mathlib.Core.Path.{_≡_};
 ghost use Prim.Native.Nat.{_+_, _-_, _*_, _≤_, _<_};
 ghost use lib.ListN.{length, set};
@@ -29,7 +29,8 @@ fn narrow(
 ) -> usize
     requires { ⌜ AllBelow (shotCount (now coords)) (now from) ⌝ }
     requires { ⌜ at + length (narrowed axis width interval edge (now coords) (now from)) ≤ length (now to) ⌝ }
-    ensures { λ r. ⌜ Wrote (now (to .entry)) (now (to .exit)) at r (narrowed axis width interval edge (now (coords .entry)) (now (from .entry))) ⌝ }
+    ensures { λ r. ⌜ Wrote (now (to .entry)) (now (to .exit)) at r
+        (narrowed axis width interval edge (now (coords .entry)) (now (from .entry))) ⌝ }
 {
     let mut next = at;
     for i in 0..from.len() {

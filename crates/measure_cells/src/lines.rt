@@ -43,7 +43,8 @@ pub fn narrow_to_line(
 ) -> usize
     requires { ⌜ AllBelow (shotCount (now coords)) (now run) ⌝ }
     requires { ⌜ length (now run) ≤ length (now to) ⌝ }
-    ensures { λ r. ⌜ Wrote (now (to .entry)) (now (to .exit)) 0 r (those (reachesLine edge (now (coords .entry)) x y) (now (run .entry))) ⌝ }
+    ensures { λ r. ⌜ Wrote (now (to .entry)) (now (to .exit)) 0 r
+        (those (reachesLine edge (now (coords .entry)) x y) (now (run .entry))) ⌝ }
 {
     let mut next = 0;
     for i in 0..run.len() {

@@ -1,6 +1,6 @@
 // Point by point over the field: the pattern of each lattice point through the cover test, and what it counts.
-// One run serves the eight cells about a point, since closed boxes that touch are enough (proofs/CoverRuns.antt of `grid_cover`), and of it only
-// the shots that reach the line of the point (proofs/LineLaws.antt).
+// One run serves the eight cells about a point, since closed boxes that touch are enough (proofs/CoverRuns.antt of `grid_cover`), and of it
+// only the shots that reach the line of the point (proofs/LineLaws.antt).
 ghost use mathlib.Core.Path.{_≡_};
 ghost use Prim.Native.Nat.{_+_, _*_, _/_, _≤_};
 ghost use lib.ListN.{length};
@@ -53,8 +53,8 @@ fn quad_ends(coords: &[u16], edge: u16, run: &[u32], x: u16, y: u16, z: u16) -> 
     p + 4 * q + 16 * r + 64 * s
 }
 
-// The figures with those of the points of the line at (x, y) from one on, as a run covers the cells about them. Each quarter of cells is asked
-// once: what is above a point is below the next.
+// The figures with those of the points of the line at (x, y) from one on, as a run covers the cells about them. Each cell about the line is
+// asked once: what is above a point is below the next.
 fn count_points(
     coords: &[u16],
     edge: u16,
