@@ -17,8 +17,8 @@ use Rattle.lattice.proofs.PatternLaws.{still-no-corner, x-axis}
 use Rattle.lattice.proofs.ShotLaws.{and-elim, holds, below-cells, holds-still}
 use Rattle.lattice.proofs.SameSolid.{join-nil, join-end, here-none}
 use Rattle.sweep_rows.specs.Rows.{Ends}
-use Rattle.sweep_fours.specs.Fours.{lowOf, fourOf, Filled}
-use Rattle.sweep_line.specs.Line.{turn, since, lineFrom}
+use Rattle.sweep_fours.specs.Fours.{lowOf, fourOf, Overlaid}
+use Rattle.sweep_line.specs.Line.{turn, lineFrom, lineTo}
 use Rattle.sweep_windows.specs.Windows.{Frames, FaceAt, FramedAt}
 use Rattle.sweep_line.proofs.Patterns.{turn-here}
 
@@ -76,11 +76,11 @@ module _ (x y lo hi : ℕ) (ts : List Shot) (f : FramedAt x y lo hi ts) where
       go z (yes l) = inr (omega arith)
       go z (no l) = inl (omega arith)
 
-  pub row-is : {p0 u0 p1 u1 low four : List ℕ} → Ends x y ts p0 → Ends x (y + 1) ts u0 → Ends (x + 1) y ts p1 → Ends (x + 1) (y + 1) ts u1
-      → Filled lo (hi + 2) (lowOf y p0 p1) low → Filled lo (hi + 2) (fourOf y low u0 u1) four → hi ≤ 1024
-      → join (hi + 1) (lineFrom lo x y four) ≡ join 1025 (here (cells ts) x y)
+  pub row-is : {p0 u0 p1 u1 low₀ low four₀ four : List ℕ} → Ends x y ts p0 → Ends x (y + 1) ts u0 → Ends (x + 1) y ts p1 → Ends (x + 1) (y + 1) ts u1
+      → Overlaid lo (hi + 2) (lowOf y p0 p1) low₀ low → Overlaid lo (hi + 2) (fourOf y low u0 u1) four₀ four → hi ≤ 1024
+      → lineTo lo hi x y four ≡ join 1025 (here (cells ts) x y)
   unfolding lineFrom
-  row-is {p0} {u0} {p1} {u1} {low} {four} a b c d l g h =
+  row-is {four = four} a b c d l g h =
       let F : ℕ → List Corner = here (cells ts) x y in
       let k : 1024 - hi + (hi + 1) ≡ 1025 = omega arith in
       join-below (hi + 1) (λ z m. inside z m (leb lo z) refl)
