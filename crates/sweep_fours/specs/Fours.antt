@@ -22,6 +22,10 @@ pub record Overlaid (lo end : ℕ) (f : ℕ → ℕ) (l₀ l : List ℕ) : Type 
   pub before : take lo l ≡ take lo l₀
   pub after : drop end l ≡ drop end l₀
 
+-- `after` is `before` with the four cells at these places
+abbrev pub WithFours : ℕ → ℕ → ℕ → List ℕ → List ℕ → List ℕ → List ℕ → List ℕ → Type 0
+WithFours lo end y low u0 u1 before after = Overlaid lo end (fourOf y low u0 u1) before after
+
 pub record Bounded (lo end m : ℕ) (l : List ℕ) : Type 0 where
   pub at : (z : ℕ) → lo ≤ z → z < end → getD l z 0 ≤ m
 

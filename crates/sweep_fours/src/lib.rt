@@ -7,7 +7,7 @@ ghost use lib.Dec.{ltb};
 ghost use lib.ListN.{length};
 ghost use mathlib.Core.Bool.{true, false};
 ghost use Rattle.lattice.specs.Cells.{bit};
-ghost use Rattle.sweep_fours.specs.Fours.{Overlaid, Bounded, Still, StillIf, FirstChange, lowOf, fourOf};
+ghost use Rattle.sweep_fours.specs.Fours.{Overlaid, Bounded, Still, StillIf, FirstChange, lowOf, WithFours};
 
 fn one(b: bool) -> u8
     ensures { λ r. ⌜ (r ≡ bit b) × (r ≤ 1) ⌝ }
@@ -46,7 +46,7 @@ pub fn below(y: u16, lo: usize, end: usize, u0: &[u16], u1: &[u16], low: &mut [u
 pub fn above(y: u16, lo: usize, end: usize, u0: &[u16], u1: &[u16], low: &[u8], four: &mut [u8])
     requires { ⌜ (y ≤ 1024) × (lo ≤ end) × (end ≤ 1026) × (length (now low) ≡ 1026) × (length (now four) ≡ 1026) ⌝ }
     requires { ⌜ (length (now u0) ≡ 1026) × (length (now u1) ≡ 1026) × Bounded lo end 17 (now low) ⌝ }
-    ensures { λ _. ⌜ Overlaid lo end (fourOf y (now (low .entry)) (now (u0 .entry)) (now (u1 .entry))) (now (four .entry)) (now (four .exit)) ⌝ }
+    ensures { λ _. ⌜ WithFours lo end y (now (low .entry)) (now (u0 .entry)) (now (u1 .entry)) (now (four .entry)) (now (four .exit)) ⌝ }
     ensures { λ _. ⌜ Bounded lo end 85 (now (four .exit)) ⌝ }
 {
     let mut z = lo;

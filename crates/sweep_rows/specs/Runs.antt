@@ -1,7 +1,8 @@
 -- Runs: lists of shot numbers, by which the sweep names the shots that matter for a plane.
+use mathlib.Core.Path.{_≡_}
 use mathlib.Core.List.{List, [], _∷_}
 use Prim.Native.Nat.{ℕ, zero, suc, _<_}
-use lib.ListN.{length, getD}
+use lib.ListN.{length, getD, drop}
 use Rattle.lattice.specs.Shots.{Shot, InField}
 use Rattle.job.specs.Job.{shotCount, shotAt}
 
@@ -21,3 +22,7 @@ runTo e c run (suc n) = shotAt e c (getD run n 0) ∷ runTo e c run n
 
 abbrev pub shotsIn : ℕ → List ℕ → List ℕ → List Shot
 shotsIn e c run = runTo e c run (length run)
+
+-- the places of a slice past those of a run keep their values
+abbrev pub KeptPast : List ℕ → List ℕ → List ℕ → Type 0
+KeptPast run before after = drop (length run) after ≡ drop (length run) before

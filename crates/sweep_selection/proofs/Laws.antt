@@ -1,12 +1,12 @@
 -- One shot more of a selection, and what a selection keeps.
-use mathlib.Core.Path.{_≡_, refl, sym, _∙_, ap}
+use mathlib.Core.Path.{_≡_, refl, sym, _∙_, ap, ap₂}
 use mathlib.Core.Bool.{Bool, true, false, cond, _||_}
 use mathlib.Core.List.{List, [], _∷_, _++_, append-nil}
-use Prim.Native.Nat.{ℕ, zero, suc, _+_, _<_, _≤_}
+use Prim.Native.Nat.{ℕ, zero, suc, _+_, _-_, _<_, _≤_}
 use native.Mathlib.Omega.{arith}
 use lib.Dec.{T, leb, eqb}
-use lib.ListN.{length, getD, set, take}
-use lib.Seq.{length-take-le, take-all}
+use lib.ListN.{length, getD, set, take, drop}
+use lib.Seq.{length-take-le, take-all, drop-append-add, drop-drop}
 use borrow.Author.Tests.{lt-leb, le-leb}
 use Rattle.buffer.specs.Wrote.{Wrote}
 use Rattle.buffer.proofs.WroteLaws.{wrote-none, wrote-one, wrote-then, wrote-as, wrote-length}
@@ -14,7 +14,7 @@ use Rattle.job.specs.Job.{shotAt}
 use Rattle.lattice.specs.Shots.{Shot, any}
 use Rattle.grid.specs.Numbers.{keep}
 use Rattle.grid.proofs.NumberLaws.{keep-next, keep-length}
-use Rattle.sweep_rows.specs.Runs.{InList, InRun, runTo, shotsIn}
+use Rattle.sweep_rows.specs.Runs.{InRun, KeptPast, runTo, shotsIn}
 use Rattle.sweep_selection.specs.Selection.{wantedAt, wanted, isWanted, selected, wantedOf}
 
 -- ---- one shot
@@ -97,6 +97,14 @@ module _ (e : ℕ) (c : List ℕ) where
 
     pub selected-few : (run : List ℕ) → length (selected face x e c run) ≤ length run
     selected-few run = keep-length (isWanted face x e c) run
+
+    -- the places past those of the run keep their values
+    pub selected-past : (run : List ℕ) {d d' : List ℕ} {n : ℕ} → Wrote d d' 0 n (selected face x e c run) → KeptPast run d d'
+    selected-past run {d} {d'} {n} w =
+        let xs : List ℕ = selected face x e c run in
+        let m : length run ≡ length xs + (length run - n) = omega (arith, w .next, selected-few run) in
+        let k : n + (length run - n) ≡ length run = omega (arith, w .next, selected-few run) in
+        ap₂ drop m (w .is) ∙ drop-append-add xs (drop n d) (length run - n) ∙ drop-drop (length run - n) n d ∙ ap (λ i. drop i d) k
 
 -- ---- what a selection keeps
 module _ (face : Bool) (x : ℕ) (f : Shot → Bool) (h : (t : Shot) → T (f t) → T (wanted face x t)) where
