@@ -1,15 +1,16 @@
 -- The corners of a plane, and what its parts promise each other.
 use mathlib.Core.Path.{_≡_}
 use mathlib.Core.List.{List}
-use Prim.Native.Nat.{ℕ, suc, _+_, _-_}
-use lib.ListN.{getD}
+use Prim.Native.Nat.{ℕ, _+_, _-_, _≤_}
+use lib.ListN.{length, getD}
 use Rattle.lattice.specs.Shots.{Shot, cells}
 use Rattle.lattice.specs.Listing.{Corner, join, here}
 use Rattle.lattice.specs.CornerSums.{Room}
+use Rattle.lattice.specs.declared.sums.CornerSums.{CornerSums}
 use Rattle.lattice.proofs.PatternLaws.{y-axis}
 use Rattle.lattice.proofs.ShotLaws.{NoFace}
 use Rattle.sweep_rows.specs.Runs.{InRun, shotsIn}
-use Rattle.sweep_tally.specs.Found.{Found, found}
+use Rattle.sweep_tally.specs.Found.{Found, state, found}
 use Rattle.sweep_windows.specs.Windows.{Framed, FramedAt, Rows}
 
 -- the corners of the lines below n of the plane x, each line as long as the largest field
@@ -26,7 +27,7 @@ pub record UnlessMarked (mark y : ℕ) (ts : List Shot) : Type 0 where
 
 -- a window that frames `faces` frames the shots of the run that have a face at x
 pub record Faces (c : List ℕ) (e x : ℕ) (run faces : List ℕ) : Type 0 where
-  pub in-faces : InRun 1024 e c faces
+  pub in-faces : InRun e c faces
   pub faced : (y lo hi : ℕ) → Framed y lo hi (shotsIn e c faces) → FramedAt x y lo hi (shotsIn e c run)
 
 -- the window of each line frames the shots that have a face at x
@@ -34,6 +35,19 @@ pub record WindowsAt (x : ℕ) (lows highs : List ℕ) (ts : List Shot) : Type 0
   pub rows : Rows lows highs
   pub framed-at : (y : ℕ) → FramedAt x y (1025 - getD lows y 0) (getD highs y 0) ts
 
+-- what the corners of the plane x of a field of side n are found from: a run of shots, and sums with room for one plane more
+pub record PlaneIn (c : List ℕ) (e n x : ℕ) (run : List ℕ) (t : CornerSums) : Type 0 where
+  pub in-run : InRun e c run
+  pub few : length run ≤ 4096
+  pub x-in : x ≤ 1024
+  pub field-in : n ≤ 1024
+  pub room : Room t 1075840000
+
+-- g is f with the corners of the plane x
 pub record PlaneOut (n x : ℕ) (ts : List Shot) (f g : Found) : Type 0 where
   pub is : g ≡ found f (planeOf n x ts)
   pub room : Room (g .sums) (f .sums .corners + 1050625)
+
+-- the same of the sums t and a buffer before, and the sums r and the buffer after
+abbrev pub PlaneFound : ℕ → ℕ → ℕ → List ℕ → List ℕ → CornerSums → List ℕ → CornerSums → List ℕ → Type 0
+PlaneFound n x e c run t before r after = PlaneOut n x (shotsIn e c run) (state t before) (state r after)
