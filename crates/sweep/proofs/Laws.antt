@@ -22,41 +22,47 @@ use Rattle.lattice.proofs.PatternLaws.{x-axis, still-no-corner}
 use Rattle.lattice.proofs.ShotLaws.{and-elim, or-elim, NoFace, no-face-no-corner}
 use Rattle.lattice.proofs.Cases.{bool-ext}
 use Rattle.lattice.proofs.SameSolid.{join-nil, join-end, here-none}
-use Rattle.job.specs.Job.{Valid, shotsOf, shotAt}
+use Rattle.job.specs.Job.{Valid, shotCount, shotsOf, shotAt}
 use Rattle.job.proofs.Tests.{or-left, or-right}
 use Rattle.job.proofs.Shots.{stay-at, any-at, at-any}
 use Rattle.job.proofs.Conditions.{valid-within}
 use Rattle.buffer.specs.Wrote.{Wrote}
 use Rattle.buffer.proofs.WroteLaws.{front-part}
 use Rattle.grid.specs.Numbers.{has}
-use Rattle.grid.specs.Grid.{slabOf, shotCount, touchesSlab, meets}
+use Rattle.grid.specs.Grid.{slabOf, touchesSlab, meets}
 use Rattle.grid.proofs.NumberLaws.{has-keep}
 use Rattle.grid.proofs.CellLaws.{slab-few}
 use Rattle.grid.proofs.ShotLaws.{width-times}
 use Rattle.grid_runs.proofs.SlabLaws.{plane-meets, slab-has}
-use Rattle.sweep_rows.specs.Runs.{InRun, runTo, shotsIn}
-use Rattle.sweep_marks.specs.Marks.{MarkedMore, Marked}
+use Rattle.sweep_rows.specs.Runs.{InList, InRun, runTo, shotsIn}
+use Rattle.sweep_marks.specs.Marks.{marked, Marked}
+use Rattle.sweep_marks.proofs.Laws.{marked-other}
 use Rattle.sweep_selection.specs.Selection.{wanted}
 use Rattle.sweep_tally.specs.Found.{Found, state, found}
 use Rattle.sweep_tally.proofs.Laws.{found-append}
 use Rattle.sweep_line.proofs.Laws.{room-own}
 use Rattle.sweep_plane.specs.Plane.{linesTo, planeOf, PlaneOut}
 use Rattle.sweep_plane.proofs.Laws.{plane-same}
-use Rattle.sweep.specs.Sweep.{AllIn, MarkedList, BlankIf, Agree, planesTo, Swept, InSlab}
+use Rattle.sweep.specs.Sweep.{AllIn, MarkedList, MarkedAll, BlankIf, Agree, SlabRun, planesTo, Swept, InSlab}
 
 -- ---- marks
 pub list-none : (e : ℕ) (c row : List ℕ) → MarkedList e c 0 row
 list-none e c row = record { at = λ p h i l. absurd (omega arith) }
 
-pub list-more : (e : ℕ) (c : List ℕ) (n : ℕ) {row row' : List ℕ} → MarkedList e c n row → MarkedMore (shotAt e c n .x) e row row' → MarkedList e c (n + 1) row'
-list-more e c n {row} {row'} f g = record { at = λ p h i l. go p h i l (eqb i n) refl }
+pub list-more : (e : ℕ) (c : List ℕ) (n : ℕ) {row row' : List ℕ} {a b : ℕ} → InList e c n → length row ≡ 1026
+    → a ≡ shotAt e c n .x → b ≡ shotAt e c n .edge → row' ≡ marked a b row → MarkedList e c n row → MarkedList e c (n + 1) row'
+list-more e c n {row} {row'} j len ea eb er f = record { at = λ p h i l. go p (other p h) i l (eqb i n) refl }
   where
-    go : (p : ℕ) → getD row' p 0 ≡ 0 → (i : ℕ) → i < n + 1 → (b : Bool) → eqb i n ≡ b → (shotAt e c i .x ≢ p) × (shotAt e c i .x + e ≢ p)
-    go p h i l true k = rw (eqb-true i n k) (g .at p h .1, g .at p h .2)
-    go p h i l false k = f .at p (g .at p h .0) i (let m : (i ≡ n → ⊥) = eqb-false i n k in omega arith)
+    other : (p : ℕ) → getD row' p 0 ≡ 0 → (getD row p 0 ≡ 0) × (shotAt e c n .x ≢ p) × (shotAt e c n .x + shotAt e c n .edge ≢ p)
+    other p h = marked-other row (shotAt e c n .x) (shotAt e c n .edge) len (j .inside .x-in) p (rw (er, ea, eb) at h)
+
+    go : (p : ℕ) → (getD row p 0 ≡ 0) × (shotAt e c n .x ≢ p) × (shotAt e c n .x + shotAt e c n .edge ≢ p) → (i : ℕ) → i < n + 1 → (b : Bool) → eqb i n ≡ b
+        → (shotAt e c i .x ≢ p) × (shotAt e c i .x + shotAt e c i .edge ≢ p)
+    go p h i l true k = rw (eqb-true i n k) (h .1, h .2)
+    go p h i l false k = f .at p (h .0) i (let m : (i ≡ n → ⊥) = eqb-false i n k in omega arith)
 
 -- no shot of a run has a face where the list's shots have none
-no-faces : (e : ℕ) (c run : List ℕ) (p q : ℕ) → ((k : ℕ) → k < q → (shotAt e c (getD run k 0) .x ≢ p) × (shotAt e c (getD run k 0) .x + e ≢ p)) → NoFace x-axis p (runTo e c run q)
+no-faces : (e : ℕ) (c run : List ℕ) (p q : ℕ) → ((k : ℕ) → k < q → (shotAt e c (getD run k 0) .x ≢ p) × (shotAt e c (getD run k 0) .x + shotAt e c (getD run k 0) .edge ≢ p)) → NoFace x-axis p (runTo e c run q)
 unfolding runTo
 no-faces e c run p zero f = tt
 no-faces e c run p (suc q) f = (f q (omega arith) .0, f q (omega arith) .1, no-faces e c run p q (λ k l. f k (omega arith)))
@@ -171,15 +177,16 @@ module _ (F E G : ℕ) (coords : List ℕ) (v : Valid F E G coords) where
   all-in i h =
       let s : InField F (shotAt E coords i) = stay-at F E coords (v .inside) i h in
       record {
-        there = omega (arith, h);
-        x-in = omega (arith, s .x-in, v .field-most);
-        y-in = omega (arith, s .y-in, v .field-most);
-        z-in = omega (arith, s .z-in, v .field-most);
-        field = omega arith;
+        there = h;
+        inside = record {
+          x-in = omega (arith, s .x-in, v .field-most);
+          y-in = omega (arith, s .y-in, v .field-most);
+          z-in = omega (arith, s .z-in, v .field-most);
+        };
       }
 
   module _ (gx : ℕ) where
-    pub slab-below : (k : ℕ) → k < length (slabOf F E G coords gx) → getD (slabOf F E G coords gx) k 0 < length coords / 3
+    pub slab-below : (k : ℕ) → k < length (slabOf F E G coords gx) → getD (slabOf F E G coords gx) k 0 < shotCount coords
     unfolding slabOf
     slab-below k h =
         let i : ℕ = getD (slabOf F E G coords gx) k 0 in
@@ -187,7 +194,7 @@ module _ (F E G : ℕ) (coords : List ℕ) (v : Valid F E G coords) where
         = subst T (has-keep i (λ i. touchesSlab (F / G) gx (shotAt E coords i)) (shotCount coords)) (place-has (slabOf F E G coords gx) k h) in
         ltb→lt i (shotCount coords) (and-elim (ltb i (shotCount coords)) (touchesSlab (F / G) gx (shotAt E coords i)) t .0)
 
-    pub slab-in-run : InRun 1024 E coords (slabOf F E G coords gx)
+    pub slab-in-run : InRun E coords (slabOf F E G coords gx)
     slab-in-run k h = all-in (getD (slabOf F E G coords gx) k 0) (slab-below k h)
 
     slab-any : (x : ℕ) → gx * (F / G) ≤ x → x ≤ (gx + 1) * (F / G) → (f : Shot → Bool) → ((t : Shot) → T (f t) → T (wanted false x t))
@@ -214,11 +221,11 @@ module _ (F E G : ℕ) (coords : List ℕ) (v : Valid F E G coords) where
     }
 
     -- a slab without marks has no corner
-    pub slab-skip : (from end : ℕ) → InSlab F G gx from end → {row : List ℕ} {t : Bool} → MarkedList E coords (length coords / 3) row → BlankIf t from end row → t ≡ true
+    pub slab-skip : (from end : ℕ) → InSlab F G gx from end → {row : List ℕ} {t : Bool} → MarkedAll E coords row → BlankIf t from end row → t ≡ true
         → (f : Found) → Room (f .sums) (from * 1050625) → Swept F from end (shotsOf E coords) f f
     slab-skip from end s {row} m b e = swept-skip F from (shotsOf E coords) end (s .order) (λ x l h.
         sym (slab-agree from end s .at x l h)
-        ∙ plane-bare F x (shotsIn E coords (slabOf F E G coords gx)) (marked-run E coords (slabOf F E G coords gx) row (length coords / 3) slab-below m .at x (b .yes e x l h)))
+        ∙ plane-bare F x (shotsIn E coords (slabOf F E G coords gx)) (marked-run E coords (slabOf F E G coords gx) row (shotCount coords) slab-below m .at x (b .yes e x l h)))
 
   -- the next slab lies in the field
   pub next-within : (gx : ℕ) → gx < G → (gx + 1) * (F / G) ≤ F
@@ -227,20 +234,14 @@ module _ (F E G : ℕ) (coords : List ℕ) (v : Valid F E G coords) where
 pub next-is : (gx w : ℕ) → (gx + 1) * w ≡ gx * w + w
 next-is gx w = rw (add-one gx) (suc-mul gx w)
 
--- what the planes of a slab need
+-- the run of a slab
 module _ (F E G : ℕ) (coords : List ℕ) (v : Valid F E G coords) where
-  pub record Ready (from end : ℕ) (row run : List ℕ) : Type 0 where
-    pub in-run : InRun 1024 E coords run
-    pub few : length run ≤ 4096
-    pub marked : Marked x-axis (shotsIn E coords run) row
-    pub agree : Agree F from end (shotsIn E coords run) (shotsOf E coords)
-
-  pub ready : (gx from end : ℕ) → InSlab F G gx from end → {row : List ℕ} → MarkedList E coords (length coords / 3) row
-      → {w w' : List ℕ} {n : ℕ} → Wrote w w' 0 n (slabOf F E G coords gx) → Ready from end row (take n w')
-  ready gx from end s {row} m r = rw (front-part r) (record {
+  pub slab-run : (gx from end : ℕ) → InSlab F G gx from end → {row : List ℕ} → MarkedAll E coords row
+      → {w w' : List ℕ} {n : ℕ} → Wrote w w' 0 n (slabOf F E G coords gx) → SlabRun F E coords from end row (take n w')
+  slab-run gx from end s {row} m r = rw (front-part r) (record {
     in-run = slab-in-run F E G coords v gx;
     few = slab-few F E G coords v gx;
-    marked = marked-run E coords (slabOf F E G coords gx) row (length coords / 3) (slab-below F E G coords v gx) m;
+    marked = marked-run E coords (slabOf F E G coords gx) row (shotCount coords) (slab-below F E G coords v gx) m;
     agree = slab-agree F E G coords v gx from end s;
   })
 
