@@ -67,7 +67,7 @@ unfolding runTo
 no-faces e c run p zero f = tt
 no-faces e c run p (suc q) f = (f q (omega arith) .0, f q (omega arith) .1, no-faces e c run p q (λ k l. f k (omega arith)))
 
-pub marked-run : (e : ℕ) (c run row : List ℕ) (n : ℕ) → ((k : ℕ) → k < length run → getD run k 0 < n) → MarkedList e c n row → Marked x-axis (shotsIn e c run) row
+marked-run : (e : ℕ) (c run row : List ℕ) (n : ℕ) → ((k : ℕ) → k < length run → getD run k 0 < n) → MarkedList e c n row → Marked x-axis (shotsIn e c run) row
 marked-run e c run row n f m = record { at = λ p h. no-faces e c run p (length run) (λ k l. m .at p h (getD run k 0) (f k l)) }
 
 module _ (row : List ℕ) (from : ℕ) where
@@ -115,7 +115,7 @@ module _ (n from : ℕ) (ts : List Shot) where
       ap (λ m. planesTo n m ts) m ∙ planes-more n (from + k) ts
       ∙ ap₂ _++_ (planes-skip k (λ x l i. h x l (omega arith))) (h (from + k) (omega arith) (omega arith)) ∙ append-nil (planesTo n from ts)
 
-  pub swept-skip : (end : ℕ) → from ≤ end → ((x : ℕ) → from ≤ x → x < end → planeOf n x ts ≡ []) → (f : Found) → Room (f .sums) (from * 1050625) → Swept n from end ts f f
+  swept-skip : (end : ℕ) → from ≤ end → ((x : ℕ) → from ≤ x → x < end → planeOf n x ts ≡ []) → (f : Found) → Room (f .sums) (from * 1050625) → Swept n from end ts f f
   swept-skip end l h f r =
       let m : from + (end - from) ≡ end = omega arith in
       record {
@@ -124,7 +124,7 @@ module _ (n from : ℕ) (ts : List Shot) where
       }
 
 -- all planes have all corners
-pub planes-all : (n : ℕ) (ts : List Shot) → n ≤ 1024 → Within n (cells ts) → planesTo n (n + 1) ts ≡ corners n (cells ts)
+planes-all : (n : ℕ) (ts : List Shot) → n ≤ 1024 → Within n (cells ts) → planesTo n (n + 1) ts ≡ corners n (cells ts)
 unfolding planesTo planeOf linesTo corners
 planes-all n ts h within = rw (add-one n) (ap (join (suc n)) (fun-ext λ x. ap (join (suc n)) (fun-ext λ y. line x y)))
   where
@@ -186,7 +186,7 @@ module _ (F E G : ℕ) (coords : List ℕ) (v : Valid F E G coords) where
       }
 
   module _ (gx : ℕ) where
-    pub slab-below : (k : ℕ) → k < length (slabOf F E G coords gx) → getD (slabOf F E G coords gx) k 0 < shotCount coords
+    slab-below : (k : ℕ) → k < length (slabOf F E G coords gx) → getD (slabOf F E G coords gx) k 0 < shotCount coords
     unfolding slabOf
     slab-below k h =
         let i : ℕ = getD (slabOf F E G coords gx) k 0 in
@@ -194,7 +194,7 @@ module _ (F E G : ℕ) (coords : List ℕ) (v : Valid F E G coords) where
         = subst T (has-keep i (λ i. touchesSlab (F / G) gx (shotAt E coords i)) (shotCount coords)) (place-has (slabOf F E G coords gx) k h) in
         ltb→lt i (shotCount coords) (and-elim (ltb i (shotCount coords)) (touchesSlab (F / G) gx (shotAt E coords i)) t .0)
 
-    pub slab-in-run : InRun E coords (slabOf F E G coords gx)
+    slab-in-run : InRun E coords (slabOf F E G coords gx)
     slab-in-run k h = all-in (getD (slabOf F E G coords gx) k 0) (slab-below k h)
 
     slab-any : (x : ℕ) → gx * (F / G) ≤ x → x ≤ (gx + 1) * (F / G) → (f : Shot → Bool) → ((t : Shot) → T (f t) → T (wanted false x t))
@@ -214,7 +214,7 @@ module _ (F E G : ℕ) (coords : List ℕ) (v : Valid F E G coords) where
             let p = has-place (slabOf F E G coords gx) (r .0) (subst T (sym (slab-has F E G coords v gx (r .0) (r .1) ∙ m)) tt) in
             any-run E coords (slabOf F E G coords gx) f (length (slabOf F E G coords gx)) (p .0) (p .1) (subst (λ i. T (f (shotAt E coords i))) (sym (p .2)) (r .2))
 
-    pub slab-agree : (from end : ℕ) → InSlab F G gx from end → Agree F from end (shotsIn E coords (slabOf F E G coords gx)) (shotsOf E coords)
+    slab-agree : (from end : ℕ) → InSlab F G gx from end → Agree F from end (shotsIn E coords (slabOf F E G coords gx)) (shotsOf E coords)
     slab-agree from end s = record {
       at = λ x a b. plane-same F x (shotsIn E coords (slabOf F E G coords gx)) (shotsOf E coords)
           (slab-any x (omega (arith, s .lower)) (omega (arith, s .upper)));
@@ -228,10 +228,10 @@ module _ (F E G : ℕ) (coords : List ℕ) (v : Valid F E G coords) where
         ∙ plane-bare F x (shotsIn E coords (slabOf F E G coords gx)) (marked-run E coords (slabOf F E G coords gx) row (shotCount coords) slab-below m .at x (b .yes e x l h)))
 
   -- the next slab lies in the field
-  pub next-within : (gx : ℕ) → gx < G → (gx + 1) * (F / G) ≤ F
+  next-within : (gx : ℕ) → gx < G → (gx + 1) * (F / G) ≤ F
   next-within gx h = subst (λ n. (gx + 1) * (F / G) ≤ n) (width-times v) (mul-le-mul (omega arith) (le-refl (F / G)))
 
-pub next-is : (gx w : ℕ) → (gx + 1) * w ≡ gx * w + w
+next-is : (gx w : ℕ) → (gx + 1) * w ≡ gx * w + w
 next-is gx w = rw (add-one gx) (suc-mul gx w)
 
 -- the run of a slab

@@ -1,6 +1,7 @@
 // The four cells at each place of a line along z, as a byte: 1 and 4 stand for the cells of the lower layer below and above the line on
 // y, 16 and 64 for those of the upper layer. So the pattern of a point is the byte of the place below it and twice that of the place
-// above it. The bytes are read from two rows of ends, half of each before the shots of the line begin and half after. Stands on `sweep_rows`.
+// above it. The bytes are read from two rows of ends, half of each before the shots of the line begin and half after.
+// Stands on `sweep_rows`.
 ghost use mathlib.Core.Path.{_≡_};
 ghost use Prim.Native.Nat.{_+_, _*_, _<_, _≤_};
 ghost use lib.Dec.{ltb};

@@ -20,7 +20,7 @@ use Rattle.sweep_tally.specs.Found.{at, spot}
 use Rattle.sweep_line.specs.Line.{turn}
 
 -- the byte of four cells
-abbrev pub fourBy : (Bool → Bool → Bool) → ℕ
+abbrev fourBy : (Bool → Bool → Bool) → ℕ
 fourBy q = bit (q false false) + 4 * bit (q false true) + 16 * bit (q true false) + 64 * bit (q true true)
 
 byte-split : (p : Pattern) → fourBy (λ a b. p a b false) + 2 * fourBy (λ a b. p a b true) ≡ byte p

@@ -44,8 +44,8 @@ fn scan(
     s
 }
 
-// The corners of the line y of the plane x. `run` holds the shots that touch the plane, and from lo to hi is the window of those with a face on
-// it; the rows of the layers below and above the plane go on to the next line.
+// The corners of the line y of the plane x. `run` holds the shots that touch the plane, and from lo to hi is the window of those with a
+// face on it; the rows of the layers below and above the plane go on to the next line.
 pub fn line(
     c: &[u16],
     edge: u16,

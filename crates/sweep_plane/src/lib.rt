@@ -166,8 +166,8 @@ fn plane_if(
     plane(c, edge, field, x, run, &faces[..n], links, t, buf)
 }
 
-// The corners of the plane x, from a run of shots. `near`, `faces` and `links` are lent for the work: their first places, as many as the run
-// has, may hold anything afterwards.
+// The corners of the plane x, from a run of shots. `near`, `faces` and `links` are lent for the work: as many of their first places as the
+// run has may hold anything afterwards.
 pub fn across(
     c: &[u16],
     edge: u16,
