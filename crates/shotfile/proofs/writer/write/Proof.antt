@@ -17,7 +17,7 @@ enum-told : tie.Need-enum-told
 enum-told c = c .match .keys2
 
 file-length-requires : tie.Need-file-length-requires
-file-length-requires c κs = few-shots (c .before .before .before .before .before .args .field) (c .before .before .before .before .before .args .edge) (c .before .before .before .before .before .args .grid) (c .before .before .before .before .before .args .coords .now) [] (sym (c .enum-told .given .1) ∙ c .before .before .check .ensures) refl
+file-length-requires c κs = few-shots (c .before .before .before .before .before .args .field) (c .before .before .before .before .before .args .edge) (c .before .before .before .before .before .args .grid) (c .before .before .before .before .before .args .coords .now) (sym (c .enum-told .given .1) ∙ (c .before .before .check .ensures))
 
 returns : tie.Need-returns
 returns c = write-short _ _ _ _ _ (sym (c .before .before .enum-told .given .1) ∙ c .before .before .before .before .check .ensures) (c .before .file-length .ensures) (c .if1 .taken)
