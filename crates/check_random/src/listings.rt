@@ -1,9 +1,9 @@
 // Answers and listings compared, and the corner sums read back from the bytes of a listing alone.
 ghost use Prim.Native.Nat.{_+_, _*_, _≤_, _<_};
 ghost use lib.ListN.{length};
-ghost use Rattle.lattice.specs.CornerSums.{Room};
-use lattice::sums::CornerSums;
-use lattice::sums::Totals;
+ghost use Rattle.lattice_sums.specs.CornerSums.{Room};
+use lattice_sums::sums::CornerSums;
+use lattice_sums::sums::Totals;
 use measure_intake::Measured;
 
 // Stands for the totals of a refused list: no list has so many corners.

@@ -11,7 +11,7 @@ ghost use mathlib.Core.Path.{_≡_};
 ghost use lib.ListN.{length};
 use crate::counts::Counts;
 use crate::lists::Settings;
-use lattice::sums::Totals;
+use lattice_sums::sums::Totals;
 
 // Places for 61 shots.
 fn places() -> [u16; 183]

@@ -1,56 +1,146 @@
 -- Each refusal of the checks is given if its condition holds and no earlier one does, and never otherwise; a list is accepted if
 -- and only if none holds, which is to say that it is valid; and a valid list's cells lie in the field. Assumes nothing.
-use mathlib.Core.Path.{_≡_, sym, subst, _∙_}
-use mathlib.Core.List.{List}
-use mathlib.Core.Logic.{_↔_}
-use Prim.Native.Nat.{ℕ}
+use mathlib.Core.Path.{_≡_, refl, sym, ap, subst, _∙_}
+use mathlib.Core.Bool.{Bool, true, false, not, _||_, true≢false}
+use mathlib.Core.List.{List, [], _∷_}
+use mathlib.Core.Logic.{_↔_, _⊎_, inl, inr, ⊎-elim}
+use Prim.Native.Nat.{ℕ, _%_, _≤_, _<_}
 use native.Mathlib.Omega.{arith}
+use lib.Dec.{ltb, eqb}
+use lib.ListN.{length}
+use borrow.Author.Tests.{ltb-true, ltb-false, lt-ltb, le-ltb, eqb-true, eqb-false, eq-eqb, ne-eqb}
 use Rattle.lattice.specs.Cells.{Within}
-use Rattle.lattice.specs.Shots.{cells}
+use Rattle.lattice.specs.Shots.{cells, any}
 use Rattle.lattice.proofs.ShotLaws.{cells-within}
 use Rattle.job.specs.declared.Refusal.{Refusal}
+use Rattle.job.specs.declared.Refusal.the-variants.{BrokenShot, TooManyShots, FieldRange, EdgeRange, GridRange, OutsideField}
 use Rattle.job.specs.declared.Checked.the-variants.{Accepted, Refused}
-use Rattle.job.specs.Job.{shotsOf, Valid}
-use Rattle.job.specs.Checking.{checked}
-use Rattle.job.specs.Conditions.{Condition, First}
-use Rattle.job.proofs.Outcome.{Outcome, refused, accepted, valid-none, outcome, give}
-
-apart : {r : Refusal} → Refused r ≡ Accepted → ⊥
-apart e = let z : _≡_ {A = ℕ} 0 1 = cc in omega arith
+use Rattle.job.specs.Job.{shotsOf, shotCount, shotAt, Valid}
+use Rattle.job.specs.Checking.{outside, leaves, firstLeaving, firstOf, settingTests, shotTests, tests, checked, Test}
+use Rattle.job.specs.Conditions.{FirstOutside, Condition, broken-shot, too-many-shots, field-range, edge-range, grid-range, outside-field, Each, Says, First}
+use Rattle.job.proofs.Tests.{within, out, is-out, is-in, settled, or-false, or-true, or-true-left, or-true-right}
+use Rattle.job.proofs.Shots.{shots-count, shots-at, any-leaves, stays, stays-not, all-stay, first-leaves, earlier-stays, stay-at}
+use Rattle.job.proofs.Places.{passes, first-iff, none-iff}
 
 module _ (F E G : ℕ) (coords : List ℕ) where
-  -- a refusal is given if and only if its condition holds and no earlier one does
-  pub refused-iff : (r : Refusal) → (checked F E G coords ≡ Refused r) ↔ First (Condition F E G coords) r
-  refused-iff r = (given (outcome F E G coords), give F E G coords r)
+  abbrev found : ℕ
+  found = firstLeaving F (shotsOf E coords)
+
+  leaving : any (leaves F) (shotsOf E coords) ≡ ltb found (shotCount coords)
+  leaving = rw (← shots-count E coords) (any-leaves F (shotsOf E coords))
+
+  -- the first shot that leaves the field is the one that the search finds
+  found-outside : found < shotCount coords → FirstOutside F E coords found
+  found-outside h =
+      let o = shotAt E coords 0 in
+      record {
+        is-shot = h;
+        leaves-field = rw (shots-at E coords found o h) at (stays-not F _ (first-leaves F (shotsOf E coords) o (omega (arith, shots-count E coords))));
+        earlier-stay = λ i l. rw (shots-at E coords i o (omega arith)) at (stays F _ (earlier-stays F (shotsOf E coords) o i l));
+      }
+
+  -- ---- each test says the condition of its refusal
+  says-broken : Says (Condition F E G coords) (record { holds = not (eqb (length coords % 3) 0); gives = BrokenShot })
+  says-broken = (λ e. broken-shot (to (eqb (length coords % 3) 0) refl e), from)
     where
-      given : Outcome F E G coords → checked F E G coords ≡ Refused r → First (Condition F E G coords) r
-      given (refused q f e) h = let same : q ≡ r = cc in subst (First (Condition F E G coords)) same f
-      given (accepted n v e) h = absurd (apart (sym h ∙ e))
+      to : (b : Bool) → eqb (length coords % 3) 0 ≡ b → not b ≡ true → ¬ (length coords % 3 ≡ 0)
+      to true h e = absurd (true≢false (sym e))
+      to false h e = eqb-false (length coords % 3) 0 h
+
+      from : Condition F E G coords BrokenShot → not (eqb (length coords % 3) 0) ≡ true
+      from (broken-shot h) = rw (ne-eqb (length coords % 3) 0 h)
+
+  says-many : Says (Condition F E G coords) (record { holds = ltb 4096 (shotCount coords); gives = TooManyShots 0 })
+  says-many = (λ e. too-many-shots (ltb-true 4096 (shotCount coords) e), from)
+    where
+      from : Condition F E G coords (TooManyShots 0) → ltb 4096 (shotCount coords) ≡ true
+      from (too-many-shots h) = lt-ltb 4096 (shotCount coords) h
+
+  says-field : Says (Condition F E G coords) (record { holds = outside 1 1024 F; gives = FieldRange })
+  says-field = (λ e. field-range (out 1 1024 F e), from)
+    where
+      from : Condition F E G coords FieldRange → outside 1 1024 F ≡ true
+      from (field-range h) = is-out 1 1024 F h
+
+  says-edge : Says (Condition F E G coords) (record { holds = outside 1 F E; gives = EdgeRange })
+  says-edge = (λ e. edge-range (out 1 F E e), from)
+    where
+      from : Condition F E G coords EdgeRange → outside 1 F E ≡ true
+      from (edge-range h) = is-out 1 F E h
+
+  says-grid : Says (Condition F E G coords) (record { holds = outside 1 64 G || not (eqb (F % G) 0); gives = GridRange })
+  says-grid = (λ e. grid-range (⊎-elim ranged divided (or-true (outside 1 64 G) _ e)), from)
+    where
+      ranged : outside 1 64 G ≡ true → (G < 1) ⊎ ((64 < G) ⊎ ¬ (F % G ≡ 0))
+      ranged h = ⊎-elim (λ l. inl l) (λ l. inr (inl l)) (out 1 64 G h)
+
+      divided : not (eqb (F % G) 0) ≡ true → (G < 1) ⊎ ((64 < G) ⊎ ¬ (F % G ≡ 0))
+      divided h = inr (inr (unequal (eqb (F % G) 0) refl h))
+        where
+          unequal : (b : Bool) → eqb (F % G) 0 ≡ b → not b ≡ true → ¬ (F % G ≡ 0)
+          unequal true h e = absurd (true≢false (sym e))
+          unequal false h e = eqb-false (F % G) 0 h
+
+      from : Condition F E G coords GridRange → outside 1 64 G || not (eqb (F % G) 0) ≡ true
+      from (grid-range (inl l)) = or-true-left (outside 1 64 G) _ (is-out 1 64 G (inl l))
+      from (grid-range (inr (inl l))) = or-true-left (outside 1 64 G) _ (is-out 1 64 G (inr l))
+      from (grid-range (inr (inr n))) = or-true-right (outside 1 64 G) _ (rw (ne-eqb (F % G) 0 n))
+
+  says-outside : Says (Condition F E G coords) (record { holds = any (leaves F) (shotsOf E coords); gives = OutsideField found })
+  says-outside = (λ e. outside-field (found-outside (ltb-true found (shotCount coords) (sym leaving ∙ e))), from)
+    where
+      from : Condition F E G coords (OutsideField found) → any (leaves F) (shotsOf E coords) ≡ true
+      from (outside-field f) = leaving ∙ lt-ltb found (shotCount coords) (f .is-shot)
+
+  pub tests-say : Each (Says (Condition F E G coords)) (tests F E G coords)
+  unfolding tests settingTests shotTests
+  tests-say = (says-broken, (says-many, (says-field, (says-edge, (says-grid, (says-outside, tt))))))
+
+  -- a refusal is given if and only if its condition holds and that of no test before it does
+  pub refused-iff : (r : Refusal) → (checked F E G coords ≡ Refused r) ↔ First (Condition F E G coords) (tests F E G coords) r
+  refused-iff r = first-iff (Condition F E G coords) (tests F E G coords) tests-say r
+
+  -- ---- a list is accepted if and only if it is valid
+  valid-if : checked F E G coords ≡ Accepted → Valid F E G coords
+  unfolding tests settingTests shotTests
+  valid-if e =
+      let p = passes (tests F E G coords) .0 e in
+      let field = p .1 .1 .0 in
+      let edge = p .1 .1 .1 .0 in
+      let grid = p .1 .1 .1 .1 .0 in
+      let g = or-false (outside 1 64 G) _ grid in
+      record {
+        threes = settled (length coords % 3) 0 (λ n. true≢false (sym (says-broken .1 (broken-shot n)) ∙ p .0));
+        few = ltb-false 4096 (shotCount coords) (p .1 .0);
+        field-least = within 1 1024 F field .0;
+        field-most = within 1 1024 F field .1;
+        edge-least = within 1 F E edge .0;
+        edge-most = within 1 F E edge .1;
+        grid-least = within 1 64 G (g .0) .0;
+        grid-most = within 1 64 G (g .0) .1;
+        grid-divides = settled (F % G) 0 (λ n. true≢false (sym (says-grid .1 (grid-range (inr (inr n)))) ∙ grid));
+        inside = all-stay F (shotsOf E coords) (omega (arith, shots-count E coords, ltb-false found (shotCount coords) (sym leaving ∙ p .1 .1 .1 .1 .1 .0)));
+      }
+
+  -- no condition holds of a valid list
+  pub valid-none : Valid F E G coords → (q : Refusal) → ¬ Condition F E G coords q
+  valid-none v q (broken-shot h) = h (v .threes)
+  valid-none v q (too-many-shots h) = omega (arith, v .few)
+  valid-none v q (field-range h) = ⊎-elim (λ m. omega (arith, v .field-least)) (λ m. omega (arith, v .field-most)) h
+  valid-none v q (edge-range h) = ⊎-elim (λ m. omega (arith, v .edge-least)) (λ m. omega (arith, v .edge-most)) h
+  valid-none v q (grid-range h) = ⊎-elim (λ m. omega (arith, v .grid-least)) (⊎-elim (λ m. omega (arith, v .grid-most)) (λ n. n (v .grid-divides))) h
+  valid-none v q (outside-field f) = f .leaves-field (stay-at F E coords (v .inside) _ (f .is-shot))
+
+  none-each : ((q : Refusal) → ¬ Condition F E G coords q) → (ts : List Test) → Each (λ t. ¬ Condition F E G coords (t .gives)) ts
+  none-each n [] = tt
+  none-each n (t ∷ ts) = (n (t .gives), none-each n ts)
+
+  pub accepted-valid : (checked F E G coords ≡ Accepted) ↔ Valid F E G coords
+  accepted-valid = (valid-if, λ v. none-iff (Condition F E G coords) (tests F E G coords) tests-say .1 (none-each (valid-none v) (tests F E G coords)))
 
   -- a list is accepted if and only if no condition holds
   pub accepted-iff : (checked F E G coords ≡ Accepted) ↔ ((q : Refusal) → ¬ Condition F E G coords q)
-  accepted-iff = (to (outcome F E G coords), from (outcome F E G coords))
-    where
-      to : Outcome F E G coords → checked F E G coords ≡ Accepted → (q : Refusal) → ¬ Condition F E G coords q
-      to (refused r f e) h = absurd (apart (sym e ∙ h))
-      to (accepted n v e) h = n
-
-      from : Outcome F E G coords → ((q : Refusal) → ¬ Condition F E G coords q) → checked F E G coords ≡ Accepted
-      from (refused r f e) h = absurd (h r (f .0))
-      from (accepted n v e) h = e
-
-  -- a list is accepted if and only if it is valid
-  pub accepted-valid : (checked F E G coords ≡ Accepted) ↔ Valid F E G coords
-  accepted-valid = (to (outcome F E G coords), from (outcome F E G coords))
-    where
-      to : Outcome F E G coords → checked F E G coords ≡ Accepted → Valid F E G coords
-      to (refused r f e) h = absurd (apart (sym e ∙ h))
-      to (accepted n v e) h = v
-
-      -- no condition holds of a valid list
-      from : Outcome F E G coords → Valid F E G coords → checked F E G coords ≡ Accepted
-      from (refused r f e) v = absurd (valid-none F E G coords v r (f .0))
-      from (accepted n v' e) v = e
+  accepted-iff = (λ e. valid-none (valid-if e), λ n. none-iff (Condition F E G coords) (tests F E G coords) tests-say .1 (none-each n (tests F E G coords)))
 
 -- the cells of a valid list lie in the field
 pub valid-within : {F E G : ℕ} {coords : List ℕ} → Valid F E G coords → Within F (cells (shotsOf E coords))

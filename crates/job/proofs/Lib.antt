@@ -1,7 +1,7 @@
 pub mod Tests
 pub mod Shots
 pub mod Storing
+pub mod Places
 pub mod Answers
-pub mod Outcome
 pub mod Conditions
 pub mod Later

@@ -9,7 +9,7 @@ use lib.ListN.{length, getD, drop, length-drop}
 use lib.Seq.{drop-cons}
 use borrow.Author.Tests.{lt-ltb, le-ltb, ltb-false}
 use Rattle.lattice.specs.Shots.{Shot, any, InField, AllInField}
-use Rattle.job.specs.Job.{shotsOf, shotAt}
+use Rattle.job.specs.Job.{shotsOf, shotAt, xAt, yAt, zAt, edgeAt}
 use Rattle.job.specs.Checking.{past, leaves, firstLeaving}
 use Rattle.job.proofs.Tests.{or-false, or-left, or-right}
 use Rattle.lattice.proofs.ShotLaws.{or-elim}
@@ -72,6 +72,16 @@ module _ (F : ℕ) (t : Shot) (ts : List Shot) where
   first-later : leaves F t ≡ false → firstLeaving F (t ∷ ts) ≡ suc (firstLeaving F ts)
   unfolding firstLeaving
   first-later l = simp l
+
+-- what is asked of a shot's numbers is asked of the shot
+pub asked-of : {edge x y z : ℕ} {r : Bool} (F e : ℕ) (coords : List ℕ) (i : ℕ)
+    → edge ≡ edgeAt e coords i
+    → x ≡ xAt coords i
+    → y ≡ yAt coords i
+    → z ≡ zAt coords i
+    → r ≡ leaves F (record { x = x; y = y; z = z; edge = edge })
+    → r ≡ leaves F (shotAt e coords i)
+asked-of F e coords i pe px py pz k = k ∙ rw (pe, px, py, pz)
 
 module _ (F e : ℕ) (coords : List ℕ) (i : ℕ) where
   -- the search has passed i shots

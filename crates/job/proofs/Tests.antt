@@ -22,6 +22,13 @@ pub or-true : (a b : Bool) → a || b ≡ true → (a ≡ true) ⊎ (b ≡ true)
 or-true true b h = inl refl
 or-true false b h = inr h
 
+pub or-true-left : (a b : Bool) → a ≡ true → a || b ≡ true
+or-true-left a b h = rw h
+
+pub or-true-right : (a b : Bool) → b ≡ true → a || b ≡ true
+or-true-right true b h = refl
+or-true-right false b h = h
+
 pub or-left : (a b : Bool) → T a → T (a || b)
 or-left true b h = tt
 or-left false b h = absurd h

@@ -1,7 +1,9 @@
 -- The checks that every call on a list shares, in their order: refusals 1, 2, 6, 7, 8, 9 of document 01, 'When a job is refused'.
+-- What is earlier is a matter of place in a call's list of tests, not of number.
 use mathlib.Core.Bool.{Bool, not, cond, _||_}
-use mathlib.Core.List.{List, [], _∷_}
-use Prim.Native.Nat.{ℕ, suc, _+_, _/_, _%_}
+use mathlib.Core.Path.{_≡_}
+use mathlib.Core.List.{List, [], _∷_, _++_}
+use Prim.Native.Nat.{ℕ, suc, _+_, _%_}
 use lib.Dec.{eqb, ltb}
 use lib.ListN.{length}
 use Rattle.lattice.specs.Shots.{Shot, any}
@@ -9,7 +11,8 @@ use Rattle.job.specs.declared.Refusal.{Refusal}
 use Rattle.job.specs.declared.Refusal.the-variants.{BrokenShot, TooManyShots, FieldRange, EdgeRange, GridRange, OutsideField}
 use Rattle.job.specs.declared.Checked.{Checked}
 use Rattle.job.specs.declared.Checked.the-variants.{Accepted, Refused}
-use Rattle.job.specs.Job.{shotsOf}
+use Rattle.job.specs.Job.{shotsOf, shotCount}
+use Rattle.job.specs.Refusals.{numberOf, detailOf, Numbers, checkedNumbers}
 
 -- a is below least or above most
 abbrev pub outside : ℕ → ℕ → ℕ → Bool
@@ -28,31 +31,49 @@ unfoldable pub firstLeaving : ℕ → List Shot → ℕ
 firstLeaving F [] = 0
 firstLeaving F (t ∷ ts) = cond (leaves F t) 0 (suc (firstLeaving F ts))
 
--- a check: whether its condition holds, and the refusal that it gives
+-- a test: whether its condition holds, and the refusal that it gives
 pub record Test : Type 0 where
   pub holds : Bool
   pub gives : Refusal
 
--- a refusal is given if its condition holds and no earlier one does
+-- a refusal is given if its condition holds and no earlier one does: of a list of tests, the first that holds decides
 unfoldable pub firstOf : List Test → Checked
 firstOf [] = Accepted
 firstOf (t ∷ ts) = cond (t .holds) (Refused (t .gives)) (firstOf ts)
 
--- the checks of a list and its settings
-unfoldable pub tests : ℕ → ℕ → ℕ → List ℕ → List Test
-tests F E G coords =
+-- the tests of the settings and of the coordinates' count: 1, 2, 6, 7, 8
+unfoldable pub settingTests : ℕ → ℕ → ℕ → List ℕ → List Test
+settingTests F E G coords =
     record { holds = not (eqb (length coords % 3) 0); gives = BrokenShot }
-    ∷ record { holds = ltb 4096 (length coords / 3); gives = TooManyShots 0 }
+    ∷ record { holds = ltb 4096 (shotCount coords); gives = TooManyShots 0 }
     ∷ record { holds = outside 1 1024 F; gives = FieldRange }
     ∷ record { holds = outside 1 F E; gives = EdgeRange }
     ∷ record { holds = outside 1 64 G || not (eqb (F % G) 0); gives = GridRange }
-    ∷ record { holds = any (leaves F) (shotsOf E coords); gives = OutsideField (firstLeaving F (shotsOf E coords)) }
     ∷ []
 
-unfoldable pub checked : ℕ → ℕ → ℕ → List ℕ → Checked
+-- the tests of the shots: 9
+unfoldable pub shotTests : ℕ → ℕ → List ℕ → List Test
+shotTests F E coords = record { holds = any (leaves F) (shotsOf E coords); gives = OutsideField (firstLeaving F (shotsOf E coords)) } ∷ []
+
+-- the tests of a list and its settings; a call's own tests come after them
+unfoldable pub tests : ℕ → ℕ → ℕ → List ℕ → List Test
+tests F E G coords = settingTests F E G coords ++ shotTests F E coords
+
+abbrev pub checked : ℕ → ℕ → ℕ → List ℕ → Checked
 checked F E G coords = firstOf (tests F E G coords)
 
 -- one check more, where the earlier ones pass
 abbrev pub andThen : Checked → Test → Checked
 andThen Accepted t = cond (t .holds) (Refused (t .gives)) Accepted
 andThen (Refused r) t = Refused r
+
+-- ---- what is answered
+-- the paper's number and detail of the first test that holds; 0 and 0 where none does
+unfoldable pub firstNumbers : List Test → Numbers
+firstNumbers [] = record { number = 0; detail = 0 }
+firstNumbers (t ∷ ts) = cond (t .holds) (record { number = numberOf (t .gives); detail = detailOf (t .gives) }) (firstNumbers ts)
+
+-- what a call that runs these tests answers
+pub record Checks (ts : List Test) (r : Checked) : Type 0 where
+  pub answer : r ≡ firstOf ts
+  pub numbers : checkedNumbers r ≡ firstNumbers ts

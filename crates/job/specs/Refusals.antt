@@ -1,5 +1,9 @@
 -- The refusals by the paper's numbers, each with its detail: document 01, 'When a job is refused'.
 use Prim.Native.Nat.{ℕ}
+use Rattle.job.specs.declared.Place.{Place}
+use Rattle.job.specs.declared.Place.the-variants.{Byte, Shot, Nowhere}
+use Rattle.job.specs.declared.Checked.{Checked}
+use Rattle.job.specs.declared.Checked.the-variants.{Accepted, Refused}
 use Rattle.job.specs.declared.Refusal.{Refusal}
 use Rattle.job.specs.declared.Refusal.the-variants.{BrokenShot, TooManyShots, NoPlace, UnknownBit, CutShort, FieldRange, EdgeRange, GridRange, OutsideField, ShortWork, ShortListing, ShortFile}
 
@@ -31,3 +35,27 @@ detailOf (OutsideField shot) = shot
 detailOf (ShortWork entries) = entries
 detailOf (ShortListing corners) = corners
 detailOf (ShortFile bytes) = bytes
+
+-- where a refusal is met: at a byte of a file or at a shot of the list, which its detail names, or nowhere in particular
+abbrev pub metAt : Refusal → Place
+metAt BrokenShot = Nowhere
+metAt (TooManyShots at) = Byte
+metAt (NoPlace at) = Byte
+metAt (UnknownBit at) = Byte
+metAt (CutShort at) = Byte
+metAt FieldRange = Nowhere
+metAt EdgeRange = Nowhere
+metAt GridRange = Nowhere
+metAt (OutsideField shot) = Shot
+metAt (ShortWork entries) = Nowhere
+metAt (ShortListing corners) = Nowhere
+metAt (ShortFile bytes) = Nowhere
+
+-- the numbers that a check answers: 0 and 0 where the list is accepted, else the refusal's number and its detail
+pub record Numbers : Type 0 where
+  pub number : ℕ
+  pub detail : ℕ
+
+unfoldable pub checkedNumbers : Checked → Numbers
+checkedNumbers Accepted = record { number = 0; detail = 0 }
+checkedNumbers (Refused r) = record { number = numberOf r; detail = detailOf r }

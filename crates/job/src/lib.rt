@@ -3,10 +3,16 @@
 // Stands on `lattice`, whose shots and cells the definitions use.
 ghost use mathlib.Core.Path.{_≡_};
 ghost use Rattle.job.specs.Job.{shotsOf};
-ghost use Rattle.job.specs.Refusals.{numberOf, detailOf};
-ghost use Rattle.job.specs.Checking.{outside, past, leaves, firstLeaving, checked};
+ghost use Rattle.job.specs.Refusals.{numberOf, detailOf, metAt};
+ghost use Rattle.job.specs.Checking.{outside, past, leaves, firstLeaving, settingTests, shotTests, tests, Checks};
 
 pub mod shot;
+
+use shot::count;
+use shot::edge_of;
+use shot::x_of;
+use shot::y_of;
+use shot::z_of;
 
 // Why a call is refused, in the order of the paper's numbers, with the detail where there is one.
 pub enum Refusal {
@@ -40,6 +46,16 @@ pub enum Refusal {
 pub enum Checked {
     Accepted,
     Refused(Refusal),
+}
+
+// Where a refusal is met; the refusal's detail says at which one.
+pub enum Place {
+    // At a byte of a file, where the map of the faulty record stands.
+    Byte,
+    // At a shot of the list.
+    Shot,
+    // Nowhere in particular.
+    Nowhere,
 }
 
 // The paper's number of a refusal.
@@ -82,6 +98,26 @@ pub fn detail(refusal: Refusal) -> usize
     }
 }
 
+// Whether a refusal is met at a byte, at a shot or nowhere in particular.
+pub fn met_at(refusal: Refusal) -> Place
+    ensures { λ r. ⌜ r ≡ metAt refusal ⌝ }
+{
+    match refusal {
+        Refusal::BrokenShot => Place::Nowhere,
+        Refusal::TooManyShots { at: _ } => Place::Byte,
+        Refusal::NoPlace { at: _ } => Place::Byte,
+        Refusal::UnknownBit { at: _ } => Place::Byte,
+        Refusal::CutShort { at: _ } => Place::Byte,
+        Refusal::FieldRange => Place::Nowhere,
+        Refusal::EdgeRange => Place::Nowhere,
+        Refusal::GridRange => Place::Nowhere,
+        Refusal::OutsideField { shot: _ } => Place::Shot,
+        Refusal::ShortWork { entries: _ } => Place::Nowhere,
+        Refusal::ShortListing { corners: _ } => Place::Nowhere,
+        Refusal::ShortFile { bytes: _ } => Place::Nowhere,
+    }
+}
+
 // A cube from `at` on an axis passes the side of the field.
 fn passes(field: u16, edge: u16, at: u16) -> bool
     ensures { λ r. ⌜ r ≡ past field edge at ⌝ }
@@ -106,15 +142,15 @@ fn shot_leaves(field: u16, edge: u16, x: u16, y: u16, z: u16) -> bool
 fn first_leaving(field: u16, edge: u16, coords: &[u16]) -> usize
     ensures { λ r. ⌜ r ≡ firstLeaving field (shotsOf edge (now (coords .entry))) ⌝ }
 {
-    let n = coords.len() / 3;
+    let n = count(coords);
     let mut i = 0;
     while i < n {
         if shot_leaves(
             field,
-            edge,
-            coords[3 * i],
-            coords[3 * i + 1],
-            coords[3 * i + 2],
+            edge_of(edge, coords, i),
+            x_of(coords, i),
+            y_of(coords, i),
+            z_of(coords, i),
         ) {
             return i;
         }
@@ -130,15 +166,14 @@ fn is_outside(least: u16, most: u16, a: u16) -> bool
     a < least || most < a
 }
 
-// Checks a list and its settings, by refusals 1, 2, 6, 7, 8 and 9 in this order.
-pub fn check(field: u16, edge: u16, grid: u16, coords: &[u16]) -> Checked
-    ensures { λ r. ⌜ r ≡ checked field edge grid (now (coords .entry)) ⌝ }
+// Checks the settings of a list and how many coordinates it has, by refusals 1, 2, 6, 7 and 8 in this order.
+pub fn check_settings(field: u16, edge: u16, grid: u16, coords: &[u16]) -> Checked
+    ensures { λ r. ⌜ Checks (settingTests field edge grid (now (coords .entry))) r ⌝ }
 {
-    let n = coords.len();
-    if n % 3 != 0 {
+    if coords.len() % 3 != 0 {
         return Checked::Refused(Refusal::BrokenShot);
     }
-    if 4096 < n / 3 {
+    if 4096 < count(coords) {
         return Checked::Refused(Refusal::TooManyShots { at: 0 });
     }
     if is_outside(1, 1024, field) {
@@ -153,9 +188,27 @@ pub fn check(field: u16, edge: u16, grid: u16, coords: &[u16]) -> Checked
     if field % grid != 0 {
         return Checked::Refused(Refusal::GridRange);
     }
+    Checked::Accepted
+}
+
+// Checks that the shots of a list stay in the field, by refusal 9.
+pub fn check_shots(field: u16, edge: u16, coords: &[u16]) -> Checked
+    ensures { λ r. ⌜ Checks (shotTests field edge (now (coords .entry))) r ⌝ }
+{
     let shot = first_leaving(field, edge, coords);
-    if shot < n / 3 {
+    if shot < count(coords) {
         return Checked::Refused(Refusal::OutsideField { shot: shot });
     }
     Checked::Accepted
+}
+
+// Checks a list and its settings, by refusals 1, 2, 6, 7, 8 and 9 in this order.
+pub fn check(field: u16, edge: u16, grid: u16, coords: &[u16]) -> Checked
+    ensures { λ r. ⌜ Checks (tests field edge grid (now (coords .entry))) r ⌝ }
+{
+    let settings = check_settings(field, edge, grid, coords);
+    match settings {
+        Checked::Refused(refusal) => Checked::Refused(refusal),
+        Checked::Accepted => check_shots(field, edge, coords),
+    }
 }

@@ -1,52 +1,43 @@
 -- What the corner points of a solid tell: document 01, 'Corner points', for every set of cells within a field.
 -- Each statement cites the law that proves it; the lists of a job come in above, in the crates that cover cells by shots.
-use mathlib.Core.Path.{_≡_, refl, _∙_, ap}
+use mathlib.Core.Path.{_≡_, _∙_, ap}
 use mathlib.Core.Logic.{_↔_}
-use mathlib.Core.Bool.{Bool, true, false}
+use mathlib.Core.Bool.{false}
 use mathlib.Core.List.{List·Memᴰ}
-use Prim.Native.Nat.{ℕ, _*_}
-use lib.IntN.{ℤ, pos}
+use Prim.Native.Nat.{ℕ, _*_, _≤_}
 use lib.ListN.{length}
-use Rattle.lattice.specs.Cells.{Cells, Within, square, edge, volume, area, edgeLength}
-use Rattle.lattice.specs.Pattern.{ax, ay, az, ex, ey, ez, Term, volumeTerm, areaTerm, edgeTerm}
+use Rattle.lattice.specs.Cells.{Cells, Within}
+use Rattle.lattice.specs.Pattern.{around, corner}
+use Rattle.lattice.specs.Figures.{Figure, cellCount, term}
 use Rattle.lattice.specs.Listing.{Corner, corners, cornerCount, IsCorner, Rising, listing, readBack, cornerSum, listedSum, SameBytes}
-use Rattle.lattice.proofs.PointSums.{volume-points, area-points, length-points}
-use Rattle.lattice.proofs.ListingLaws.{readBack-bytes, length-corners, length-listing, corners-points, volume-weighted, area-weighted, edge-weighted}
+use Rattle.lattice.proofs.Inside.{outside-no-corner}
+use Rattle.lattice.proofs.PointSums.{figure-points}
+use Rattle.lattice.proofs.ListingLaws.{readBack-bytes, length-corners, length-listing, corners-points, figure-weighted}
 use Rattle.lattice.proofs.Order.{corners-rising, corners-exactly}
 use Rattle.lattice.proofs.SameSolid.{listing-same}
 
--- the three figures, by a sum of terms
-pub record Figures (sumOf : Term → ℤ) (n : ℕ) (s : Cells) : Type 0 where
-  pub volume-is : sumOf volumeTerm ≡ pos (volume n s)
-  pub area-is : sumOf areaTerm ≡ pos (area n s)
-  pub edge-is : sumOf edgeTerm ≡ pos (edgeLength n s)
-
 module _ (n : ℕ) (s : Cells) (within : Within n s) where
   -- over corner points only, volume is the sum of x·y·z·w, area of y·z·ax + x·z·ay + x·y·az, edge length of x·ex + y·ey + z·ez
-  pub corner-sums : Figures (λ term. cornerSum term (corners n s)) n s
-  unfolding ax ay az ex ey ez
-  corner-sums = record {
-    volume-is = corners-points n s volumeTerm volume-weighted ∙ volume-points n s within;
-    area-is = corners-points n s areaTerm area-weighted ∙ area-points n s within square refl;
-    edge-is = corners-points n s edgeTerm edge-weighted ∙ length-points n s within edge refl;
-  }
+  pub corner-sums : (f : Figure) → cornerSum (term f) (corners n s) ≡ cellCount f n s
+  corner-sums f = corners-points n s (term f) (figure-weighted f) ∙ figure-points n s within f
 
   -- a listing read back from its bytes gives the corners
   pub read-back : readBack (listing n s) ≡ corners n s
   read-back = readBack-bytes (corners n s)
 
   -- so the corner sums from the bytes alone are the same figures
-  pub listed-sums : Figures (λ term. listedSum term (listing n s)) n s
-  listed-sums = record {
-    volume-is = ap (cornerSum volumeTerm) read-back ∙ corner-sums .volume-is;
-    area-is = ap (cornerSum areaTerm) read-back ∙ corner-sums .area-is;
-    edge-is = ap (cornerSum edgeTerm) read-back ∙ corner-sums .edge-is;
-  }
+  pub listed-sums : (f : Figure) → listedSum (term f) (listing n s) ≡ cellCount f n s
+  listed-sums f = ap (cornerSum (term f)) read-back ∙ corner-sums f
 
-  -- the corner count is the number of lattice points with a weight that is not zero, and the listing has 7 bytes for each
+  -- the corner count is the number of lattice points with a weight that is not zero
   pub count-is : length (corners n s) ≡ cornerCount n s
   count-is = length-corners n s
 
+  -- no lattice point outside the field has such a weight
+  pub outside-weighs-nothing : (x y z : ℕ) → ((x ≤ n) × (y ≤ n) × (z ≤ n) → ⊥) → corner (around s x y z) ≡ false
+  outside-weighs-nothing = outside-no-corner n s within
+
+  -- the listing has 7 bytes for each corner
   pub listing-length : length (listing n s) ≡ 7 * cornerCount n s
   listing-length = length-listing n s
 

@@ -1,8 +1,8 @@
 -- Summation by parts on any of the three axes at once. Each axis has a mode: along (true) it, a point counts by its coordinate and the
 -- function by its fall, and what is left counts the places 1 to n; across (false) it, every point from 0 to n counts once.
-use mathlib.Core.Path.{_≡_, refl, sym, _∙_, ap, fun-ext}
+use mathlib.Core.Path.{_≡_, refl, _∙_, ap, fun-ext}
 use mathlib.Core.Bool.{Bool, true, false}
-use Prim.Native.Nat.{ℕ, zero, suc, _+_, _*_, _≤_}
+use Prim.Native.Nat.{ℕ, suc, _+_, _*_, _≤_}
 use native.Mathlib.Omega.{arith}
 use lib.IntN.{ℤ, pos, _+ℤ_, _-ℤ_, _*ℤ_, +ℤ-invr}
 use Rattle.lattice.specs.Sums.{total, sum}

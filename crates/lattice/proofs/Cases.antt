@@ -1,10 +1,11 @@
--- A test of all patterns, or of all numbers below a bound, that is computed once holds at each.
-use mathlib.Core.Path.{_≡_, refl, sym, _∙_, ap, subst, fun-ext}
+-- A test of all patterns, of all figures, or of all numbers below a bound, that is computed once holds at each.
+use mathlib.Core.Path.{_≡_, refl, sym, _∙_, subst, fun-ext}
 use mathlib.Core.Bool.{Bool, true, false, _&&_, not}
 use Prim.Native.Nat.{ℕ, zero, suc, _+_, _<_}
 use native.Mathlib.Nat.{add-zero, zero-add, add-suc, suc-add, le-of-suc-le-suc, not-suc-le-zero}
 use lib.Dec.{T}
 use Rattle.lattice.specs.Pattern.{Pattern}
+use Rattle.lattice.specs.Figures.{Figure, Volume, Area, EdgeLength}
 
 pub and-left : (a b : Bool) → T (a && b) → T a
 and-left true b t = tt
@@ -79,6 +80,21 @@ pub eachPattern-at : (f : Pattern → Bool) → T (eachPattern f) → (p : Patte
 eachPattern-at f t p =
     subst (λ (r : Pattern). T (f r)) (fun-ext (layers-of p))
     (eachFour-at (λ h. f (layers (p false) h)) (eachFour-at (λ l. eachFour λ h. f (layers l h)) t (p false)) (p true))
+
+-- the figures
+pub by-figure : (P : Figure → Type 0) → P Volume → P Area → P EdgeLength → (f : Figure) → P f
+by-figure P v a e Volume = v
+by-figure P v a e Area = a
+by-figure P v a e EdgeLength = e
+
+abbrev pub eachFigure : (Figure → Bool) → Bool
+eachFigure g = g Volume && (g Area && g EdgeLength)
+
+pub eachFigure-at : (g : Figure → Bool) → T (eachFigure g) → (f : Figure) → T (g f)
+eachFigure-at g t =
+    by-figure (λ f. T (g f)) (and-left (g Volume) (g Area && g EdgeLength) t)
+    (and-left (g Area) (g EdgeLength) (and-right (g Volume) (g Area && g EdgeLength) t))
+    (and-right (g Area) (g EdgeLength) (and-right (g Volume) (g Area && g EdgeLength) t))
 
 -- the numbers i, i + 1, .. i + n - 1
 abbrev pub eachFrom : (ℕ → Bool) → ℕ → ℕ → Bool

@@ -1,11 +1,13 @@
--- A solid that lies within a field has no cell past the field's sides, and the points outside have the empty pattern.
-use mathlib.Core.Path.{_≡_, refl, fun-ext}
+-- A solid that lies within a field has no cell past the field's sides; the points outside have the empty pattern, and are no corners.
+use mathlib.Core.Path.{_≡_, refl, _∙_, ap, fun-ext}
 use mathlib.Core.Bool.{Bool, true, false}
-use Prim.Native.Nat.{ℕ, zero, suc, _<_, _≤_}
+use Prim.Native.Nat.{ℕ, zero, suc, _≤_}
 use native.Mathlib.Omega.{arith}
 use lib.Dec.{T}
 use Rattle.lattice.specs.Cells.{Cells, Within, below, up}
-use Rattle.lattice.specs.Pattern.{Pattern, around}
+use Rattle.lattice.specs.Pattern.{Pattern, around, corner}
+use Rattle.lattice.specs.Axes.{x-axis}
+use Rattle.lattice.proofs.PatternLaws.{still-no-corner}
 
 abbrev pub empty : Pattern
 empty a b c = false
@@ -31,3 +33,7 @@ module _ (n : ℕ) (s : Cells) (within : Within n s) where
   pub outside : (x y z : ℕ) → ((x ≤ n) × (y ≤ n) × (z ≤ n) → ⊥) → around s x y z ≡ empty
   outside x y z h = fun-ext λ a. fun-ext λ b. fun-ext λ c.
       past (up a x) (up b y) (up c z) (λ k. h (up-le a (k .0), up-le b (k .1), up-le c (k .2)))
+
+  -- so no point outside the field weighs anything
+  pub outside-no-corner : (x y z : ℕ) → ((x ≤ n) × (y ≤ n) × (z ≤ n) → ⊥) → corner (around s x y z) ≡ false
+  outside-no-corner x y z h = ap corner (outside x y z h) ∙ still-no-corner x-axis empty (λ b c. refl)

@@ -2,10 +2,9 @@
 use mathlib.Core.Path.{_≡_, refl, sym, _∙_, ap}
 use mathlib.Core.Bool.{Bool, true, false, cond}
 use Prim.Native.Nat.{ℕ, zero, suc, _+_, _-_, _*_, _<_, _≤_}
-use native.Mathlib.Nat.{mul-one}
 use native.Mathlib.Omega.{arith}
 use lib.Dec.{T, ltb, ltb→lt, eqb, eqb→eq}
-use lib.IntN.{ℤ, pos, negsuc, _+ℤ_, _-ℤ_, _*ℤ_, negℤ, sucℤ, natAbs, subℕ, +ℤ-assoc, +ℤ-comm, +ℤ-idl, negℤ-+ℤ, negℤ-negℤ, zero-*ℤ, *ℤ-comm, sucℤ-*ℤ}
+use lib.IntN.{ℤ, pos, negsuc, _+ℤ_, _*ℤ_, negℤ, sucℤ, natAbs, subℕ, +ℤ-assoc, +ℤ-comm, +ℤ-idl, negℤ-+ℤ, negℤ-negℤ, zero-*ℤ, *ℤ-comm, sucℤ-*ℤ}
 
 pub +ℤ-swap : (a b c : ℤ) → a +ℤ (b +ℤ c) ≡ b +ℤ (a +ℤ c)
 +ℤ-swap a b c = sym (+ℤ-assoc a b c) ∙ ap (λ t. t +ℤ c) (+ℤ-comm a b) ∙ +ℤ-assoc b a c

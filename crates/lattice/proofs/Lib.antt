@@ -1,6 +1,7 @@
 pub mod Integers
 pub mod SumLaws
 pub mod ByParts
+pub mod JoinLaws
 pub mod Inside
 pub mod PointSums
 pub mod Cases
@@ -10,7 +11,5 @@ pub mod ListingLaws
 pub mod Order
 pub mod SameSolid
 pub mod Agreement
-pub mod TableLaws
-pub mod EdgeLaws
-pub mod CornerSumLaws
+pub mod TermBounds
 pub mod Bounds

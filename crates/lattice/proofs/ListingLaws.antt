@@ -1,18 +1,19 @@
 -- The listing: what is read back from its bytes, its length, and sums over its corners.
-use mathlib.Core.Path.{_≡_, refl, sym, _∙_, ap, fun-ext}
+use mathlib.Core.Path.{_≡_, refl, sym, _∙_, ap}
 use mathlib.Core.Bool.{Bool, true, false, cond}
-use mathlib.Core.List.{List, [], _∷_, _++_, append-assoc}
-use Prim.Native.Nat.{ℕ, zero, suc, _+_, _*_, _/_, _%_, _≤_}
-use native.Mathlib.Nat.{zero-mul, suc-mul, mul-zero}
+use mathlib.Core.List.{List, [], _∷_, _++_}
+use Prim.Native.Nat.{ℕ, zero, suc, _+_, _*_, _/_, _%_}
+use native.Mathlib.Nat.{mul-zero}
 use native.Mathlib.Omega.{arith}
-use lib.IntN.{ℤ, pos, natAbs, _+ℤ_, _*ℤ_, +ℤ-assoc, +ℤ-idl, +ℤ-idr, *ℤ-zero}
-use lib.ListN.{length, length-append}
-use Rattle.lattice.specs.Sums.{total, sum}
+use lib.IntN.{ℤ, pos, _+ℤ_, _*ℤ_, +ℤ-assoc, +ℤ-idl, +ℤ-idr, *ℤ-zero}
+use lib.ListN.{length}
+use Rattle.lattice.specs.Sums.{sum, join}
 use Rattle.lattice.specs.Cells.{Cells, bit}
-use Rattle.lattice.specs.Pattern.{Pattern, around, byte, ofByte, corner, Term, volumeTerm, areaTerm, edgeTerm}
-use Rattle.lattice.specs.Listing.{Corner, join, here, corners, cornerCount, recordOf, bytes, listing, readBack, over, termAt, cornerSum}
-use Rattle.lattice.proofs.Integers.{natAbs-add}
+use Rattle.lattice.specs.Pattern.{Pattern, around, byte, corner, Term}
+use Rattle.lattice.specs.Figures.{Figure, Volume, Area, EdgeLength, term}
+use Rattle.lattice.specs.Listing.{Corner, here, corners, cornerCount, cornerRecord, bytes, listing, readBack, over, termAt, cornerSum}
 use Rattle.lattice.proofs.SumLaws.{sum-ext, total-ext}
+use Rattle.lattice.proofs.JoinLaws.{length-join}
 use Rattle.lattice.proofs.PointSums.{points}
 use Rattle.lattice.proofs.PatternLaws.{ofByte-byte, no-corner-zero}
 
@@ -21,26 +22,16 @@ two-bytes : (x : ℕ) → x % 256 + x / 256 * 256 ≡ x
 two-bytes x = omega arith
 
 pub readBack-bytes : (vs : List Corner) → readBack (bytes vs) ≡ vs
-unfolding bytes readBack recordOf
+unfolding bytes readBack cornerRecord
 readBack-bytes [] = refl
 readBack-bytes (v ∷ vs) = rw (two-bytes (v .x), two-bytes (v .y), two-bytes (v .z), readBack-bytes vs)
 
-pub bytes-append : (a b : List Corner) → bytes (a ++ b) ≡ bytes a ++ bytes b
-unfolding bytes
-bytes-append [] b = refl
-bytes-append (v ∷ a) b = ap (λ l. recordOf v ++ l) (bytes-append a b) ∙ sym (append-assoc (recordOf v) (bytes a) (bytes b))
-
 pub length-bytes : (vs : List Corner) → length (bytes vs) ≡ 7 * length vs
-unfolding bytes recordOf
+unfolding bytes cornerRecord
 length-bytes [] = refl
 length-bytes (v ∷ vs) = omega (arith, length-bytes vs)
 
 -- ---- how many corners
-length-join : (n : ℕ) (f : ℕ → List Corner) → length (join n f) ≡ total n (λ i. length (f i))
-unfolding join total
-length-join zero f = refl
-length-join (suc n) f = length-append (join n f) (f n) ∙ ap (λ t. t + length (f n)) (length-join n f)
-
 length-here : (s : Cells) (x y z : ℕ) → length (here s x y z) ≡ bit (corner (around s x y z))
 unfolding here
 length-here s x y z = one (corner (around s x y z)) (record { x = x; y = y; z = z; pattern = byte (around s x y z) })
@@ -91,17 +82,7 @@ corners-points n s term h =
     at-point x y z true e = +ℤ-idr (termAt term (listed x y z)) ∙ ap (term x y z) (ofByte-byte (around s x y z))
     at-point x y z false e = sym (h x y z (around s x y z) e)
 
-pub volume-weighted : Weighted volumeTerm
-volume-weighted x y z p e = rw (no-corner-zero p e 0) (*ℤ-zero (pos (x * y * z)))
-
-pub area-weighted : Weighted areaTerm
-area-weighted x y z p e = simp (no-corner-zero p e 1, no-corner-zero p e 2, no-corner-zero p e 3, mul-zero)
-
-pub edge-weighted : Weighted edgeTerm
-edge-weighted x y z p e = simp (no-corner-zero p e 4, no-corner-zero p e 5, no-corner-zero p e 6, mul-zero)
-
--- how large a sum over corners is
-pub over-bound : (m : ℕ) (g : Corner → ℤ) (vs : List Corner) → ((v : Corner) → natAbs (g v) ≤ m) → natAbs (over g vs) ≤ length vs * m
-unfolding over
-over-bound m g [] h = omega (arith, zero-mul m)
-over-bound m g (v ∷ vs) h = omega (arith, suc-mul (length vs) m, natAbs-add (g v) (over g vs), h v, over-bound m g vs h)
+pub figure-weighted : (f : Figure) → Weighted (term f)
+figure-weighted Volume x y z p e = rw (no-corner-zero p e 0) (*ℤ-zero (pos (x * y * z)))
+figure-weighted Area x y z p e = simp (no-corner-zero p e 1, no-corner-zero p e 2, no-corner-zero p e 3, mul-zero)
+figure-weighted EdgeLength x y z p e = simp (no-corner-zero p e 4, no-corner-zero p e 5, no-corner-zero p e 6, mul-zero)

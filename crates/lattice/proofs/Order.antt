@@ -1,14 +1,15 @@
 -- The corners of a field are its corner points, each once, in rising order.
-use mathlib.Core.Path.{_≡_, refl, sym, _∙_, ap, subst}
+use mathlib.Core.Path.{_≡_, refl, sym, _∙_, subst}
 use mathlib.Core.Logic.{_⊎_, ⊎-elim, inl, inr, _↔_}
 use mathlib.Core.Bool.{Bool, true, false, cond}
 use mathlib.Core.List.{List, [], _∷_, _++_, List·Memᴰ, List·Memᴰ·head, List·Memᴰ·not-nil, List·Memᴰ·cases-cons, Memᴰ·append-left, Memᴰ·append-right}
-use Prim.Native.Nat.{ℕ, zero, suc, _+_, _-_, _<_, _≤_}
+use Prim.Native.Nat.{ℕ, zero, suc, _+_, _-_, _<_}
 use native.Mathlib.Nat.{zero-add, suc-add}
 use native.Mathlib.Omega.{arith}
 use Rattle.lattice.specs.Cells.{Cells}
 use Rattle.lattice.specs.Pattern.{around, byte, corner}
-use Rattle.lattice.specs.Listing.{Corner, join, here, corners, IsCorner, Precedes, All, Rising}
+use Rattle.lattice.specs.Sums.{join}
+use Rattle.lattice.specs.Listing.{Corner, here, corners, IsCorner, Precedes, All, Rising}
 
 -- ---- properties of all corners of a list
 pub all-map : (P Q : Corner → Type 0) → ((v : Corner) → P v → Q v) → (vs : List Corner) → All P vs → All Q vs

@@ -1,15 +1,14 @@
 -- Patterns and their bytes, the range of the weights, and which patterns are corners: those that change across every axis.
-use mathlib.Core.Path.{_≡_, refl, sym, _∙_, ap, subst, fun-ext}
+use mathlib.Core.Path.{_≡_, refl, _∙_, ap, subst, fun-ext}
 use mathlib.Core.Bool.{Bool, true, false, _&&_, _||_, not, and-false}
 use mathlib.Core.List.{List, [], _∷_}
-use Prim.Native.Nat.{ℕ, zero, suc, _+_, _*_, _/_, _%_, _^_, _<_, _≤_}
-use native.Mathlib.Omega.{arith}
-use lib.Dec.{T, eqb, eqb→eq, ltb, ltb→lt, leb, leb→le}
+use Prim.Native.Nat.{ℕ, zero, suc, zero-le, _<_, _≤_}
+use lib.Dec.{T, eqb, eqb→eq, leb, leb→le}
 use lib.IntN.{ℤ, pos, negsuc, natAbs}
 use lib.ListN.{getD}
 use Rattle.lattice.specs.Pattern.{Pattern, byte, ofByte, w, ax, ay, az, ex, ey, ez, weights, isZero, someNonzero, corner}
+use Rattle.lattice.specs.Axes.{Axis, x-axis, y-axis, z-axis}
 use Rattle.lattice.proofs.Cases.{same, same-at, each, each-at, eachPattern-at, eachBelow-at, and-left, and-right}
-use Rattle.lattice.proofs.Inside.{refute}
 
 -- ---- the pattern byte
 pub ofByte-byte : (p : Pattern) → ofByte (byte p) ≡ p
@@ -21,10 +20,6 @@ ofByte-byte p = fun-ext λ a. fun-ext λ b. fun-ext λ c.
     (each-at (λ a. each λ b. each λ c. same (ofByte (byte p) a b c) (p a b c))
     (eachPattern-at (λ p. each λ a. each λ b. each λ c. same (ofByte (byte p) a b c) (p a b c)) tt p) a) b) c)
 
-pub byte-small : (p : Pattern) → byte p < 256
-unfolding byte
-byte-small p = ltb→lt (byte p) 256 (eachPattern-at (λ p. ltb (byte p) 256) tt p)
-
 pub byte-ofByte : (n : ℕ) → n < 256 → byte (ofByte n) ≡ n
 unfolding byte ofByte
 byte-ofByte n h = eqb→eq (byte (ofByte n)) n (eachBelow-at (λ n. eqb (byte (ofByte n)) n) 256 tt n h)
@@ -34,36 +29,24 @@ byte-ofByte n h = eqb→eq (byte (ofByte n)) n (eachBelow-at (λ n. eqb (byte (o
 abbrev pub Small : ℕ → (Pattern → ℤ) → Type 0
 Small m f = (p : Pattern) → natAbs (f p) ≤ m
 
-small-by : (m : ℕ) (f : Pattern → ℤ) → ((p : Pattern) → T (leb (natAbs (f p)) m)) → Small m f
-small-by m f h p = leb→le (natAbs (f p)) m (h p)
+abbrev pub largest : List ℕ
+largest = 4 ∷ 2 ∷ 2 ∷ 2 ∷ 2 ∷ 2 ∷ 2 ∷ []
 
-pub w-small : Small 4 w
-unfolding w
-w-small = small-by 4 w (eachPattern-at (λ p. leb (natAbs (w p)) 4) tt)
+abbrev inRange : List ℤ → List ℕ → Bool
+inRange (k ∷ ks) (m ∷ ms) = leb (natAbs k) m && inRange ks ms
+inRange (k ∷ ks) [] = false
+inRange [] ms = true
 
-pub ax-small : Small 2 ax
-unfolding ax
-ax-small = small-by 2 ax (eachPattern-at (λ p. leb (natAbs (ax p)) 2) tt)
+range-at : (ks : List ℤ) (ms : List ℕ) → T (inRange ks ms) → (i : ℕ) → natAbs (getD ks i (pos 0)) ≤ getD ms i 0
+range-at [] ms t i = zero-le
+range-at (k ∷ ks) [] t i = absurd t
+range-at (k ∷ ks) (m ∷ ms) t zero = leb→le (natAbs k) m (and-left (leb (natAbs k) m) (inRange ks ms) t)
+range-at (k ∷ ks) (m ∷ ms) t (suc i) = range-at ks ms (and-right (leb (natAbs k) m) (inRange ks ms) t) i
 
-pub ay-small : Small 2 ay
-unfolding ay
-ay-small = small-by 2 ay (eachPattern-at (λ p. leb (natAbs (ay p)) 2) tt)
-
-pub az-small : Small 2 az
-unfolding az
-az-small = small-by 2 az (eachPattern-at (λ p. leb (natAbs (az p)) 2) tt)
-
-pub ex-small : Small 2 ex
-unfolding ex
-ex-small = small-by 2 ex (eachPattern-at (λ p. leb (natAbs (ex p)) 2) tt)
-
-pub ey-small : Small 2 ey
-unfolding ey
-ey-small = small-by 2 ey (eachPattern-at (λ p. leb (natAbs (ey p)) 2) tt)
-
-pub ez-small : Small 2 ez
-unfolding ez
-ez-small = small-by 2 ez (eachPattern-at (λ p. leb (natAbs (ez p)) 2) tt)
+-- weight i of the seven, counted from 0
+pub weight-small : (i : ℕ) (p : Pattern) → natAbs (getD (weights p) i (pos 0)) ≤ getD largest i 0
+unfolding w ax ay az ex ey ez
+weight-small i p = range-at (weights p) largest (eachPattern-at (λ p. inRange (weights p) largest) tt p) i
 
 -- ---- a point that is no corner weighs nothing
 zero-at : (k : ℤ) (b : Bool) → (not (isZero k) || b) ≡ false → k ≡ pos 0
@@ -89,9 +72,6 @@ unfolding corner
 no-corner-zero p = none-nonzero (weights p)
 
 -- ---- the corners are the patterns that change across every axis
-pub data Axis : Type 0 where
-  x-axis y-axis z-axis : Axis
-
 -- the pattern with the axis first
 abbrev pub turned : Axis → Pattern → Pattern
 turned x-axis p a b c = p a b c

@@ -1,12 +1,13 @@
 -- Over all lattice points of a field the weighted sums are the totals: volume, area by any count of two cells, length by any count of four.
-use mathlib.Core.Path.{_≡_, refl, sym, _∙_, ap, ap₂, fun-ext}
+use mathlib.Core.Path.{_≡_, refl, sym, _∙_, ap, ap₂}
 use mathlib.Core.Bool.{Bool, true, false}
-use Prim.Native.Nat.{ℕ, zero, suc, _+_, _*_, _≤_}
+use Prim.Native.Nat.{ℕ, suc, _+_, _*_}
 use native.Mathlib.Nat.{one-mul, mul-one}
-use lib.IntN.{ℤ, pos, negsuc, _+ℤ_, _-ℤ_, _*ℤ_}
-use Rattle.lattice.specs.Sums.{total, sum}
-use Rattle.lattice.specs.Cells.{Cells, Within, below, up, bit, volume, OfTwo, areaBy, OfFour, lengthBy}
-use Rattle.lattice.specs.Pattern.{Pattern, around, sign, both, w, across-x, across-y, across-z, along-x, along-y, along-z, Term, volumeTerm}
+use lib.IntN.{ℤ, pos, _+ℤ_, _-ℤ_, _*ℤ_}
+use Rattle.lattice.specs.Sums.{sum}
+use Rattle.lattice.specs.Cells.{Cells, Within, below, up, bit, volume, OfTwo, areaBy, square, OfFour, lengthBy, edge}
+use Rattle.lattice.specs.Pattern.{Pattern, around, sign, both, w, ax, ay, az, ex, ey, ez, across-x, across-y, across-z, along-x, along-y, along-z, volumeTerm}
+use Rattle.lattice.specs.Figures.{Figure, Volume, Area, EdgeLength, cellCount, term}
 use Rattle.lattice.proofs.Integers.{one-*ℤ, minus-one-*ℤ, *ℤ-dist, *ℤ-assoc}
 use Rattle.lattice.proofs.SumLaws.{sum-ext, sum-add}
 use Rattle.lattice.proofs.ByParts.{scale, falls, countedℕ, by-parts-count, Vanishes}
@@ -80,14 +81,14 @@ module _ (n : ℕ) (s : Cells) (within : Within n s) where
   vanishes : (count : Pattern → ℕ) → count empty ≡ 0 → Vanishes n (λ x y z. pos (count (around s x y z)))
   vanishes count none x y z h = ap pos (ap count (outside n s within x y z h) ∙ none)
 
-  pub volume-points : (points n λ x y z. volumeTerm x y z (around s x y z)) ≡ pos (volume n s)
+  volume-points : (points n λ x y z. volumeTerm x y z (around s x y z)) ≡ pos (volume n s)
   unfolding volume w
   volume-points =
       by-modes true true true n (λ x y z. bit (below s x y z)) (vanishes (λ p. bit (p false false false)) refl)
       (λ x y z. x * y * z) (λ x y z. w (around s x y z)) (λ x y z. refl) (λ x y z. signs-three (λ a b c. pos (bit (around s x y z a b c))))
 
   -- the area by any count that gives nothing where neither cell is covered
-  pub area-points : (count : OfTwo) → count (λ a. false) ≡ 0
+  area-points : (count : OfTwo) → count (λ a. false) ≡ 0
       → (points n λ x y z. pos (y * z) *ℤ across-x count (around s x y z) +ℤ pos (x * z) *ℤ across-y count (around s x y z) +ℤ pos (x * y) *ℤ across-z count (around s x y z))
       ≡ pos (areaBy count n s)
   unfolding areaBy
@@ -101,7 +102,7 @@ module _ (n : ℕ) (s : Cells) (within : Within n s) where
       (λ x y z. x * y) (λ x y z. across-z count (around s x y z)) (λ x y z. sym (rw mul-one)) (λ x y z. signs-two (λ a b. pos (count (λ c. around s x y z a b c)))))
 
   -- the length by any count that gives nothing where no cell is covered
-  pub length-points : (count : OfFour) → count (λ a b. false) ≡ 0
+  length-points : (count : OfFour) → count (λ a b. false) ≡ 0
       → (points n λ x y z. pos x *ℤ along-x count (around s x y z) +ℤ pos y *ℤ along-y count (around s x y z) +ℤ pos z *ℤ along-z count (around s x y z))
       ≡ pos (lengthBy count n s)
   unfolding lengthBy
@@ -113,3 +114,10 @@ module _ (n : ℕ) (s : Cells) (within : Within n s) where
       (λ x y z. y) (λ x y z. along-y count (around s x y z)) (λ x y z. sym (simp (one-mul, mul-one))) (λ x y z. refl))
       (by-modes false false true n (λ x y z. count (λ a b. below s (up a x) (up b y) z)) (vanishes (λ p. count (λ a b. p a b false)) none)
       (λ x y z. z) (λ x y z. along-z count (around s x y z)) (λ x y z. sym (simp one-mul)) (λ x y z. refl))
+
+  -- over all points each figure is the sum of its terms
+  pub figure-points : (f : Figure) → (points n λ x y z. term f x y z (around s x y z)) ≡ cellCount f n s
+  unfolding ax ay az ex ey ez
+  figure-points Volume = volume-points
+  figure-points Area = area-points square refl
+  figure-points EdgeLength = length-points edge refl

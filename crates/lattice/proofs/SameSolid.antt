@@ -3,8 +3,8 @@
 use mathlib.Core.Path.{_≡_, refl, sym, _∙_, ap, subst, fun-ext}
 use mathlib.Core.Bool.{Bool, true, false, cond}
 use mathlib.Core.Logic.{_↔_}
-use mathlib.Core.List.{List, [], _∷_, _++_, append-nil}
-use Prim.Native.Nat.{ℕ, zero, suc, _+_, _-_, _<_, _≤_}
+use mathlib.Core.List.{[], _∷_}
+use Prim.Native.Nat.{ℕ, zero, suc, _+_, _-_, _≤_}
 use native.Mathlib.Nat.{add-comm, zero-add, suc-add, add-suc}
 use native.Mathlib.Decide.{decLe}
 use native.Mathlib.Omega.{arith}
@@ -12,13 +12,14 @@ use lib.Dec.{T, eqb, eqb→eq, eqb-refl}
 use lib.IntN.{ℤ, pos, _+ℤ_, _-ℤ_, negℤ, +ℤ-assoc, +ℤ-idl, +ℤ-idr, +ℤ-invr, negℤ-+ℤ, negℤ-negℤ}
 use lib.ListN.{length, getD}
 use lib.Seq.{ext-getD}
-use Rattle.lattice.specs.Sums.{sum}
+use Rattle.lattice.specs.Sums.{sum, join}
 use Rattle.lattice.specs.Cells.{Cells, Within, below, bit}
-use Rattle.lattice.specs.Pattern.{Pattern, around, byte, corner, w, Term}
-use Rattle.lattice.specs.Listing.{Corner, join, here, corners, listing, bytes, readBack, cornerSum, SameBytes}
+use Rattle.lattice.specs.Pattern.{around, byte, corner, w, Term}
+use Rattle.lattice.specs.Listing.{here, corners, listing, bytes, readBack, cornerSum, SameBytes}
 use Rattle.lattice.proofs.SumLaws.{fall, sum-ext, sum-zero}
-use Rattle.lattice.proofs.Inside.{empty, outside}
-use Rattle.lattice.proofs.PatternLaws.{x-axis, still-no-corner, no-corner-zero}
+use Rattle.lattice.proofs.JoinLaws.{join-ext, join-nil, join-end}
+use Rattle.lattice.proofs.Inside.{outside-no-corner}
+use Rattle.lattice.proofs.PatternLaws.{no-corner-zero}
 use Rattle.lattice.proofs.PointSums.{signs-three}
 use Rattle.lattice.proofs.ListingLaws.{readBack-bytes, corners-points}
 
@@ -74,19 +75,6 @@ solid-known s t h i j k = bit-known (s i j k) (t i j k) (by-z (suc i) (suc j) (s
     by-z x y = known-by-falls (count s x y) (count t x y) (simp none-z) (λ z. by-y x z y)
 
 -- ---- a wider field lists nothing more
-join-ext : (n : ℕ) {f g : ℕ → List Corner} → ((i : ℕ) → f i ≡ g i) → join n f ≡ join n g
-join-ext n h = ap (join n) (fun-ext h)
-
-pub join-nil : (n : ℕ) {f : ℕ → List Corner} → ((i : ℕ) → f i ≡ []) → join n f ≡ []
-unfolding join
-join-nil zero h = refl
-join-nil (suc n) h = rw (join-nil n h, h n)
-
-pub join-end : (n k : ℕ) (f : ℕ → List Corner) → ((i : ℕ) → n ≤ i → f i ≡ []) → join (k + n) f ≡ join n f
-unfolding join
-join-end n zero f h = rw zero-add
-join-end n (suc k) f h = rw (suc-add k n, h (k + n) (omega arith), append-nil) (join-end n k f h)
-
 -- a point that is no corner is not listed
 pub here-none : (s : Cells) (x y z : ℕ) → corner (around s x y z) ≡ false → here s x y z ≡ []
 unfolding here
@@ -94,7 +82,7 @@ here-none s x y z e = ap (λ b. cond b (record { x = x; y = y; z = z; pattern = 
 
 module _ (n : ℕ) (s : Cells) (within : Within n s) where
   here-outside : (x y z : ℕ) → ((x ≤ n) × (y ≤ n) × (z ≤ n) → ⊥) → here s x y z ≡ []
-  here-outside x y z h = here-none s x y z (ap corner (outside n s within x y z h) ∙ still-no-corner x-axis empty (λ b c. refl))
+  here-outside x y z h = here-none s x y z (outside-no-corner n s within x y z h)
 
   wider : (k : ℕ) → corners (k + n) s ≡ corners n s
   unfolding corners
@@ -169,7 +157,7 @@ module _ (x₀ y₀ z₀ : ℕ) where
       at x y z = w (around s x y z)
 
       none : (x y z : ℕ) → ((x ≤ n) × (y ≤ n) × (z ≤ n) → ⊥) → at x y z ≡ pos 0
-      none x y z h = ap w (outside n s within x y z h) ∙ no-corner-zero empty (still-no-corner x-axis empty (λ b c. refl)) 0
+      none x y z h = no-corner-zero (around s x y z) (outside-no-corner n s within x y z h) 0
 
 pub same-solid : (n m : ℕ) (s t : Cells) → Within n s → Within m t → corners n s ≡ corners m t → (i j k : ℕ) → s i j k ≡ t i j k
 same-solid n m s t hs ht e = solid-known s t λ x y z.

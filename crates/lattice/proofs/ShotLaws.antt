@@ -3,14 +3,15 @@ use mathlib.Core.Path.{_≡_, refl, sym, _∙_, ap, ap₂, fun-ext}
 use mathlib.Core.Logic.{_≢_}
 use mathlib.Core.Bool.{Bool, true, false, _&&_, _||_, and-false}
 use mathlib.Core.List.{List, [], _∷_}
-use Prim.Native.Nat.{ℕ, zero, suc, _+_, _<_, _≤_}
+use Prim.Native.Nat.{ℕ, zero, suc, _+_, _<_}
 use native.Mathlib.Omega.{arith}
 use lib.Dec.{T, leb, ltb, leb→le, le→leb, ltb→lt, lt→ltb}
-use Rattle.lattice.specs.Cells.{Cells, Within, below, up}
+use Rattle.lattice.specs.Cells.{Within, below, up}
 use Rattle.lattice.specs.Pattern.{around, corner}
 use Rattle.lattice.specs.Shots.{Shot, spans, covers, cells, any, InField, AllInField}
+use Rattle.lattice.specs.Axes.{Axis, x-axis, y-axis, z-axis, start, placeOn, NoFace}
 use Rattle.lattice.proofs.Cases.{bool-ext}
-use Rattle.lattice.proofs.PatternLaws.{Axis, x-axis, y-axis, z-axis, still-no-corner}
+use Rattle.lattice.proofs.PatternLaws.{turned, still-no-corner}
 
 pub and-elim : (a b : Bool) → T (a && b) → T a × T b
 and-elim true b t = (tt, t)
@@ -72,22 +73,6 @@ holds-still e a (suc i) h k =
     (λ t. lt→ltb i (a + e) (omega (arith, ltb→lt (suc i) (a + e) t)))
     (λ t. lt→ltb (suc i) (a + e) (omega (arith, ltb→lt i (a + e) t))))
 
--- where a shot begins on an axis, and a point's place on it
-abbrev pub start : Axis → Shot → ℕ
-start x-axis t = t .x
-start y-axis t = t .y
-start z-axis t = t .z
-
-abbrev pub place-on : Axis → ℕ → ℕ → ℕ → ℕ
-place-on x-axis x y z = x
-place-on y-axis x y z = y
-place-on z-axis x y z = z
-
--- no shot of the list has a face at p across the axis
-abbrev pub NoFace : Axis → ℕ → List Shot → Type 0
-NoFace axis p [] = Unit {0}
-NoFace axis p (t ∷ ts) = (start axis t ≢ p) × (start axis t + t .edge ≢ p) × NoFace axis p ts
-
 any-still : (axis : Axis) (p : ℕ) (f : Bool → Shot → Bool) (ts : List Shot) → NoFace axis p ts
     → any (λ t. f (holds (t .edge) (start axis t) (suc p)) t) ts ≡ any (λ t. f (holds (t .edge) (start axis t) p) t) ts
 unfolding any
@@ -95,16 +80,20 @@ any-still axis p f [] h = refl
 any-still axis p f (t ∷ ts) h =
     ap₂ _||_ (ap (λ b. f b t) (holds-still (t .edge) (start axis t) p (h .0) (h .1))) (any-still axis p f ts (h .2))
 
-pub no-face-no-corner : (axis : Axis) (ts : List Shot) (x y z : ℕ) → NoFace axis (place-on axis x y z) ts → corner (around (cells ts) x y z) ≡ false
-no-face-no-corner x-axis ts x y z h = still-no-corner x-axis (around (cells ts) x y z) (λ b c.
-    below-cells ts (suc x) (up b y) (up c z)
-    ∙ any-still x-axis x (λ q t. q && (holds (t .edge) (t .y) (up b y) && holds (t .edge) (t .z) (up c z))) ts h
-    ∙ sym (below-cells ts x (up b y) (up c z)))
-no-face-no-corner y-axis ts x y z h = still-no-corner y-axis (around (cells ts) x y z) (λ a c.
-    below-cells ts (up a x) (suc y) (up c z)
-    ∙ any-still y-axis y (λ q t. holds (t .edge) (t .x) (up a x) && (q && holds (t .edge) (t .z) (up c z))) ts h
-    ∙ sym (below-cells ts (up a x) y (up c z)))
-no-face-no-corner z-axis ts x y z h = still-no-corner z-axis (around (cells ts) x y z) (λ a b.
-    below-cells ts (up a x) (up b y) (suc z)
-    ∙ any-still z-axis z (λ q t. holds (t .edge) (t .x) (up a x) && (holds (t .edge) (t .y) (up b y) && q)) ts h
-    ∙ sym (below-cells ts (up a x) (up b y) z))
+-- whether a shot covers a cell about (x, y, z), by whether it holds it on the axis: on the other two the cell lies b and c
+abbrev coversBy : Axis → ℕ → ℕ → ℕ → Bool → Bool → Bool → Shot → Bool
+coversBy x-axis x y z b c q t = q && (holds (t .edge) (t .y) (up b y) && holds (t .edge) (t .z) (up c z))
+coversBy y-axis x y z b c q t = holds (t .edge) (t .x) (up b x) && (q && holds (t .edge) (t .z) (up c z))
+coversBy z-axis x y z b c q t = holds (t .edge) (t .x) (up b x) && (holds (t .edge) (t .y) (up c y) && q)
+
+turned-cells : (axis : Axis) (ts : List Shot) (x y z : ℕ) (a b c : Bool) → turned axis (around (cells ts) x y z) a b c
+    ≡ any (λ t. coversBy axis x y z b c (holds (t .edge) (start axis t) (up a (placeOn axis x y z))) t) ts
+turned-cells x-axis ts x y z a b c = below-cells ts (up a x) (up b y) (up c z)
+turned-cells y-axis ts x y z a b c = below-cells ts (up b x) (up a y) (up c z)
+turned-cells z-axis ts x y z a b c = below-cells ts (up b x) (up c y) (up a z)
+
+pub no-face-no-corner : (axis : Axis) (ts : List Shot) (x y z : ℕ) → NoFace axis (placeOn axis x y z) ts → corner (around (cells ts) x y z) ≡ false
+no-face-no-corner axis ts x y z h = still-no-corner axis (around (cells ts) x y z) λ b c.
+    turned-cells axis ts x y z true b c
+    ∙ any-still axis (placeOn axis x y z) (coversBy axis x y z b c) ts h
+    ∙ sym (turned-cells axis ts x y z false b c)

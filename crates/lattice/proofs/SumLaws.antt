@@ -3,9 +3,9 @@ use mathlib.Core.Path.{_≡_, refl, sym, _∙_, ap, fun-ext}
 use Prim.Native.Nat.{ℕ, zero, suc, _+_, _*_, _≤_}
 use native.Mathlib.Nat.{zero-mul, suc-mul}
 use native.Mathlib.Omega.{arith}
-use lib.IntN.{ℤ, pos, natAbs, _+ℤ_, _-ℤ_, _*ℤ_, negℤ, sucℤ, +ℤ-assoc, +ℤ-idl, +ℤ-idr, +ℤ-invr, negℤ-+ℤ, zero-*ℤ, *ℤ-zero, sucℤ-*ℤ, -ℤ-+ℤ-cancel}
+use lib.IntN.{ℤ, pos, _+ℤ_, _-ℤ_, _*ℤ_, negℤ, sucℤ, +ℤ-assoc, +ℤ-idl, +ℤ-idr, negℤ-+ℤ, zero-*ℤ, *ℤ-zero, sucℤ-*ℤ, -ℤ-+ℤ-cancel}
 use Rattle.lattice.specs.Sums.{total, sum}
-use Rattle.lattice.proofs.Integers.{+ℤ·sort, *ℤ-dist, *ℤ-neg, natAbs-add}
+use Rattle.lattice.proofs.Integers.{+ℤ·sort, *ℤ-dist}
 
 pub total-ext : (n : ℕ) {f g : ℕ → ℕ} → ((i : ℕ) → f i ≡ g i) → total n f ≡ total n g
 total-ext n h = ap (total n) (fun-ext h)

@@ -1,7 +1,7 @@
 -- Unit cells, and the three totals by counting them: document 01, 'Cells and the three totals'.
 -- A solid is the predicate of its cells. A field of side n has the cells with i, j, k < n and the lattice points with x, y, z ≤ n.
 use mathlib.Core.Bool.{Bool, true, false, not}
-use Prim.Native.Nat.{ℕ, zero, suc, _+_, _<_}
+use Prim.Native.Nat.{ℕ, zero, suc, _+_, _*_, _<_}
 use lib.Dec.{T}
 use Rattle.lattice.specs.Sums.{total}
 
@@ -12,6 +12,16 @@ Cells = ℕ → ℕ → ℕ → Bool
 -- everything outside a field of side n is uncovered
 abbrev pub Within : ℕ → Cells → Type 0
 Within n s = (i j k : ℕ) → T (s i j k) → (i < n) × (j < n) × (k < n)
+
+-- how many lattice points a field of side n has on a line along an axis, in a plane across one, and in all
+abbrev pub linePoints : ℕ → ℕ
+linePoints n = suc n
+
+abbrev pub planePoints : ℕ → ℕ
+planePoints n = linePoints n * linePoints n
+
+abbrev pub fieldPoints : ℕ → ℕ
+fieldPoints n = linePoints n * planePoints n
 
 -- the cell that ends at (x, y, z); no cell ends at 0
 abbrev pub below : Cells → ℕ → ℕ → ℕ → Bool

@@ -1,7 +1,7 @@
 pub mod Sums
 pub mod Cells
 pub mod Pattern
+pub mod Figures
 pub mod Listing
 pub mod Shots
-pub mod UnitEdges
-pub mod CornerSums
+pub mod Axes

@@ -1,14 +1,14 @@
 -- The corner points of a field, their listing, and the sums over them: document 01, 'Corner points'.
 use mathlib.Core.Path.{_≡_}
 use mathlib.Core.Logic.{_⊎_}
-use mathlib.Core.Bool.{Bool, true, false, cond}
+use mathlib.Core.Bool.{true, cond}
 use mathlib.Core.List.{List, [], _∷_, _++_}
-use Prim.Native.Nat.{ℕ, zero, suc, _+_, _*_, _/_, _%_, _<_, _≤_}
+use Prim.Native.Nat.{ℕ, suc, _+_, _*_, _/_, _%_, _<_, _≤_}
 use lib.IntN.{ℤ, pos, _+ℤ_}
 use lib.ListN.{length, getD}
-use Rattle.lattice.specs.Sums.{total}
+use Rattle.lattice.specs.Sums.{total, join}
 use Rattle.lattice.specs.Cells.{Cells, bit}
-use Rattle.lattice.specs.Pattern.{Pattern, around, byte, ofByte, corner, Term}
+use Rattle.lattice.specs.Pattern.{around, byte, ofByte, corner, Term}
 
 -- a corner point with its pattern byte
 pub record Corner : Type 0 where
@@ -16,11 +16,6 @@ pub record Corner : Type 0 where
   pub y : ℕ
   pub z : ℕ
   pub pattern : ℕ
-
--- the lists at 0, 1, .. n - 1, one after the other
-unfoldable pub join : ℕ → (ℕ → List Corner) → List Corner
-join zero f = []
-join (suc n) f = join n f ++ f n
 
 -- the point (x, y, z), if it is a corner point
 unfoldable pub here : Cells → ℕ → ℕ → ℕ → List Corner
@@ -55,12 +50,12 @@ unfoldable pub cornerCount : ℕ → Cells → ℕ
 cornerCount n s = total (suc n) λ x. total (suc n) λ y. total (suc n) λ z. bit (corner (around s x y z))
 
 -- a record of the listing: x, y, z as 16-bit numbers, least byte first, then the pattern
-unfoldable pub recordOf : Corner → List ℕ
-recordOf v = v .x % 256 ∷ v .x / 256 ∷ v .y % 256 ∷ v .y / 256 ∷ v .z % 256 ∷ v .z / 256 ∷ v .pattern ∷ []
+unfoldable pub cornerRecord : Corner → List ℕ
+cornerRecord v = v .x % 256 ∷ v .x / 256 ∷ v .y % 256 ∷ v .y / 256 ∷ v .z % 256 ∷ v .z / 256 ∷ v .pattern ∷ []
 
 unfoldable pub bytes : List Corner → List ℕ
 bytes [] = []
-bytes (v ∷ vs) = recordOf v ++ bytes vs
+bytes (v ∷ vs) = cornerRecord v ++ bytes vs
 
 abbrev pub listing : ℕ → Cells → List ℕ
 listing n s = bytes (corners n s)

@@ -1,6 +1,7 @@
 -- The eight jobs that document 01 marks P in its table 'Jobs with known totals'.
 use mathlib.Core.List.{List, [], _∷_}
 use Prim.Native.Nat.{ℕ}
+use Rattle.lattice.specs.Figures.{Figure, Volume, Area, EdgeLength}
 use Rattle.lattice.specs.Shots.{Shot}
 
 -- a job in a field of side 8 with the totals that the table states
@@ -10,6 +11,12 @@ pub record KnownJob : Type 0 where
   pub area : ℕ
   pub edge : ℕ
   pub corners : ℕ
+
+-- the figure that the table states
+abbrev pub stated : Figure → KnownJob → ℕ
+stated Volume j = j .volume
+stated Area j = j .area
+stated EdgeLength j = j .edge
 
 abbrev pub cube : ℕ → ℕ → ℕ → ℕ → Shot
 cube e a b c = record { x = a; y = b; z = c; edge = e }

@@ -5,8 +5,8 @@ use Prim.Native.Nat.{ℕ, _*_}
 use lib.ListN.{length, drop}
 use Rattle.lattice.specs.Cells.{Cells}
 use Rattle.lattice.specs.Listing.{cornerCount, listing}
-use Rattle.lattice.specs.CornerSums.{totalsOf}
-use Rattle.lattice.specs.declared.sums.Totals.{Totals}
+use Rattle.lattice_sums.specs.CornerSums.{totalsOf}
+use Rattle.lattice_sums.specs.declared.sums.Totals.{Totals}
 use Rattle.job.specs.Job.{Valid}
 use Rattle.job.specs.Checking.{Test, andThen}
 use Rattle.job.specs.declared.Checked.{Checked}

@@ -4,15 +4,14 @@ use mathlib.Core.Bool.{cond}
 use mathlib.Core.List.{List, [], _++_}
 use Prim.Native.Nat.{ℕ, _*_, _/_, _≤_, _<_}
 use native.Mathlib.Omega.{arith}
-use lib.IntN.{ℤ, pos, natAbs}
 use lib.ListN.{length, drop}
 use borrow.Author.Tests.{lt-ltb, le-ltb}
 use Rattle.lattice.specs.Cells.{Cells, Within}
 use Rattle.lattice.specs.Listing.{corners, cornerCount, listing, bytes}
-use Rattle.lattice.specs.CornerSums.{sumsOf, totalsOf, Whole}
-use Rattle.lattice.specs.declared.sums.CornerSums.{CornerSums}
-use Rattle.lattice.specs.declared.sums.Totals.{Totals}
-use Rattle.lattice.proofs.Agreement.{corner-sums}
+use Rattle.lattice_sums.specs.CornerSums.{sumsOf, totalsOf, Whole}
+use Rattle.lattice_sums.specs.declared.sums.CornerSums.{CornerSums}
+use Rattle.lattice_sums.specs.declared.sums.Totals.{Totals}
+use Rattle.lattice_sums.proofs.CornerSumLaws.{sums-whole, whole-same}
 use Rattle.lattice.proofs.ListingLaws.{length-corners}
 use Rattle.job.specs.Checking.{andThen}
 use Rattle.job.specs.declared.Refusal.{Refusal}
@@ -27,25 +26,11 @@ use Rattle.measure_intake.specs.declared.Measured.the-variants.{Quote, Refused 
 
 -- ---- the sums of a sweep are the totals
 module _ (n : ℕ) (s : Cells) (within : Within n s) where
-  nonnegative : {z : ℤ} {m : ℕ} → z ≡ pos m → z ≡ pos (natAbs z)
-  nonnegative e = e ∙ ap (λ z. pos (natAbs z)) (sym e)
-
-  pub swept-nonnegative : {t : CornerSums} → t ≡ sumsOf (corners n s) → (t .volume ≡ pos (natAbs (t .volume))) × (t .area ≡ pos (natAbs (t .area))) × (t .edge ≡ pos (natAbs (t .edge)))
-  unfolding sumsOf
-  swept-nonnegative e = (
-    nonnegative (ap (λ t. t .volume) e ∙ corner-sums n s within .volume-is),
-    nonnegative (ap (λ t. t .area) e ∙ corner-sums n s within .area-is),
-    nonnegative (ap (λ t. t .edge) e ∙ corner-sums n s within .edge-is),
-  )
+  pub swept-whole : {t : CornerSums} → t ≡ sumsOf (corners n s) → Whole t (totalsOf n s)
+  swept-whole e = subst (λ t. Whole t (totalsOf n s)) (sym e) (sums-whole n s within)
 
   pub swept-totals : {t : CornerSums} {r : Totals} → t ≡ sumsOf (corners n s) → Whole t r → r ≡ totalsOf n s
-  unfolding sumsOf totalsOf
-  swept-totals {t} {r} e h = λ i. record {
-    volume = ap natAbs (sym (h .volume-is) ∙ ap (λ t. t .volume) e ∙ corner-sums n s within .volume-is) i;
-    area = ap natAbs (sym (h .area-is) ∙ ap (λ t. t .area) e ∙ corner-sums n s within .area-is) i;
-    edge = ap natAbs (sym (h .edge-is) ∙ ap (λ t. t .edge) e ∙ corner-sums n s within .edge-is) i;
-    corners = (sym (h .corners-is) ∙ ap (λ t. t .corners) e ∙ length-corners n s) i;
-  }
+  swept-totals e h = whole-same h (swept-whole e)
 
 -- what a sweep found, apart
 pub swept-sums : {t : CornerSums} {after : List ℕ} (before : List ℕ) (n : ℕ) (s : Cells) → state t after ≡ found (state (sumsOf []) before) (corners n s) → t ≡ sumsOf (corners n s)

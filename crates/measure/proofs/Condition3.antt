@@ -15,10 +15,11 @@ use lib.ListN.{length, take, drop}
 use lib.Seq.{take-at}
 use Rattle.lattice.specs.Cells.{Cells, volume, area, edgeLength}
 use Rattle.lattice.specs.Pattern.{volumeTerm, areaTerm, edgeTerm}
+use Rattle.lattice.specs.Figures.{Volume, Area, EdgeLength}
 use Rattle.lattice.specs.Shots.{Shot, covers}
 use Rattle.lattice.specs.Listing.{Corner, corners, cornerCount, IsCorner, Rising, listing, readBack, cornerSum, listedSum, SameBytes}
-use Rattle.lattice.specs.CornerSums.{totalsOf}
-use Rattle.lattice.specs.declared.sums.Totals.{Totals}
+use Rattle.lattice_sums.specs.CornerSums.{totalsOf}
+use Rattle.lattice_sums.specs.declared.sums.Totals.{Totals}
 use Rattle.lattice.proofs.Cases.{bool-ext}
 use Rattle.lattice.proofs.Agreement as agreement
 use Rattle.lattice.proofs.SameSolid.{same-corners}
@@ -66,9 +67,9 @@ totals-agree {F} {E} {G} {coords} {places} {t} a =
       volume-counts = ap (λ (t : Totals). t .volume) k;
       area-counts = ap (λ (t : Totals). t .area) k;
       edge-counts = ap (λ (t : Totals). t .edge) k;
-      volume-sums = ap (λ (t : Totals). pos (t .volume)) k ∙ sym (c .volume-is);
-      area-sums = ap (λ (t : Totals). pos (t .area)) k ∙ sym (c .area-is);
-      edge-sums = ap (λ (t : Totals). pos (t .edge)) k ∙ sym (c .edge-is);
+      volume-sums = ap (λ (t : Totals). pos (t .volume)) k ∙ sym (c Volume);
+      area-sums = ap (λ (t : Totals). pos (t .area)) k ∙ sym (c Area);
+      edge-sums = ap (λ (t : Totals). pos (t .edge)) k ∙ sym (c EdgeLength);
       corners-count = ap (λ (t : Totals). t .corners) k;
       corners-listed = ap (λ (t : Totals). t .corners) k ∙ sym (agreement.count-is F s (valid-within (a .valid)));
     }
@@ -107,13 +108,13 @@ module _ {F E G : ℕ} {coords work work' buffer buffer' : List ℕ} {t : Totals
 
   -- the corner sums from the listing bytes alone are the three figures
   pub listed-volume : listedSum volumeTerm listingBytes ≡ pos (t .volume)
-  listed-volume = ap (listedSum volumeTerm) bytes-are ∙ agreement.listed-sums F (solid E coords) (valid-within (is-listed .measures .valid)) .volume-is ∙ ap pos (sym (list-agrees .volume-counts))
+  listed-volume = ap (listedSum volumeTerm) bytes-are ∙ agreement.listed-sums F (solid E coords) (valid-within (is-listed .measures .valid)) Volume ∙ ap pos (sym (list-agrees .volume-counts))
 
   pub listed-area : listedSum areaTerm listingBytes ≡ pos (t .area)
-  listed-area = ap (listedSum areaTerm) bytes-are ∙ agreement.listed-sums F (solid E coords) (valid-within (is-listed .measures .valid)) .area-is ∙ ap pos (sym (list-agrees .area-counts))
+  listed-area = ap (listedSum areaTerm) bytes-are ∙ agreement.listed-sums F (solid E coords) (valid-within (is-listed .measures .valid)) Area ∙ ap pos (sym (list-agrees .area-counts))
 
   pub listed-edge : listedSum edgeTerm listingBytes ≡ pos (t .edge)
-  listed-edge = ap (listedSum edgeTerm) bytes-are ∙ agreement.listed-sums F (solid E coords) (valid-within (is-listed .measures .valid)) .edge-is ∙ ap pos (sym (list-agrees .edge-counts))
+  listed-edge = ap (listedSum edgeTerm) bytes-are ∙ agreement.listed-sums F (solid E coords) (valid-within (is-listed .measures .valid)) EdgeLength ∙ ap pos (sym (list-agrees .edge-counts))
 
 -- ---- 3. two lists that `list` accepts, whatever their fields, edges, grids and orders: the same bytes exactly when they cover the same cells
 module _ {F E G : ℕ} {coords work work' buffer buffer' : List ℕ} {t : Totals} (one : ListCall F E G coords work work' buffer buffer' (Quote t))

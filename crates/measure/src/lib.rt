@@ -8,7 +8,7 @@ ghost use mathlib.Core.List.{_++_};
 ghost use Prim.Native.Nat.{_*_, _≤_};
 ghost use lib.ListN.{length, drop};
 ghost use Rattle.lattice.specs.Listing.{cornerCount, listing};
-ghost use Rattle.lattice.specs.CornerSums.{totalsOf};
+ghost use Rattle.lattice_sums.specs.CornerSums.{totalsOf};
 ghost use Rattle.job.specs.Job.{Valid};
 ghost use Rattle.grid.specs.Grid.{Holds};
 ghost use Rattle.measure_intake.specs.Intake.{solid, answerOf, onChecked, measureAnswer, workAfter};
@@ -17,7 +17,7 @@ ghost use Rattle.job.specs.Checking.{andThen};
 ghost use Rattle.job.specs.declared.Checked.the-variants.{Accepted};
 use job::Checked;
 use job::Refusal;
-use lattice::sums::Totals;
+use lattice_sums::sums::Totals;
 use measure_intake::Measured;
 use measure_intake::indexed;
 

@@ -10,8 +10,8 @@ use Rattle.lattice.specs.Sums.{total}
 use Rattle.lattice.specs.Cells.{Cells, Within, below, up, bit, volume, areaBy, square, area, lengthBy, edge, edgeLength}
 use Rattle.lattice.specs.Pattern.{around}
 use Rattle.lattice.specs.Listing.{cornerCount}
-use Rattle.lattice.specs.CornerSums.{totalsOf}
-use Rattle.lattice.specs.declared.sums.Totals.{Totals}
+use Rattle.lattice_sums.specs.CornerSums.{totalsOf}
+use Rattle.lattice_sums.specs.declared.sums.Totals.{Totals}
 use Rattle.lattice.proofs.Inside.{past}
 use Rattle.grid.proofs.TotalLaws.{total-agree, total-plus}
 use Rattle.measure_cells.specs.Points.{atPattern, nothing, plus, sumTo, fieldTo}

@@ -6,7 +6,7 @@ use native.Mathlib.Numerals.{add-one}
 use native.Mathlib.Omega.{arith}
 use Rattle.lattice.specs.Cells.{Cells}
 use Rattle.lattice.specs.Pattern.{around}
-use Rattle.lattice.specs.declared.sums.Totals.{Totals}
+use Rattle.lattice_sums.specs.declared.sums.Totals.{Totals}
 use Rattle.measure_cells.specs.Points.{atPattern, nothing, plus, sumTo, lineTo, planeTo, fieldTo, AtMost}
 use Rattle.measure_cells.proofs.TallyLaws.{pattern-most}
 

@@ -8,7 +8,7 @@ use lib.Dec.{eqb, leb, leb→le}
 use borrow.Author.Tests.{eq-eqb, ne-eqb}
 use Rattle.lattice.specs.Cells.{bit, square, edge}
 use Rattle.lattice.specs.Pattern.{Pattern, ofByte, corner}
-use Rattle.lattice.specs.declared.sums.Totals.{Totals}
+use Rattle.lattice_sums.specs.declared.sums.Totals.{Totals}
 use Rattle.lattice.proofs.Cases.{eachFour-at}
 use Rattle.measure_cells.specs.Points.{atPattern, plus, differs, AtMost}
 

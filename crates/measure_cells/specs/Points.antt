@@ -5,7 +5,7 @@ use Prim.Native.Nat.{ℕ, zero, suc, _+_, _*_, _≤_, _<_}
 use lib.Dec.{eqb}
 use Rattle.lattice.specs.Cells.{Cells, bit, square, edge}
 use Rattle.lattice.specs.Pattern.{Pattern, around, corner}
-use Rattle.lattice.specs.declared.sums.Totals.{Totals}
+use Rattle.lattice_sums.specs.declared.sums.Totals.{Totals}
 
 -- what a point of pattern p counts
 unfoldable pub atPattern : Pattern → Totals

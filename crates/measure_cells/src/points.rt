@@ -5,7 +5,7 @@ ghost use Prim.Native.Nat.{_+_, _*_, _/_, _≤_};
 ghost use Rattle.lattice.specs.Cells.{bit, below, up};
 ghost use Rattle.lattice.specs.Pattern.{around, byte};
 ghost use Rattle.lattice.specs.Shots.{cells};
-ghost use Rattle.lattice.specs.CornerSums.{totalsOf};
+ghost use Rattle.lattice_sums.specs.CornerSums.{totalsOf};
 ghost use Rattle.job.specs.Job.{shotsOf, Valid};
 ghost use Rattle.grid.specs.Grid.{Holds};
 ghost use Rattle.grid_cover.specs.Cover.{runCovers};
@@ -14,7 +14,7 @@ use crate::tallies::tally;
 use grid::intervals::cells_of;
 use grid_cover::covers;
 use grid_runs::run_of;
-use lattice::sums::Totals;
+use lattice_sums::sums::Totals;
 
 // 1 if the run covers the cell that ends at (x, y, z); no cell ends at 0.
 fn cell_ends(coords: &[u16], edge: u16, run: &[u32], x: u16, y: u16, z: u16) -> u8

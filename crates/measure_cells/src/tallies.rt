@@ -5,10 +5,10 @@ ghost use Prim.Native.Nat.{_≤_};
 ghost use Rattle.lattice.specs.Cells.{square};
 ghost use Rattle.lattice.specs.Pattern.{ofByte};
 ghost use Rattle.measure_cells.specs.Points.{atPattern, plus, AtMost, differs};
-use lattice::edges::UnitEdge;
-use lattice::edges::is_corner;
-use lattice::edges::unit_edge;
-use lattice::sums::Totals;
+use lattice_sums::edges::UnitEdge;
+use lattice_sums::edges::is_corner;
+use lattice_sums::edges::unit_edge;
+use lattice_sums::sums::Totals;
 
 // A unit square counts if one of its two cells is covered: 1 where the two bits differ.
 fn square_of(low: u8, high: u8) -> u64

@@ -5,8 +5,8 @@ use mathlib.Core.List.{List, _++_}
 use Prim.Native.Nat.{ℕ, _≤_, _<_}
 use lib.ListN.{length, drop}
 use borrow.Author.Tests.{lt-ltb, le-ltb}
-use Rattle.lattice.specs.CornerSums.{totalsOf}
-use Rattle.lattice.specs.declared.sums.Totals.{Totals}
+use Rattle.lattice_sums.specs.CornerSums.{totalsOf}
+use Rattle.lattice_sums.specs.declared.sums.Totals.{Totals}
 use Rattle.job.specs.Job.{Valid}
 use Rattle.job.specs.Checking.{checked, andThen}
 use Rattle.job.specs.declared.Refusal.{Refusal}

@@ -6,7 +6,7 @@ use lib.Dec.{ltb}
 use lib.ListN.{length, drop}
 use Rattle.lattice.specs.Cells.{Cells}
 use Rattle.lattice.specs.Shots.{cells}
-use Rattle.lattice.specs.CornerSums.{totalsOf}
+use Rattle.lattice_sums.specs.CornerSums.{totalsOf}
 use Rattle.job.specs.Job.{shotsOf}
 use Rattle.job.specs.Refusals.{numberOf, detailOf}
 use Rattle.job.specs.Checking.{checked, Test, andThen}

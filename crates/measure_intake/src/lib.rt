@@ -7,7 +7,7 @@ ghost use lib.ListN.{length};
 ghost use Rattle.measure_intake.specs.Intake.{measureChecked, workAfter};
 use job::Checked;
 use job::Refusal;
-use lattice::sums::Totals;
+use lattice_sums::sums::Totals;
 
 // The totals of a list and its corner count, or why there are none.
 pub enum Measured {

@@ -1,31 +1,26 @@
 -- What an answer of `read` or `write` says, by the call's contract: the file that was read and where its list is stored, the list that was
 -- written and its file. Assumes nothing.
 use mathlib.Core.Path.{_≡_, refl, sym, ap, _∙_}
-use mathlib.Core.Bool.{Bool, true, false}
 use mathlib.Core.List.{List}
 use Prim.Native.Nat.{ℕ, _≤_}
 use native.Mathlib.Omega.{arith}
-use lib.Dec.{ltb}
 use lib.ListN.{length, drop, length-append, length-drop}
 use lib.Seq.{take-at}
-use borrow.Author.Tests.{ltb-false}
 use Rattle.job.specs.declared.Refusal.{Refusal}
-use Rattle.job.specs.declared.Refusal.the-variants.{ShortFile}
 use Rattle.job.specs.declared.Checked.{Checked}
 use Rattle.job.specs.declared.Checked.the-variants.{Accepted, Refused as Turned}
 use Rattle.job.specs.Job.{shotCount, placeOf, firstShots, Valid}
-use Rattle.job.specs.Checking.{checked, andThen}
-use Rattle.job.proofs.Conditions.{accepted-valid}
+use Rattle.job.specs.Checking.{firstOf}
 use Rattle.shotfile.specs.declared.reader.ReadAnswer.{ReadAnswer}
 use Rattle.shotfile.specs.declared.reader.ReadAnswer.the-variants.{Read, Refused as Unread}
 use Rattle.shotfile.specs.declared.writer.WriteAnswer.{WriteAnswer}
 use Rattle.shotfile.specs.declared.writer.WriteAnswer.the-variants.{Written, Refused as Unwritten}
 use Rattle.shotfile.specs.Files.{settingFields, File, file, refused, fileIn, fileOf}
-use Rattle.shotfile.specs.Calls.{inFront, readAnswer, readCoords, ReadCall, ifWritten, writeAnswer, writeBytes, WriteCall}
+use Rattle.shotfile.specs.Calls.{inFront, readAnswer, readCoords, ReadCall, writeTests, ifWritten, writeAnswer, writeBytes, WriteCall}
 use Rattle.shotfile.proofs.Coords.{places-fit}
 use Rattle.shotfile.proofs.ShotsRead.{reads-whole, reads-room}
 use Rattle.shotfile.proofs.Shortest.{file-parts}
-use Rattle.shotfile.proofs.Writing.{write-done}
+use Rattle.shotfile.proofs.Writing.{tests-accepted}
 
 -- ---- reading
 -- a file that `read` accepts, and its list in the coordinate slice
@@ -77,23 +72,18 @@ pub record AcceptedList (F E G : ℕ) (coords before : List ℕ) (n : ℕ) (afte
 
 pub accepted-list : {F E G : ℕ} {coords before after : List ℕ} {w : WriteAnswer} → WriteCall F E G coords before w after → {n : ℕ} → w ≡ Written n
     → AcceptedList F E G coords before n after
-unfolding writeAnswer
-accepted-list {F} {E} {G} {coords} {before} {after} c {n} e = go (checked F E G coords) refl (ltb (length before) (length (fileOf F E G coords))) refl (sym (c .answer) ∙ e)
+unfolding writeAnswer writeBytes
+accepted-list {F} {E} {G} {coords} {before} {after} c {n} e = go (firstOf (writeTests F E G coords (length before))) refl (sym (c .answer) ∙ e)
   where
-    apart : {P : Type 0} {r : Refusal} → Unwritten r ≡ Written n → P
-    apart e = let z : _≡_ {A = ℕ} 0 1 = cc in absurd (omega arith)
-
-    go : (k : Checked) → checked F E G coords ≡ k → (b : Bool) → ltb (length before) (length (fileOf F E G coords)) ≡ b
-        → ifWritten (andThen k (record { holds = b; gives = ShortFile (length (fileOf F E G coords)) })) Unwritten (Written (length (fileOf F E G coords))) ≡ Written n
+    go : (k : Checked) → firstOf (writeTests F E G coords (length before)) ≡ k → ifWritten k Unwritten (Written (length (fileOf F E G coords))) ≡ Written n
         → AcceptedList F E G coords before n after
-    go (Turned r) q b l e = apart e
-    go Accepted q true l e = apart e
-    go Accepted q false l e =
+    go (Turned r) q e = let z : _≡_ {A = ℕ} 0 1 = cc in absurd (omega arith)
+    go Accepted q e =
         let m : length (fileOf F E G coords) ≡ n = cc in
-        let r : length (fileOf F E G coords) ≤ length before = ltb-false (length before) (length (fileOf F E G coords)) l in
+        let (v, r) = tests-accepted F E G coords (length before) .0 q in
         record {
-          valid = accepted-valid F E G coords .0 q;
+          valid = v;
           long = sym m;
           room = r;
-          leaves = c .file ∙ sym (write-done F E G coords before (sym q) refl r refl .file);
+          leaves = c .file ∙ ap (λ (k : Checked). ifWritten k (λ r. before) (inFront (fileOf F E G coords) before)) q;
         }

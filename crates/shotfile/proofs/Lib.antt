@@ -9,4 +9,6 @@ pub mod WriteBack
 pub mod Shortest
 pub mod Tight
 pub mod Accepted
+pub mod Faults
+pub mod Conditions
 pub mod RoundTrip

@@ -1,21 +1,26 @@
 -- The records of a list's shots, one by one: how long they are and how they are written. Assumes nothing.
 use mathlib.Core.Path.{_≡_, refl, sym, ap, _∙_}
+use mathlib.Core.Bool.{Bool, true, false, cond}
 use mathlib.Core.List.{List, [], _∷_, _++_}
+use mathlib.Core.Logic.{_↔_}
 use Prim.Native.Nat.{ℕ, _+_, _*_, _≤_, _<_}
 use native.Mathlib.Omega.{arith}
+use lib.Dec.{ltb}
 use lib.ListN.{length, drop, length-append}
-use borrow.Author.Tests.{lt-ltb, le-ltb}
+use borrow.Author.Tests.{lt-ltb, le-ltb, ltb-false}
 use Rattle.lattice.specs.Shots.{Shot}
 use Rattle.job.specs.declared.Refusal.{Refusal}
 use Rattle.job.specs.declared.Refusal.the-variants.{ShortFile}
+use Rattle.job.specs.declared.Checked.{Checked}
 use Rattle.job.specs.declared.Checked.the-variants.{Accepted, Refused as Turned}
-use Rattle.job.specs.Job.{shotsOf, shotCount, placeOf}
-use Rattle.job.specs.Checking.{checked}
+use Rattle.job.specs.Job.{shotsOf, shotCount, placeOf, Valid}
+use Rattle.job.specs.Checking.{firstOf, tests, checked}
+use Rattle.job.proofs.Places.{apart, first-passed, first-stopped}
 use Rattle.job.proofs.Shots.{shots-count, shots-from, shots-end}
 use Rattle.job.proofs.Conditions.{accepted-valid}
 use Rattle.shotfile_records.specs.declared.Fields.{Fields}
 use Rattle.shotfile.specs.declared.writer.WriteAnswer.the-variants.{Written, Refused as Unwritten}
-use Rattle.shotfile.specs.Calls.{inFront, writtenNumbers, writeAnswer, writeValues, writeBytes, WriteCall}
+use Rattle.shotfile.specs.Calls.{inFront, longFile, writeTests, writtenNumbers, writeAnswer, writeValues, writeBytes, WriteCall}
 use Rattle.shotfile_records.specs.Records.{headerAbsent, firstAbsent, recordOf}
 use Rattle.shotfile.specs.Files.{settingFields, shotFields, coordsAt, shotRecords, fileOf}
 use Rattle.buffer.specs.Wrote.{Wrote}
@@ -90,27 +95,53 @@ module _ {E : ℕ} {coords : List ℕ} {last : Fields} {i total whole : ℕ} (m 
   measured-all h = omega (arith, m .is, ap length (records-end E coords i last h))
 
 -- ---- what `write` answers and leaves
-pub few-shots : (F E G : ℕ) (coords : List ℕ) → Accepted ≡ checked F E G coords → shotCount coords ≤ 4096
-few-shots F E G coords a = accepted-valid F E G coords .0 (sym a) .few
+module _ (F E G : ℕ) (coords : List ℕ) where
+  pub few-shots : Accepted ≡ checked F E G coords → shotCount coords ≤ 4096
+  few-shots a = accepted-valid F E G coords .0 (sym a) .few
 
+  module _ (room : ℕ) where
+    tests-stopped : {r : Refusal} → Turned r ≡ checked F E G coords → Turned r ≡ firstOf (writeTests F E G coords room)
+    unfolding writeTests
+    tests-stopped h = sym (first-stopped (longFile F E G coords room ∷ []) (tests F E G coords) (sym h))
+
+    own-test : checked F E G coords ≡ Accepted → (b : Bool) → ltb room (length (fileOf F E G coords)) ≡ b
+        → firstOf (writeTests F E G coords room) ≡ cond b (Turned (ShortFile (length (fileOf F E G coords)))) Accepted
+    unfolding writeTests firstOf
+    own-test a b l = first-passed (longFile F E G coords room ∷ []) (tests F E G coords) a ∙ ap (λ (b : Bool). cond b (Turned (ShortFile (length (fileOf F E G coords)))) Accepted) l
+
+    tests-short : Accepted ≡ checked F E G coords → {n : ℕ} → n ≡ length (fileOf F E G coords) → room < n → Turned (ShortFile n) ≡ firstOf (writeTests F E G coords room)
+    tests-short a e l = ap (λ (n : ℕ). Turned (ShortFile n)) e ∙ sym (own-test (sym a) true (lt-ltb room _ (omega arith)))
+
+    -- the list is accepted if and only if it is valid and the file fits
+    pub tests-accepted : (firstOf (writeTests F E G coords room) ≡ Accepted) ↔ (Valid F E G coords × (length (fileOf F E G coords) ≤ room))
+    tests-accepted = (go (checked F E G coords) refl, λ h. own-test (accepted-valid F E G coords .1 (h .0)) false (le-ltb room (length (fileOf F E G coords)) (h .1)))
+      where
+        go : (k : Checked) → checked F E G coords ≡ k → firstOf (writeTests F E G coords room) ≡ Accepted → Valid F E G coords × (length (fileOf F E G coords) ≤ room)
+        go (Turned r) q e = apart (tests-stopped (sym q) ∙ e)
+        go Accepted q e = (accepted-valid F E G coords .0 q, fits (ltb room (length (fileOf F E G coords))) refl)
+          where
+            fits : (b : Bool) → ltb room (length (fileOf F E G coords)) ≡ b → length (fileOf F E G coords) ≤ room
+            fits true l = apart (sym (own-test q true l) ∙ e)
+            fits false l = ltb-false room (length (fileOf F E G coords)) l
+
+-- by what the tests say
 module _ (F E G : ℕ) (coords before : List ℕ) where
-  pub write-refused : {r : Refusal} → Turned r ≡ checked F E G coords → WriteCall F E G coords before (Unwritten r) before
+  says-refused : {r : Refusal} → Turned r ≡ firstOf (writeTests F E G coords (length before)) → WriteCall F E G coords before (Unwritten r) before
   unfolding writeAnswer writtenNumbers writeValues writeBytes
-  write-refused h = record { answer = simp (sym h); numbers = simp (sym h); file = simp (sym h) }
+  says-refused h = record { answer = simp (sym h); numbers = simp (sym h); file = simp (sym h) }
 
-  module _ (a : Accepted ≡ checked F E G coords) {n : ℕ} (e : n ≡ length (fileOf F E G coords)) where
-    pub write-short : length before < n → WriteCall F E G coords before (Unwritten (ShortFile n)) before
-    unfolding writeAnswer writtenNumbers writeValues writeBytes
-    write-short l = record {
-      answer = simp (← a, ← e, lt-ltb (length before) n l);
-      numbers = simp (← a, ← e, lt-ltb (length before) n l);
-      file = simp (← a, ← e, lt-ltb (length before) n l);
-    }
+  pub write-refused : {r : Refusal} → Turned r ≡ checked F E G coords → WriteCall F E G coords before (Unwritten r) before
+  write-refused h = says-refused (tests-stopped F E G coords (length before) h)
 
-    pub write-done : n ≤ length before → {after : List ℕ} → after ≡ inFront (fileOf F E G coords) before → WriteCall F E G coords before (Written n) after
-    unfolding writeAnswer writtenNumbers writeValues writeBytes
-    write-done l w = record {
-      answer = simp (← a, ← e, le-ltb (length before) n l);
-      numbers = simp (← a, ← e, le-ltb (length before) n l);
-      file = simp (← a, ← e, le-ltb (length before) n l) (w ∙ rw (← e));
-    }
+  pub write-short : Accepted ≡ checked F E G coords → {n : ℕ} → n ≡ length (fileOf F E G coords) → length before < n → WriteCall F E G coords before (Unwritten (ShortFile n)) before
+  write-short a e l = says-refused (tests-short F E G coords (length before) a e l)
+
+  says-written : Accepted ≡ firstOf (writeTests F E G coords (length before)) → WriteCall F E G coords before (Written (length (fileOf F E G coords))) (inFront (fileOf F E G coords) before)
+  unfolding writeAnswer writtenNumbers writeValues writeBytes
+  says-written h = record { answer = simp (sym h); numbers = simp (sym h); file = simp (sym h) }
+
+  pub write-done : Accepted ≡ checked F E G coords → {n : ℕ} → n ≡ length (fileOf F E G coords) → n ≤ length before → {after : List ℕ} → after ≡ inFront (fileOf F E G coords) before
+      → WriteCall F E G coords before (Written n) after
+  write-done a e l w =
+      rw (e, w)
+      (says-written (sym (tests-accepted F E G coords (length before) .1 (accepted-valid F E G coords .0 (sym a), omega (arith, e)))))

@@ -10,7 +10,7 @@ use Rattle.job.specs.declared.Checked.the-variants.{Accepted, Refused as Turned
 use Rattle.job.specs.declared.Refusal.{Refusal}
 use Rattle.job.specs.Job.{shotCount}
 use Rattle.job.specs.Refusals.{numberOf, detailOf}
-use Rattle.job.specs.Checking.{checked, andThen}
+use Rattle.job.specs.Checking.{Test, firstOf, tests}
 use Rattle.shotfile.specs.declared.writer.WriteAnswer.{WriteAnswer}
 use Rattle.shotfile.specs.declared.writer.WriteAnswer.the-variants.{Written, Refused as Unwritten}
 use Rattle.shotfile.specs.declared.reader.Counted.{Counted}
@@ -57,11 +57,13 @@ pub record ReadCall (bytes before : List ℕ) (r : ReadAnswer) (after : List ℕ
   pub coordinates : after ≡ readCoords (fileIn (shotCount before) bytes) before
 
 -- ---- writing
--- the checks of a list, and then whether the file is longer than the byte buffer
-abbrev pub writeChecked : ℕ → ℕ → ℕ → List ℕ → ℕ → Checked
-writeChecked F E G coords room =
-    andThen (checked F E G coords)
-    (record { holds = ltb room (length (fileOf F E G coords)); gives = ShortFile (length (fileOf F E G coords)) })
+-- the file of a list is longer than the byte buffer
+abbrev pub longFile : ℕ → ℕ → ℕ → List ℕ → ℕ → Test
+longFile F E G coords room = record { holds = ltb room (length (fileOf F E G coords)); gives = ShortFile (length (fileOf F E G coords)) }
+
+-- the tests of a list, and then that of its file
+unfoldable pub writeTests : ℕ → ℕ → ℕ → List ℕ → ℕ → List Test
+writeTests F E G coords room = tests F E G coords ++ longFile F E G coords room ∷ []
 
 -- what is said of a refusal, or of an accepted list
 abbrev pub ifWritten : {A : Type 0} → Checked → (Refusal → A) → A → A
@@ -70,21 +72,21 @@ ifWritten (Turned r) none done = none r
 
 -- the file's length, or the refusal
 unfoldable pub writeAnswer : ℕ → ℕ → ℕ → List ℕ → ℕ → WriteAnswer
-writeAnswer F E G coords room = ifWritten (writeChecked F E G coords room) Unwritten (Written (length (fileOf F E G coords)))
+writeAnswer F E G coords room = ifWritten (firstOf (writeTests F E G coords room)) Unwritten (Written (length (fileOf F E G coords)))
 
 -- the numbers of an answer: the refusal's number and detail, 0 and 0 where there is none, then the file's length, 0 if refused
 unfoldable pub writtenNumbers : WriteAnswer → List ℕ
 writtenNumbers (Written n) = 0 ∷ 0 ∷ n ∷ []
 writtenNumbers (Unwritten r) = numberOf r ∷ detailOf r ∷ 0 ∷ []
 
--- the same numbers, from what the checks say
+-- the same numbers, from what the tests say
 unfoldable pub writeValues : ℕ → ℕ → ℕ → List ℕ → ℕ → List ℕ
 writeValues F E G coords room =
-    ifWritten (writeChecked F E G coords room) (λ r. numberOf r ∷ detailOf r ∷ 0 ∷ []) (0 ∷ 0 ∷ length (fileOf F E G coords) ∷ [])
+    ifWritten (firstOf (writeTests F E G coords room)) (λ r. numberOf r ∷ detailOf r ∷ 0 ∷ []) (0 ∷ 0 ∷ length (fileOf F E G coords) ∷ [])
 
 -- the first places are the file, and the others keep their values, as all do after a refusal
 unfoldable pub writeBytes : ℕ → ℕ → ℕ → List ℕ → List ℕ → List ℕ
-writeBytes F E G coords before = ifWritten (writeChecked F E G coords (length before)) (λ r. before) (inFront (fileOf F E G coords) before)
+writeBytes F E G coords before = ifWritten (firstOf (writeTests F E G coords (length before))) (λ r. before) (inFront (fileOf F E G coords) before)
 
 -- what `write` promises of its answer r and of the byte buffer after it
 pub record WriteCall (F E G : ℕ) (coords before : List ℕ) (r : WriteAnswer) (after : List ℕ) : Type 0 where

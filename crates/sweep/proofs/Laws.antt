@@ -12,16 +12,19 @@ use lib.ListN.{length, getD, take}
 use borrow.Author.Tests.{eqb-true, eqb-false}
 use Rattle.lattice.specs.Cells.{Within}
 use Rattle.lattice.specs.Shots.{Shot, any, cells, InField}
-use Rattle.lattice.specs.Listing.{join, here, corners}
+use Rattle.lattice.specs.Sums.{join}
+use Rattle.lattice.specs.Listing.{here, corners}
 use Rattle.lattice.specs.Pattern.{corner}
-use Rattle.lattice.specs.CornerSums.{Room, sumsOf}
-use Rattle.lattice.specs.declared.sums.CornerSums.{CornerSums}
-use Rattle.lattice.proofs.CornerSumLaws.{room-more}
+use Rattle.lattice_sums.specs.CornerSums.{Room, sumsOf}
+use Rattle.lattice_sums.specs.declared.sums.CornerSums.{CornerSums}
+use Rattle.lattice_sums.proofs.CornerSumLaws.{room-more}
 use Rattle.lattice.proofs.Inside.{empty, outside}
-use Rattle.lattice.proofs.PatternLaws.{x-axis, still-no-corner}
-use Rattle.lattice.proofs.ShotLaws.{and-elim, or-elim, NoFace, no-face-no-corner}
+use Rattle.lattice.specs.Axes.{x-axis, NoFace}
+use Rattle.lattice.proofs.PatternLaws.{still-no-corner}
+use Rattle.lattice.proofs.ShotLaws.{and-elim, or-elim, no-face-no-corner}
 use Rattle.lattice.proofs.Cases.{bool-ext}
-use Rattle.lattice.proofs.SameSolid.{join-nil, join-end, here-none}
+use Rattle.lattice.proofs.JoinLaws.{join-nil, join-end}
+use Rattle.lattice.proofs.SameSolid.{here-none}
 use Rattle.job.specs.Job.{Valid, shotsOf, shotAt}
 use Rattle.job.proofs.Tests.{or-left, or-right}
 use Rattle.job.proofs.Shots.{stay-at, any-at, at-any}

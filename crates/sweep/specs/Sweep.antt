@@ -6,8 +6,9 @@ use mathlib.Core.List.{List}
 use Prim.Native.Nat.{ℕ, _+_, _*_, _/_, _<_, _≤_}
 use lib.ListN.{length, getD}
 use Rattle.lattice.specs.Shots.{Shot}
-use Rattle.lattice.specs.Listing.{Corner, join}
-use Rattle.lattice.specs.CornerSums.{Room}
+use Rattle.lattice.specs.Sums.{join}
+use Rattle.lattice.specs.Listing.{Corner}
+use Rattle.lattice_sums.specs.CornerSums.{Room}
 use Rattle.job.specs.Job.{shotAt}
 use Rattle.sweep_rows.specs.Runs.{InList}
 use Rattle.sweep_tally.specs.Found.{Found, found}

@@ -6,8 +6,8 @@ ghost use Prim.Native.Nat.{_+_, _*_, _/_, _<_, _≤_};
 ghost use lib.ListN.{length};
 ghost use Rattle.lattice.specs.Shots.{cells};
 ghost use Rattle.lattice.specs.Listing.{corners};
-ghost use Rattle.lattice.specs.CornerSums.{Room, sumsOf};
-ghost use Rattle.lattice.proofs.PatternLaws.{x-axis};
+ghost use Rattle.lattice_sums.specs.CornerSums.{Room, sumsOf};
+ghost use Rattle.lattice.specs.Axes.{x-axis};
 ghost use Rattle.job.specs.Job.{Valid, shotsOf, shotAt};
 ghost use Rattle.grid.specs.Grid.{Holds};
 ghost use Rattle.sweep_rows.specs.Runs.{InList, InRun, shotsIn};
@@ -16,7 +16,7 @@ ghost use Rattle.sweep_tally.specs.Found.{state, found};
 ghost use Rattle.sweep_plane.specs.Plane.{PlaneOut};
 ghost use Rattle.sweep.specs.Sweep.{AllIn, MarkedList, BlankIf, Agree, Swept, InSlab};
 ghost use mathlib.Core.List.{[]};
-use lattice::sums::CornerSums;
+use lattice_sums::sums::CornerSums;
 
 fn wide(x: u16) -> usize
     ensures { λ r. ⌜ r ≡ x ⌝ }

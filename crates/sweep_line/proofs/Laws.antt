@@ -10,10 +10,11 @@ use native.Mathlib.Nat.{le-refl}
 use lib.ListN.{getD}
 use borrow.Author.Tests.{eq-eqb, ne-eqb, le-leb, lt-leb}
 use Rattle.lattice.specs.Shots.{Shot}
-use Rattle.lattice.specs.Listing.{Corner, join}
-use Rattle.lattice.specs.CornerSums.{Room}
-use Rattle.lattice.specs.declared.sums.CornerSums.{CornerSums}
-use Rattle.lattice.proofs.CornerSumLaws.{room-more}
+use Rattle.lattice.specs.Sums.{join}
+use Rattle.lattice.specs.Listing.{Corner}
+use Rattle.lattice_sums.specs.CornerSums.{Room}
+use Rattle.lattice_sums.specs.declared.sums.CornerSums.{CornerSums}
+use Rattle.lattice_sums.proofs.CornerSumLaws.{room-more}
 use Rattle.sweep_rows.specs.Runs.{shotsIn}
 use Rattle.sweep_rows.specs.Rows.{Ends}
 use Rattle.sweep_chains.specs.Chains.{Started}
@@ -69,7 +70,7 @@ module _ (lo x y : ℕ) (four : List ℕ) (f : Found) where
 
 -- ---- room
 pub room-own : (t : CornerSums) (n k : ℕ) → Room t n → Room t (t .corners + k)
-room-own t n k r = record { volume-in = r .volume-in; area-in = r .area-in; edge-in = r .edge-in; few = omega arith }
+room-own t n k r = record { sum-in = r .sum-in; few = omega arith }
 
 pub room-point : (t : CornerSums) (b : List ℕ) {t' : CornerSums} {b' : List ℕ} (x y z p n m : ℕ) → x ≤ 1024 → y ≤ 1024 → z ≤ 1024
     → state t' b' ≡ found (state t b) (spot x y z p) → n + 1 ≤ m → Room t n → Room t' m

@@ -12,10 +12,13 @@ use borrow.Author.Tests.{leb-true, leb-false}
 use Rattle.lattice.specs.Cells.{up}
 use Rattle.lattice.specs.Pattern.{around}
 use Rattle.lattice.specs.Shots.{Shot, any, cells}
-use Rattle.lattice.specs.Listing.{Corner, join, here}
-use Rattle.lattice.proofs.PatternLaws.{still-no-corner, x-axis}
+use Rattle.lattice.specs.Sums.{join}
+use Rattle.lattice.specs.Listing.{Corner, here}
+use Rattle.lattice.specs.Axes.{x-axis}
+use Rattle.lattice.proofs.PatternLaws.{still-no-corner}
 use Rattle.lattice.proofs.ShotLaws.{and-elim, holds, below-cells, holds-still}
-use Rattle.lattice.proofs.SameSolid.{join-nil, join-end, here-none}
+use Rattle.lattice.proofs.JoinLaws.{join-nil, join-end}
+use Rattle.lattice.proofs.SameSolid.{here-none}
 use Rattle.sweep_rows.specs.Rows.{Ends}
 use Rattle.sweep_fours.specs.Fours.{lowOf, fourOf, Filled}
 use Rattle.sweep_line.specs.Line.{turn, since, lineFrom}

@@ -12,7 +12,8 @@ use Rattle.lattice.specs.Cells.{Cells, below, up, bit}
 use Rattle.lattice.specs.Pattern.{Pattern, around, byte, ofByte, corner, someNonzero, w, ax, ay, az, ex, ey, ez}
 use Rattle.lattice.specs.Shots.{Shot, cells}
 use Rattle.lattice.specs.Listing.{Corner, here}
-use Rattle.lattice.proofs.PatternLaws.{ofByte-byte, still-no-corner, z-axis}
+use Rattle.lattice.specs.Axes.{z-axis}
+use Rattle.lattice.proofs.PatternLaws.{ofByte-byte, still-no-corner}
 use Rattle.sweep_rows.specs.Rows.{past, Ends}
 use Rattle.sweep_rows.proofs.EndsLaws.{ends-cell}
 use Rattle.sweep_fours.specs.Fours.{lowOf, fourOf, Filled}

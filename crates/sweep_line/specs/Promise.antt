@@ -4,9 +4,10 @@ use mathlib.Core.List.{List}
 use Prim.Native.Nat.{ℕ, _+_, _≤_}
 use lib.ListN.{length}
 use Rattle.lattice.specs.Shots.{Shot, cells}
-use Rattle.lattice.specs.Listing.{join, here}
-use Rattle.lattice.specs.CornerSums.{Room}
-use Rattle.lattice.specs.declared.sums.CornerSums.{CornerSums}
+use Rattle.lattice.specs.Sums.{join}
+use Rattle.lattice.specs.Listing.{here}
+use Rattle.lattice_sums.specs.CornerSums.{Room}
+use Rattle.lattice_sums.specs.declared.sums.CornerSums.{CornerSums}
 use Rattle.sweep_rows.specs.Runs.{InRun, shotsIn}
 use Rattle.sweep_rows.specs.Rows.{Ends}
 use Rattle.sweep_chains.specs.Chains.{begins, Chained}

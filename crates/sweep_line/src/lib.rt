@@ -4,14 +4,14 @@
 ghost use mathlib.Core.Path.{_≡_};
 ghost use Prim.Native.Nat.{_+_, _*_, _≤_};
 ghost use lib.ListN.{length};
-ghost use Rattle.lattice.specs.Listing.{join};
-ghost use Rattle.lattice.specs.CornerSums.{Room};
+ghost use Rattle.lattice.specs.Sums.{join};
+ghost use Rattle.lattice_sums.specs.CornerSums.{Room};
 ghost use Rattle.sweep_rows.specs.Runs.{shotsIn};
 ghost use Rattle.sweep_fours.specs.Fours.{Bounded};
 ghost use Rattle.sweep_tally.specs.Found.{state, found};
 ghost use Rattle.sweep_line.specs.Line.{lineFrom};
 ghost use Rattle.sweep_line.specs.Promise.{LineIn, LineOut};
-use lattice::sums::CornerSums;
+use lattice_sums::sums::CornerSums;
 
 // The pattern of a point, from the four cells at the place below it and the four at the place above it.
 fn between(a: u8, b: u8) -> u8

@@ -10,8 +10,7 @@ use lib.ListN.{length, getD, set, length-set}
 use lib.Seq.{getD-set-same, getD-set-other}
 use borrow.Author.Tests.{eqb-true, eqb-false}
 use Rattle.lattice.specs.Shots.{Shot}
-use Rattle.lattice.proofs.PatternLaws.{Axis}
-use Rattle.lattice.proofs.ShotLaws.{start}
+use Rattle.lattice.specs.Axes.{Axis, start}
 use Rattle.sweep_marks.specs.Marks.{MarkedMore, Marked}
 
 set-zero : (l : List ℕ) (i p : ℕ) → i < length l → getD (set l i 1) p 0 ≡ 0 → (getD l p 0 ≡ 0) × (i ≢ p)

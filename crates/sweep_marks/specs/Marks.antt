@@ -5,8 +5,7 @@ use mathlib.Core.List.{List}
 use Prim.Native.Nat.{ℕ, _+_}
 use lib.ListN.{getD}
 use Rattle.lattice.specs.Shots.{Shot}
-use Rattle.lattice.proofs.PatternLaws.{Axis}
-use Rattle.lattice.proofs.ShotLaws.{NoFace}
+use Rattle.lattice.specs.Axes.{Axis, NoFace}
 
 -- row' is row with marks at a and a + e
 pub record MarkedMore (a e : ℕ) (row row' : List ℕ) : Type 0 where

@@ -13,13 +13,15 @@ use Rattle.job.specs.Job.{shotAt}
 use Rattle.lattice.specs.Cells.{Cells, below, up}
 use Rattle.lattice.specs.Pattern.{Pattern, around, byte, corner}
 use Rattle.lattice.specs.Shots.{Shot, any, cells}
-use Rattle.lattice.specs.Listing.{Corner, join, here}
-use Rattle.lattice.specs.CornerSums.{Room}
-use Rattle.lattice.specs.declared.sums.CornerSums.{CornerSums}
-use Rattle.lattice.proofs.CornerSumLaws.{room-more}
-use Rattle.lattice.proofs.PatternLaws.{y-axis}
-use Rattle.lattice.proofs.ShotLaws.{and-elim, holds, below-cells, NoFace, no-face-no-corner}
-use Rattle.lattice.proofs.SameSolid.{join-nil, here-none}
+use Rattle.lattice.specs.Sums.{join}
+use Rattle.lattice.specs.Listing.{Corner, here}
+use Rattle.lattice_sums.specs.CornerSums.{Room}
+use Rattle.lattice_sums.specs.declared.sums.CornerSums.{CornerSums}
+use Rattle.lattice_sums.proofs.CornerSumLaws.{room-more}
+use Rattle.lattice.specs.Axes.{y-axis, NoFace}
+use Rattle.lattice.proofs.ShotLaws.{and-elim, holds, below-cells, no-face-no-corner}
+use Rattle.lattice.proofs.JoinLaws.{join-nil}
+use Rattle.lattice.proofs.SameSolid.{here-none}
 use Rattle.sweep_rows.specs.Runs.{InRun, InList, runTo, shotsIn}
 use Rattle.sweep_rows.specs.Rows.{Ends}
 use Rattle.sweep_rows.proofs.EndsLaws.{ends-none}

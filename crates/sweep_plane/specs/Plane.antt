@@ -4,10 +4,10 @@ use mathlib.Core.List.{List}
 use Prim.Native.Nat.{ℕ, suc, _+_, _-_}
 use lib.ListN.{getD}
 use Rattle.lattice.specs.Shots.{Shot, cells}
-use Rattle.lattice.specs.Listing.{Corner, join, here}
-use Rattle.lattice.specs.CornerSums.{Room}
-use Rattle.lattice.proofs.PatternLaws.{y-axis}
-use Rattle.lattice.proofs.ShotLaws.{NoFace}
+use Rattle.lattice.specs.Sums.{join}
+use Rattle.lattice.specs.Listing.{Corner, here}
+use Rattle.lattice_sums.specs.CornerSums.{Room}
+use Rattle.lattice.specs.Axes.{y-axis, NoFace}
 use Rattle.sweep_rows.specs.Runs.{InRun, shotsIn}
 use Rattle.sweep_tally.specs.Found.{Found, found}
 use Rattle.sweep_windows.specs.Windows.{Framed, FramedAt, Rows}

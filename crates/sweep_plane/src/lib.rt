@@ -5,14 +5,14 @@ ghost use mathlib.Core.Path.{_≡_};
 ghost use Prim.Native.Nat.{_+_, _≤_};
 ghost use lib.ListN.{length};
 ghost use Rattle.job.specs.Job.{shotAt};
-ghost use Rattle.lattice.specs.CornerSums.{Room};
-ghost use Rattle.lattice.proofs.PatternLaws.{y-axis};
+ghost use Rattle.lattice_sums.specs.CornerSums.{Room};
+ghost use Rattle.lattice.specs.Axes.{y-axis};
 ghost use Rattle.sweep_rows.specs.Runs.{InList, InRun, shotsIn};
 ghost use Rattle.sweep_marks.specs.Marks.{MarkedMore, Marked};
 ghost use Rattle.sweep_tally.specs.Found.{state};
 ghost use Rattle.sweep_line.specs.Promise.{Prepared, LineIn, LineOut};
 ghost use Rattle.sweep_plane.specs.Plane.{UnlessMarked, Faces, PlaneOut, WindowsAt};
-use lattice::sums::CornerSums;
+use lattice_sums::sums::CornerSums;
 
 fn wide(x: u16) -> usize
     ensures { λ r. ⌜ r ≡ x ⌝ }

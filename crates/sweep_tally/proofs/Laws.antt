@@ -1,5 +1,5 @@
 -- One corner more: in the buffer, in the sums, and in what is found.
-use mathlib.Core.Path.{_≡_, refl, sym, ap, _∙_, subst}
+use mathlib.Core.Path.{_≡_, refl, _∙_}
 use mathlib.Core.Bool.{Bool, true, false, cond}
 use mathlib.Core.List.{List, [], _∷_, _++_, append-assoc}
 use Prim.Native.Nat.{ℕ, suc, _+_, _*_, _/_, _%_, _≤_, _<_}
@@ -8,10 +8,10 @@ use lib.ListN.{length, take, drop, set}
 use lib.Seq.{sets-eq}
 use borrow.Author.Tests.{lt-ltb, le-ltb}
 use Rattle.lattice.specs.Pattern.{ofByte, corner}
-use Rattle.lattice.specs.Listing.{Corner, recordOf}
-use Rattle.lattice.specs.CornerSums.{added, Room}
-use Rattle.lattice.specs.declared.sums.CornerSums.{CornerSums}
-use Rattle.lattice.proofs.CornerSumLaws.{added-room, room-more}
+use Rattle.lattice.specs.Listing.{Corner, cornerRecord}
+use Rattle.lattice_sums.specs.CornerSums.{added, Room}
+use Rattle.lattice_sums.specs.declared.sums.CornerSums.{CornerSums}
+use Rattle.lattice_sums.proofs.CornerSumLaws.{added-room, room-more}
 use Rattle.sweep_tally.specs.Found.{at, spot, stored, Found, state, meet, found}
 
 -- ---- the buffer
@@ -31,8 +31,8 @@ seven l i a b c d e f g h =
 
 pub record-stored : (l : List ℕ) (i x y z p : ℕ) → i + 7 ≤ length l
     → set (set (set (set (set (set (set l i (x % 256)) (i + 1) (x / 256)) (i + 2) (y % 256)) (i + 3) (y / 256)) (i + 4) (z % 256)) (i + 5) (z / 256)) (i + 6) p
-    ≡ take i l ++ (recordOf (at x y z p) ++ drop (i + 7) l)
-unfolding recordOf
+    ≡ take i l ++ (cornerRecord (at x y z p) ++ drop (i + 7) l)
+unfolding cornerRecord
 record-stored l i x y z p h = seven l i (x % 256) (x / 256) (y % 256) (y / 256) (z % 256) (z / 256) p h
 
 pub stored-none : (b : List ℕ) (n : ℕ) (r : List ℕ) → length b / 7 ≤ n → b ≡ stored b n r
@@ -49,7 +49,7 @@ module _ (t : CornerSums) (b : List ℕ) (x y z p : ℕ) where
   unfolding spot found
   point-none e = rw e
 
-  pub point-corner : corner (ofByte p) ≡ true → {t' : CornerSums} {b' : List ℕ} → t' ≡ added t (at x y z p) → b' ≡ stored b (t .corners) (recordOf (at x y z p))
+  pub point-corner : corner (ofByte p) ≡ true → {t' : CornerSums} {b' : List ℕ} → t' ≡ added t (at x y z p) → b' ≡ stored b (t .corners) (cornerRecord (at x y z p))
       → state t' b' ≡ found (state t b) (spot x y z p)
   unfolding spot found meet
   point-corner e h h' = rw (e, h, h')

@@ -1,24 +1,24 @@
 -- What is found at the end: the sums of all corners met, and, where the buffer has room for them all, their records and then what was there.
 use mathlib.Core.Path.{_≡_, refl, sym, _∙_, ap, ap₂}
 use mathlib.Core.List.{List, [], _∷_, _++_, append-nil, append-assoc}
-use Prim.Native.Nat.{ℕ, suc, _+_, _*_, _/_, _<_, _≤_}
+use Prim.Native.Nat.{ℕ, suc, _+_, _*_, _/_, _≤_}
 use native.Mathlib.Nat.{add-zero, zero-add}
 use native.Mathlib.Omega.{arith}
 use lib.ListN.{length, take, drop, length-append, length-drop}
 use lib.Seq.{take-at, drop-append-add, drop-drop}
 use borrow.Author.Tests.{lt-ltb}
-use Rattle.lattice.specs.Listing.{Corner, recordOf, bytes}
-use Rattle.lattice.specs.CornerSums.{sumsOf, added}
-use Rattle.lattice.specs.declared.sums.CornerSums.{CornerSums}
-use Rattle.lattice.proofs.CornerSumLaws.{sums-more}
-use Rattle.sweep_tally.specs.Found.{stored, Found, state, meet, found}
+use Rattle.lattice.specs.Listing.{Corner, cornerRecord, bytes}
+use Rattle.lattice_sums.specs.CornerSums.{sumsOf, added}
+use Rattle.lattice_sums.specs.declared.sums.CornerSums.{CornerSums}
+use Rattle.lattice_sums.proofs.CornerSumLaws.{sums-more}
+use Rattle.sweep_tally.specs.Found.{stored, state, meet, found}
 
 -- ---- the sums
 found-more : (ms vs : List Corner) (b : List ℕ) → found (state (sumsOf ms) b) vs .sums ≡ sumsOf (ms ++ vs)
 unfolding found meet
 found-more ms [] b = ap sumsOf (sym (append-nil ms))
 found-more ms (v ∷ vs) b =
-    let b' : List ℕ = stored b (sumsOf ms .corners) (recordOf v) in
+    let b' : List ℕ = stored b (sumsOf ms .corners) (cornerRecord v) in
     ap (λ (t : CornerSums). found (state t b') vs .sums) (sums-more ms v)
     ∙ found-more (ms ++ (v ∷ [])) vs b' ∙ ap sumsOf (append-assoc ms (v ∷ []) vs)
 
@@ -42,10 +42,10 @@ stored-next d b r k h l m =
 
 bytes-more : (vs : List Corner) (t : CornerSums) (d b : List ℕ) → length d ≡ 7 * t .corners → 7 * (t .corners + length vs) ≤ length b
     → found (state t (d ++ drop (7 * t .corners) b)) vs .bytes ≡ (d ++ bytes vs) ++ drop (7 * (t .corners + length vs)) b
-unfolding found meet added bytes recordOf
+unfolding found meet added bytes cornerRecord
 bytes-more [] t d b h m = rw (append-nil, add-zero)
 bytes-more (v ∷ vs) t d b h m =
-    let r : List ℕ = recordOf v in
+    let r : List ℕ = cornerRecord v in
     let n : 7 * (t .corners + 1 + length vs) ≡ 7 * (t .corners + suc (length vs)) = omega arith in
     ap (λ c. found (state (added t v) c) vs .bytes) (stored-next d b r (t .corners) h refl (omega arith))
     ∙ bytes-more vs (added t v) (d ++ r) b (omega (arith, length-append d r)) (omega arith)

@@ -5,9 +5,9 @@ use Prim.Native.Nat.{ℕ, _+_, _*_, _/_}
 use lib.Dec.{ltb}
 use lib.ListN.{length, take, drop}
 use Rattle.lattice.specs.Pattern.{ofByte, corner}
-use Rattle.lattice.specs.Listing.{Corner, recordOf}
-use Rattle.lattice.specs.CornerSums.{added}
-use Rattle.lattice.specs.declared.sums.CornerSums.{CornerSums}
+use Rattle.lattice.specs.Listing.{Corner, cornerRecord}
+use Rattle.lattice_sums.specs.CornerSums.{added}
+use Rattle.lattice_sums.specs.declared.sums.CornerSums.{CornerSums}
 
 abbrev pub at : ℕ → ℕ → ℕ → ℕ → Corner
 at x y z p = record { x = x; y = y; z = z; pattern = p }
@@ -29,7 +29,7 @@ state t b = record { sums = t; bytes = b }
 
 -- one corner more
 unfoldable pub meet : Found → Corner → Found
-meet f v = state (added (f .sums) v) (stored (f .bytes) (f .sums .corners) (recordOf v))
+meet f v = state (added (f .sums) v) (stored (f .bytes) (f .sums .corners) (cornerRecord v))
 
 -- corner after corner
 unfoldable pub found : Found → List Corner → Found

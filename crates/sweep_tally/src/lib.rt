@@ -3,16 +3,16 @@ ghost use mathlib.Core.Path.{_≡_};
 ghost use mathlib.Core.List.{_++_};
 ghost use Prim.Native.Nat.{_+_, _≤_};
 ghost use lib.ListN.{length, take, drop};
-ghost use Rattle.lattice.specs.Listing.{recordOf};
-ghost use Rattle.lattice.specs.CornerSums.{Room};
+ghost use Rattle.lattice.specs.Listing.{cornerRecord};
+ghost use Rattle.lattice_sums.specs.CornerSums.{RoomFor};
 ghost use Rattle.sweep_tally.specs.Found.{at, spot, stored, state, found};
-use lattice::edges::is_corner;
-use lattice::sums::CornerSums;
+use lattice_sums::edges::is_corner;
+use lattice_sums::sums::CornerSums;
 
 // Writes a record at a place of the buffer.
 fn put_record(buf: &mut [u8], start: usize, x: u16, y: u16, z: u16, p: u8)
     requires { ⌜ start + 7 ≤ length (now buf) ⌝ }
-    ensures { λ _. ⌜ now (buf .exit) ≡ take start (now (buf .entry)) ++ (recordOf (at x y z p) ++ drop (start + 7) (now (buf .entry))) ⌝ }
+    ensures { λ _. ⌜ now (buf .exit) ≡ take start (now (buf .entry)) ++ (cornerRecord (at x y z p) ++ drop (start + 7) (now (buf .entry))) ⌝ }
 {
     buf[start] = (x % 256) as u8;
     buf[start + 1] = (x / 256) as u8;
@@ -25,7 +25,7 @@ fn put_record(buf: &mut [u8], start: usize, x: u16, y: u16, z: u16, p: u8)
 
 // Writes record n, if the buffer has room for it.
 fn put(buf: &mut [u8], n: usize, x: u16, y: u16, z: u16, p: u8)
-    ensures { λ _. ⌜ now (buf .exit) ≡ stored (now (buf .entry)) n (recordOf (at x y z p)) ⌝ }
+    ensures { λ _. ⌜ now (buf .exit) ≡ stored (now (buf .entry)) n (cornerRecord (at x y z p)) ⌝ }
 {
     if buf.len() / 7 <= n {
         return;
@@ -35,7 +35,7 @@ fn put(buf: &mut [u8], n: usize, x: u16, y: u16, z: u16, p: u8)
 
 // One point more, of pattern p: a corner is added to the sums, and its record stored where there is room.
 pub fn point(t: CornerSums, buf: &mut [u8], x: u16, y: u16, z: u16, p: u8) -> CornerSums
-    requires { ⌜ (x ≤ 1024) × (y ≤ 1024) × (z ≤ 1024) × Room t 1076890624 ⌝ }
+    requires { ⌜ (x ≤ 1024) × (y ≤ 1024) × (z ≤ 1024) × RoomFor 1 t ⌝ }
     ensures { λ r. ⌜ state r (now (buf .exit)) ≡ found (state t (now (buf .entry))) (spot x y z p) ⌝ }
 {
     if is_corner(p) {

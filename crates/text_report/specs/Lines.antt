@@ -4,7 +4,7 @@ use mathlib.Core.List.{List, [], _∷_, _++_}
 use Prim.Native.Nat.{ℕ, zero, suc, _+_, _-_, _*_, _/_, _%_}
 use lib.Dec.{ltb}
 use Rattle.text_report.specs.Text.{text}
-use Rattle.lattice.specs.declared.sums.Totals.{Totals}
+use Rattle.lattice_sums.specs.declared.sums.Totals.{Totals}
 
 -- a number in decimal, with at most n digits
 unfoldable pub digits : ℕ → ℕ → List ℕ

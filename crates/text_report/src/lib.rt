@@ -7,7 +7,7 @@ ghost use Prim.Native.Nat.{_+_, _%_, _≤_, _<_};
 ghost use lib.ListN.{length};
 ghost use Rattle.buffer.specs.Wrote.{Wrote};
 ghost use Rattle.text_report.specs.Lines.{digits, line, quoteLines, refusalLine};
-use lattice::sums::Totals;
+use lattice_sums::sums::Totals;
 
 // Puts one byte at a place, and gives the place after it.
 pub fn put_byte(out: &mut [u8], at: usize, b: u8) -> usize

@@ -1,65 +1,35 @@
--- `check` answers `checked`: each way out is one law of `Answers`. Assumes nothing.
+-- `check` runs the tests of the settings and then those of the shots. Assumes nothing.
 use mathlib.Core.Path.{sym, _∙_}
-use native.Mathlib.Omega.{arith}
-use Rattle.job.proofs.Tests.{within}
-use Rattle.job.proofs.Answers.{broken, too-many, bad-field, bad-edge, bad-grid, no-divisor, leaves-field, fine}
+use Rattle.job.proofs.Answers.{settings-refused, settings-passed}
 use borrow.Author.Needs.{needs}
 use Rattle.job.proofs.check.Statement.{statement}
 use Rattle.job.proofs.check.Tie as tie
 
+check-settings-requires : tie.Need-check-settings-requires
+check-settings-requires c κs = search needs
+
+enum-known-settings : tie.Need-enum-known-settings
+enum-known-settings c = search needs
+
+enum-told : tie.Need-enum-told
+enum-told c = search needs
+
+check-shots-requires : tie.Need-check-shots-requires
+check-shots-requires c κs = search needs
+
 returns : tie.Need-returns
-returns c = broken _ _ _ _ (c .if1 .taken)
+returns c = settings-refused _ _ _ _ (sym (c .before .settings .given .1) ∙ c .before .before .before .check-settings .ensures .answer)
 
 returns-2 : tie.Need-returns-2
-returns-2 c = too-many _ _ _ _ (c .before .if1 .left) (c .if2 .taken)
-
-is-outside-requires : tie.Need-is-outside-requires
-is-outside-requires c κs = search needs
-
-returns-3 : tie.Need-returns-3
-returns-3 c = bad-field _ _ _ _ (c .before .before .before .if1 .left) (c .before .before .if2 .left) (sym (c .before .is-outside .ensures) ∙ c .if3 .taken)
-
-is-outside-requires-2 : tie.Need-is-outside-requires-2
-is-outside-requires-2 c κs = search needs
-
-returns-4 : tie.Need-returns-4
-returns-4 c = bad-edge _ _ _ _ (c .before .before .before .before .before .if1 .left) (c .before .before .before .before .if2 .left) (sym (c .before .before .before .is-outside .ensures) ∙ c .before .before .if3 .left) (sym (c .before .is-outside2 .ensures) ∙ c .if4 .taken)
-
-is-outside-requires-3 : tie.Need-is-outside-requires-3
-is-outside-requires-3 c κs = search needs
-
-returns-5 : tie.Need-returns-5
-returns-5 c = bad-grid _ _ _ _ (c .before .before .before .before .before .before .before .if1 .left) (c .before .before .before .before .before .before .if2 .left) (sym (c .before .before .before .before .before .is-outside .ensures) ∙ c .before .before .before .before .if3 .left) (sym (c .before .before .before .is-outside2 .ensures) ∙ c .before .before .if4 .left) (sym (c .before .is-outside3 .ensures) ∙ c .if5 .taken)
-
-rem-if6 : tie.Need-rem-if6
-rem-if6 c = omega (arith, within 1 64 (c .before .before .before .before .before .before .before .before .before .args .grid) (sym (c .before .is-outside3 .ensures) ∙ c .if5 .left))
-
-returns-6 : tie.Need-returns-6
-returns-6 c = no-divisor _ _ _ _ (c .before .before .before .before .before .before .before .before .if1 .left) (c .before .before .before .before .before .before .before .if2 .left) (sym (c .before .before .before .before .before .before .is-outside .ensures) ∙ c .before .before .before .before .before .if3 .left) (sym (c .before .before .before .before .is-outside2 .ensures) ∙ c .before .before .before .if4 .left) (sym (c .before .before .is-outside3 .ensures) ∙ c .before .if5 .left) (c .if6 .taken)
-
-first-leaving-requires : tie.Need-first-leaving-requires
-first-leaving-requires c κs = search needs
-
-returns-7 : tie.Need-returns-7
-returns-7 c = leaves-field _ _ _ _ (c .before .before .before .before .before .before .before .before .before .before .if1 .left) (c .before .before .before .before .before .before .before .before .before .if2 .left) (sym (c .before .before .before .before .before .before .before .before .is-outside .ensures) ∙ c .before .before .before .before .before .before .before .if3 .left) (sym (c .before .before .before .before .before .before .is-outside2 .ensures) ∙ c .before .before .before .before .before .if4 .left) (sym (c .before .before .before .before .is-outside3 .ensures) ∙ c .before .before .before .if5 .left) (c .before .before .if6 .left) (c .before .first-leaving .ensures) (c .if7 .taken)
-
-returns-8 : tie.Need-returns-8
-returns-8 c = fine _ _ _ _ (c .before .before .before .before .before .before .before .before .before .before .if1 .left) (c .before .before .before .before .before .before .before .before .before .if2 .left) (sym (c .before .before .before .before .before .before .before .before .is-outside .ensures) ∙ c .before .before .before .before .before .before .before .if3 .left) (sym (c .before .before .before .before .before .before .is-outside2 .ensures) ∙ c .before .before .before .before .before .if4 .left) (sym (c .before .before .before .before .is-outside3 .ensures) ∙ c .before .before .before .if5 .left) (c .before .before .if6 .left) (c .before .first-leaving .ensures) (c .if7 .left)
+returns-2 c = settings-passed _ _ _ _ (sym (c .before .enum-told .given .1) ∙ c .before .before .before .check-settings .ensures .answer) (c .check-shots .ensures .answer)
 
 pub check-spec : {M : Type 1} → statement M
 check-spec =
     tie.close
     (tie.spec
+    check-settings-requires
+    enum-known-settings
+    enum-told
+    check-shots-requires
     returns
-    returns-2
-    is-outside-requires
-    returns-3
-    is-outside-requires-2
-    returns-4
-    is-outside-requires-3
-    returns-5
-    rem-if6
-    returns-6
-    first-leaving-requires
-    returns-7
-    returns-8)
+    returns-2)

@@ -1,60 +1,42 @@
 -- `first_leaving` gives the first shot that leaves the field. The invariant: the search has passed i shots. Assumes nothing.
 use mathlib.Core.Path.{sym, _∙_}
-use Prim.Native.Nat.{_≤_, _-_, _/_}
+use Prim.Native.Nat.{_≤_, _-_}
 use native.Mathlib.Omega.{arith}
-use lib.ListN.{length}
-use Rattle.job.proofs.Shots.{Passed, passed-none, leaving-here, leaving-later, leaving-none}
+use Rattle.job.specs.Job.{shotCount}
+use Rattle.job.proofs.Shots.{Passed, passed-none, asked-of, leaving-here, leaving-later, leaving-none}
 use borrow.Author.Needs.{needs}
 use Rattle.job.proofs.first_leaving.Statement.{statement}
 use Rattle.job.proofs.first_leaving.Tie as tie
 
 abbrev Inv-loop : tie.InvT-loop
-Inv-loop field edge coords n i₀ i = (i ≤ length coords / 3) × Passed field edge coords i
+Inv-loop field edge coords n i₀ i = (i ≤ shotCount coords) × Passed field edge coords i
 
 abbrev μ-loop : tie.MeasureT-loop
-μ-loop field edge coords n i₀ i = length coords / 3 - i
+μ-loop field edge coords n i₀ i = shotCount coords - i
+
+count-requires : tie.Need-count-requires Inv-loop μ-loop
+count-requires c κs = search needs
 
 loop-holds : tie.Need-loop-holds Inv-loop μ-loop
 loop-holds c = (omega arith, passed-none _ _ _)
 
-mul-shot-leaves : tie.Need-mul-shot-leaves Inv-loop μ-loop
-mul-shot-leaves c = search needs
+edge-of-requires : tie.Need-edge-of-requires Inv-loop μ-loop
+edge-of-requires c κs = search needs
 
-mul-shot-leaves-2 : tie.Need-mul-shot-leaves-2 Inv-loop μ-loop
-mul-shot-leaves-2 c = search needs
+x-of-requires : tie.Need-x-of-requires Inv-loop μ-loop
+x-of-requires c κs = search needs
 
-shared-slice-read-shot-leaves : tie.Need-shared-slice-read-shot-leaves Inv-loop μ-loop
-shared-slice-read-shot-leaves c = search needs
+y-of-requires : tie.Need-y-of-requires Inv-loop μ-loop
+y-of-requires c κs = search needs
 
-mul-shot-leaves-3 : tie.Need-mul-shot-leaves-3 Inv-loop μ-loop
-mul-shot-leaves-3 c = search needs
-
-add-shot-leaves : tie.Need-add-shot-leaves Inv-loop μ-loop
-add-shot-leaves c = search needs
-
-mul-shot-leaves-4 : tie.Need-mul-shot-leaves-4 Inv-loop μ-loop
-mul-shot-leaves-4 c = search needs
-
-shared-slice-read-shot-leaves-2 : tie.Need-shared-slice-read-shot-leaves-2 Inv-loop μ-loop
-shared-slice-read-shot-leaves-2 c = search needs
-
-mul-shot-leaves-5 : tie.Need-mul-shot-leaves-5 Inv-loop μ-loop
-mul-shot-leaves-5 c = search needs
-
-add-shot-leaves-2 : tie.Need-add-shot-leaves-2 Inv-loop μ-loop
-add-shot-leaves-2 c = search needs
-
-mul-shot-leaves-6 : tie.Need-mul-shot-leaves-6 Inv-loop μ-loop
-mul-shot-leaves-6 c = search needs
-
-shared-slice-read-shot-leaves-3 : tie.Need-shared-slice-read-shot-leaves-3 Inv-loop μ-loop
-shared-slice-read-shot-leaves-3 c = search needs
+z-of-requires : tie.Need-z-of-requires Inv-loop μ-loop
+z-of-requires c κs = search needs
 
 shot-leaves-requires : tie.Need-shot-leaves-requires Inv-loop μ-loop
 shot-leaves-requires c κs = search needs
 
 returns : tie.Need-returns Inv-loop μ-loop
-returns c = leaving-here _ _ _ _ (c .before .before .before .before .before .loop-test .taken) (c .before .before .before .before .before .before .loop .inv .1) (sym (c .before .shot-leaves .ensures) ∙ c .if1 .taken)
+returns c = leaving-here _ _ _ _ (omega arith) (c .before .before .before .before .before .before .before .loop .inv .1) (sym (asked-of (c .before .before .before .before .before .before .before .before .before .before .args .field) (c .before .before .before .before .before .before .before .before .before .before .args .edge) (c .before .before .before .before .before .before .before .before .before .before .args .coords .now) (c .before .before .before .before .before .before .before .loop .i) (c .before .before .before .before .before .edge-of .ensures) (c .before .before .before .before .x-of .ensures) (c .before .before .before .y-of .ensures) (c .before .before .z-of .ensures) (c .before .shot-leaves .ensures)) ∙ c .if1 .taken)
 
 add-i : tie.Need-add-i Inv-loop μ-loop
 add-i c = search needs
@@ -63,10 +45,10 @@ loop-less : tie.Need-loop-less Inv-loop μ-loop
 loop-less c = search needs
 
 loop-again : tie.Need-loop-again Inv-loop μ-loop
-loop-again c = (omega arith, leaving-later _ _ _ _ (c .before .before .before .before .before .loop-test .taken) (c .before .before .before .before .before .before .loop .inv .1) (sym (c .before .shot-leaves .ensures) ∙ c .if1 .left))
+loop-again c = (omega arith, leaving-later _ _ _ _ (omega arith) (c .before .before .before .before .before .before .before .loop .inv .1) (sym (asked-of (c .before .before .before .before .before .before .before .before .before .before .args .field) (c .before .before .before .before .before .before .before .before .before .before .args .edge) (c .before .before .before .before .before .before .before .before .before .before .args .coords .now) (c .before .before .before .before .before .before .before .loop .i) (c .before .before .before .before .before .edge-of .ensures) (c .before .before .before .before .x-of .ensures) (c .before .before .before .y-of .ensures) (c .before .before .z-of .ensures) (c .before .shot-leaves .ensures)) ∙ c .if1 .left))
 
 returns-2 : tie.Need-returns-2 Inv-loop μ-loop
-returns-2 c = leaving-none _ _ _ _ (c .loop-test .left) (c .before .loop .inv .1)
+returns-2 c = leaving-none _ _ _ _ (omega arith) (c .before .loop .inv .1)
 
 pub first-leaving-spec : {M : Type 1} → statement M
 first-leaving-spec =
@@ -74,18 +56,12 @@ first-leaving-spec =
     (tie.spec
     Inv-loop
     μ-loop
+    count-requires
     loop-holds
-    mul-shot-leaves
-    mul-shot-leaves-2
-    shared-slice-read-shot-leaves
-    mul-shot-leaves-3
-    add-shot-leaves
-    mul-shot-leaves-4
-    shared-slice-read-shot-leaves-2
-    mul-shot-leaves-5
-    add-shot-leaves-2
-    mul-shot-leaves-6
-    shared-slice-read-shot-leaves-3
+    edge-of-requires
+    x-of-requires
+    y-of-requires
+    z-of-requires
     shot-leaves-requires
     returns
     add-i

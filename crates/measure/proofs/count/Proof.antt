@@ -1,10 +1,10 @@
 -- A sweep that stores nothing: its sums are the totals.
 use mathlib.Core.Path.{_≡_}
 use Rattle.lattice.specs.Listing.{corners}
-use Rattle.lattice.specs.CornerSums.{sumsOf}
+use Rattle.lattice_sums.specs.CornerSums.{sumsOf, totalsOf}
 use Rattle.job.proofs.Conditions.{valid-within}
 use Rattle.measure_intake.specs.Intake.{solid}
-use Rattle.measure.proofs.AnswerLaws.{swept-sums, swept-nonnegative, swept-totals}
+use Rattle.measure.proofs.AnswerLaws.{swept-sums, swept-whole, swept-totals}
 use borrow.Author.Needs.{needs}
 use Rattle.measure.proofs.count.Statement.{statement}
 use Rattle.measure.proofs.count.Tie as tie
@@ -19,7 +19,7 @@ sweep-requires : tie.Need-sweep-requires
 sweep-requires c κs = search needs
 
 totals-requires : tie.Need-totals-requires
-totals-requires c κs = let s = c .before .before .before .before .before in swept-nonnegative (s .args .field) (solid (s .args .edge) (s .args .coords .now)) (valid-within (s .pre .0)) (swept (c .before))
+totals-requires c κs = let s = c .before .before .before .before .before in (totalsOf (s .args .field) (solid (s .args .edge) (s .args .coords .now)), swept-whole (s .args .field) (solid (s .args .edge) (s .args .coords .now)) (valid-within (s .pre .0)) (swept (c .before)))
 
 returns : tie.Need-returns
 returns c = let s = c .before .before .before .before .before .before in swept-totals (s .args .field) (solid (s .args .edge) (s .args .coords .now)) (valid-within (s .pre .0)) (swept (c .before .before)) (c .totals .ensures)

@@ -11,7 +11,7 @@ use Rattle.measure_intake.proofs.indexed.Statement.{statement}
 use Rattle.measure_intake.proofs.indexed.Tie as tie
 
 accepted : (c : tie.After-enum-told) → checked (c .before .before .before .before .before .args .field) (c .before .before .before .before .before .args .edge) (c .before .before .before .before .before .args .grid) (c .before .before .before .before .before .args .coords .now) ≡ Accepted
-accepted c = sym (c .before .before .check .ensures) ∙ c .enum-told .given .1
+accepted c = sym (c .before .before .check .ensures .answer) ∙ c .enum-told .given .1
 
 check-requires : tie.Need-check-requires
 check-requires c κs = search needs
@@ -23,7 +23,7 @@ enum-told-2 : tie.Need-enum-told-2
 enum-told-2 c = search needs
 
 returns : tie.Need-returns
-returns c = let s = c .before .before .before .before .before in let e = c .enum-told2 .given .1 in let k = refused-checked (s .args .field) (s .args .edge) (s .args .grid) (s .args .coords .now) (s .args .work .now) (c .enum-told2 .given .0 .0) (c .before .before .check .ensures) e in (k, refused-work (s .args .field) (s .args .edge) (s .args .grid) (s .args .coords .now) (s .args .work .now) (c .enum-told2 .given .0 .0) (sym e ∙ k))
+returns c = let s = c .before .before .before .before .before in let e = c .enum-told2 .given .1 in let k = refused-checked (s .args .field) (s .args .edge) (s .args .grid) (s .args .coords .now) (s .args .work .now) (c .enum-told2 .given .0 .0) (c .before .before .check .ensures .answer) e in (k, refused-work (s .args .field) (s .args .edge) (s .args .grid) (s .args .coords .now) (s .args .work .now) (c .enum-told2 .given .0 .0) (sym e ∙ k))
 
 need-requires : tie.Need-need-requires
 need-requires c κs = let s = c .before .before .before .before .before in valid (s .args .field) (s .args .edge) (s .args .grid) (s .args .coords .now) (s .args .work .now) (accepted c)

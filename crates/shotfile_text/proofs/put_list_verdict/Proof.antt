@@ -20,13 +20,13 @@ put-refused-requires : tie.Need-put-refused-requires
 put-refused-requires c κs = search needs
 
 returns : tie.Need-returns
-returns c = accepted-verdict (c .before .before .before .before .before .args .out .now) (c .before .before .before .before .before .args .at) (sym (c .enum-told .given .1) ∙ c .before .before .check .ensures) (c .before .before .before .before .before .pre)
+returns c = accepted-verdict (c .before .before .before .before .before .args .out .now) (c .before .before .before .before .before .args .at) (sym (c .enum-told .given .1) ∙ c .before .before .check .ensures .answer) (c .before .before .before .before .before .pre)
 
 same-length : tie.Need-same-length
 same-length c = search needs
 
 returns-2 : tie.Need-returns-2
-returns-2 c = wrote-as (ap listVerdict (sym (c .before .before .before .before .before .refusal .given .1) ∙ c .before .before .before .before .before .before .before .check .ensures)) (c .before .before .put-refused .ensures)
+returns-2 c = wrote-as (ap listVerdict (sym (c .before .before .before .before .before .refusal .given .1) ∙ c .before .before .before .before .before .before .before .check .ensures .answer)) (c .before .before .put-refused .ensures)
 
 pub put-list-verdict-spec : {M : Type 1} → statement M
 put-list-verdict-spec =

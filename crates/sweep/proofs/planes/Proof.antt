@@ -4,7 +4,7 @@ use mathlib.Core.Path.{_≡_, refl}
 use Prim.Native.Nat.{ℕ, _≤_, _-_, _+_}
 use native.Mathlib.Omega.{arith}
 use lib.ListN.{length}
-use Rattle.lattice.proofs.CornerSumLaws.{room-more}
+use Rattle.lattice_sums.proofs.CornerSumLaws.{room-more}
 use Rattle.job.specs.Job.{shotsOf}
 use Rattle.sweep_tally.specs.Found.{state}
 use Rattle.sweep.specs.Sweep.{Swept}

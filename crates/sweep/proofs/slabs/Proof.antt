@@ -4,8 +4,8 @@ use mathlib.Core.List.{[]}
 use Prim.Native.Nat.{_≤_, _<_, _-_, _+_, _*_, _/_}
 use native.Mathlib.Omega.{arith}
 use lib.ListN.{length}
-use Rattle.lattice.specs.CornerSums.{Room}
-use Rattle.lattice.proofs.CornerSumLaws.{room-more, no-room}
+use Rattle.lattice_sums.specs.CornerSums.{Room}
+use Rattle.lattice_sums.proofs.CornerSumLaws.{room-more, no-room}
 use Rattle.job.specs.Job.{shotsOf}
 use Rattle.sweep_tally.specs.Found.{state, found}
 use Rattle.sweep.specs.Sweep.{planesTo}
@@ -15,7 +15,7 @@ use Rattle.sweep.proofs.slabs.Statement.{statement}
 use Rattle.sweep.proofs.slabs.Tie as tie
 use Rattle.sweep.proofs.slabs.Reads as reads
 use Rattle.sweep.proofs.slabs.Lts as lts
-use Rattle.lattice.proofs.sums.CornerSums.new.Reads as new-reads
+use Rattle.lattice_sums.proofs.sums.CornerSums.new.Reads as new-reads
 use Rattle.sweep.proofs.slab.Reads as slab-reads
 
 abbrev Inv-loop : tie.InvT-loop

@@ -4,12 +4,12 @@ use mathlib.Core.Logic.{_≢_}
 use Prim.Native.Nat.{_≤_, _-_, _+_}
 use native.Mathlib.Omega.{arith}
 use lib.ListN.{length, getD}
-use Rattle.lattice.specs.Listing.{join}
-use Rattle.lattice.specs.CornerSums.{Room}
+use Rattle.lattice.specs.Sums.{join}
+use Rattle.lattice_sums.specs.CornerSums.{Room}
 use Rattle.sweep_tally.specs.Found.{state, found}
 use Rattle.sweep_line.specs.Line.{lineFrom}
 use Rattle.sweep_line.proofs.Laws.{scan-none, scan-still, scan-more, room-own, room-point}
-use Rattle.lattice.proofs.CornerSumLaws.{room-more}
+use Rattle.lattice_sums.proofs.CornerSumLaws.{room-more}
 use borrow.Author.Needs.{needs}
 use Rattle.sweep_line.proofs.scan.Statement.{statement}
 use Rattle.sweep_line.proofs.scan.Tie as tie

@@ -3,8 +3,8 @@ use mathlib.Core.Path.{_≡_, refl}
 use Prim.Native.Nat.{_≤_, _-_, _+_, _*_}
 use native.Mathlib.Omega.{arith}
 use lib.ListN.{length}
-use Rattle.lattice.specs.CornerSums.{Room}
-use Rattle.lattice.proofs.CornerSumLaws.{room-more}
+use Rattle.lattice_sums.specs.CornerSums.{Room}
+use Rattle.lattice_sums.proofs.CornerSumLaws.{room-more}
 use Rattle.sweep_rows.specs.Runs.{shotsIn}
 use Rattle.sweep_rows.specs.Rows.{Ends}
 use Rattle.sweep_tally.specs.Found.{state, found}

@@ -3,7 +3,7 @@ use mathlib.Core.Path.{_≡_, refl}
 use Prim.Native.Nat.{_≤_, _-_, _+_}
 use native.Mathlib.Omega.{arith}
 use lib.ListN.{length}
-use Rattle.lattice.proofs.PatternLaws.{y-axis}
+use Rattle.lattice.specs.Axes.{y-axis}
 use Rattle.sweep_rows.specs.Runs.{runTo}
 use Rattle.sweep_marks.specs.Marks.{Marked}
 use Rattle.sweep_plane.proofs.Laws.{marked-start, marked-next}

@@ -1,14 +1,9 @@
 -- A corner is added and stored; another point changes nothing.
-use mathlib.Core.Path.{_≡_, sym, _∙_}
+use mathlib.Core.Path.{sym, _∙_}
 use Rattle.sweep_tally.proofs.Laws.{point-none, point-corner}
 use borrow.Author.Needs.{needs}
 use Rattle.sweep_tally.proofs.point.Statement.{statement}
 use Rattle.sweep_tally.proofs.point.Tie as tie
-use Rattle.sweep_tally.proofs.point.Reads as reads
-use Rattle.sweep_tally.proofs.point.Lts as lts
-use Rattle.lattice.proofs.edges.is_corner.Reads as is-corner-reads
-use Rattle.lattice.proofs.sums.CornerSums.add.Reads as add-reads
-use Rattle.sweep_tally.proofs.put.Reads as put-reads
 
 is-corner-requires : tie.Need-is-corner-requires
 is-corner-requires c κs = search needs

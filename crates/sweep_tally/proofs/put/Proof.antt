@@ -4,9 +4,6 @@ use Rattle.sweep_tally.proofs.Laws.{stored-none, stored-one}
 use borrow.Author.Needs.{needs}
 use Rattle.sweep_tally.proofs.put.Statement.{statement}
 use Rattle.sweep_tally.proofs.put.Tie as tie
-use Rattle.sweep_tally.proofs.put.Reads as reads
-use Rattle.sweep_tally.proofs.put.Lts as lts
-use Rattle.sweep_tally.proofs.put_record.Reads as put-record-reads
 
 returns : tie.Need-returns
 returns c = stored-none _ _ _ (c .if1 .taken)

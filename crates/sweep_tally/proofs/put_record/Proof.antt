@@ -5,8 +5,6 @@ use Rattle.sweep_tally.proofs.Laws.{record-stored}
 use borrow.Author.Needs.{needs}
 use Rattle.sweep_tally.proofs.put_record.Statement.{statement}
 use Rattle.sweep_tally.proofs.put_record.Tie as tie
-use Rattle.sweep_tally.proofs.put_record.Reads as reads
-use Rattle.sweep_tally.proofs.put_record.Lts as lts
 
 cast-buf : tie.Need-cast-buf
 cast-buf c = search needs

@@ -1,8 +1,8 @@
 -- A corner more takes the room of one corner more. Assumes nothing.
 use mathlib.Core.Path.{sym, subst}
 use Prim.Native.Nat.{_+_}
-use Rattle.lattice.specs.CornerSums.{Room}
-use Rattle.lattice.proofs.CornerSumLaws.{added-room}
+use Rattle.lattice_sums.specs.CornerSums.{Room}
+use Rattle.lattice_sums.proofs.CornerSumLaws.{added-room}
 use borrow.Author.Needs.{needs}
 use Rattle.check_random.proofs.listings.add_corner.Statement.{statement}
 use Rattle.check_random.proofs.listings.add_corner.Tie as tie

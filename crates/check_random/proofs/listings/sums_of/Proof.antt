@@ -2,8 +2,8 @@
 use Prim.Native.Nat.{_≤_, _-_}
 use native.Mathlib.Omega.{arith}
 use mathlib.Core.Path.{sym, subst}
-use Rattle.lattice.specs.CornerSums.{Room}
-use Rattle.lattice.proofs.CornerSumLaws.{no-room}
+use Rattle.lattice_sums.specs.CornerSums.{Room}
+use Rattle.lattice_sums.proofs.CornerSumLaws.{no-room}
 use borrow.Author.Needs.{needs}
 use Rattle.check_random.proofs.listings.sums_of.Statement.{statement}
 use Rattle.check_random.proofs.listings.sums_of.Tie as tie

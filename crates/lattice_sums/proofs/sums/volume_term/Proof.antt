@@ -1,0 +1,37 @@
+-- The product of the coordinates is at most 2³⁰, and w at most 4.
+use mathlib.Core.Path.{_≡_, _∙_, ap}
+use Prim.Native.Nat.{_*_}
+use native.Mathlib.Omega.{arith}
+use lib.IntN.{pos, _*ℤ_}
+use mir.Syntax.{w8}
+use mir.Val.{toZ, ofZ}
+use Rattle.lattice.specs.Pattern.{ofByte, w}
+use Rattle.lattice.specs.Figures.{Volume}
+use Rattle.lattice.proofs.PatternLaws.{weight-small}
+use Rattle.lattice.proofs.TermBounds.{two-small, three-small, term-small}
+use Rattle.lattice_sums.proofs.CornerSumLaws.{told8, told64}
+use borrow.Author.Needs.{needs}
+use Rattle.lattice_sums.proofs.sums.volume_term.Statement.{statement}
+use Rattle.lattice_sums.proofs.sums.volume_term.Tie as tie
+
+weight : (c : tie.After-weight-w) → toZ w8 (ofZ w8 (c .weight-w .result)) ≡ w (ofByte (c .before .args .p))
+weight c = told8 (c .weight-w .ok) (c .weight-w .ensures)
+
+mul-scaled : tie.Need-mul-scaled
+mul-scaled c = record { fits = omega (arith, two-small (c .args .x) (c .args .y) (c .pre .0) (c .pre .1)) }
+
+mul-scaled-2 : tie.Need-mul-scaled-2
+mul-scaled-2 c = record { fits = omega (arith, three-small (c .args .x) (c .args .y) (c .args .z) (c .pre .0) (c .pre .1) (c .pre .2)) }
+
+weight-w-requires : tie.Need-weight-w-requires
+weight-w-requires c κs = search needs
+
+scaled-requires : tie.Need-scaled-requires
+scaled-requires c κs = (three-small (c .before .args .x) (c .before .args .y) (c .before .args .z) (c .before .pre .0) (c .before .pre .1) (c .before .pre .2), rw (weight c) (weight-small 0 (ofByte (c .before .args .p))))
+
+returns : tie.Need-returns
+returns c = let e = told64 (c .scaled .ok) (c .scaled .ensures ∙ ap (λ v. pos (c .before .before .args .x * c .before .before .args .y * c .before .before .args .z) *ℤ v) (weight (c .before))) in (e, rw e (term-small Volume (c .before .before .args .x) (c .before .before .args .y) (c .before .before .args .z) (ofByte (c .before .before .args .p)) (c .before .before .pre .0) (c .before .before .pre .1) (c .before .before .pre .2)))
+
+pub volume-term-spec : {M : Type 1} → statement M
+volume-term-spec =
+    tie.close (tie.spec mul-scaled mul-scaled-2 weight-w-requires scaled-requires returns)

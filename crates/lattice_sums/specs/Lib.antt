@@ -1,0 +1,2 @@
+pub mod UnitEdges
+pub mod CornerSums
