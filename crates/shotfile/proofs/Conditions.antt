@@ -22,7 +22,7 @@ use Rattle.shotfile.specs.declared.reader.ReadAnswer.{ReadAnswer}
 use Rattle.shotfile.specs.declared.reader.ReadAnswer.the-variants.{Read, Refused as Unread}
 use Rattle.shotfile.specs.declared.writer.WriteAnswer.{WriteAnswer}
 use Rattle.shotfile.specs.declared.writer.WriteAnswer.the-variants.{Written, Refused as Unwritten}
-use Rattle.shotfile.specs.Files.{File, file, refused, fileIn, fileOf}
+use Rattle.shotfile.specs.Files.{file, refused, fileIn, fileOf}
 use Rattle.shotfile.specs.Calls.{readAnswer, ReadCall, longFile, writeTests, ifWritten, writeAnswer, WriteCall}
 use Rattle.shotfile.specs.Conditions.{FirstFault, Faultless, WriteCondition, of-list, short-file}
 use Rattle.shotfile.proofs.Faults.{Outcome, accepted, turned-down, outcome, first-fault-one}

@@ -2,7 +2,7 @@
 -- many numbers a shot has. Assumes nothing.
 use mathlib.Core.Path.{_≡_, refl, ap}
 use mathlib.Core.List.{List, [], _∷_, _++_}
-use Prim.Native.Nat.{ℕ, suc, _+_, _%_, _≤_, _<_}
+use Prim.Native.Nat.{ℕ, suc, _%_, _≤_}
 use native.Mathlib.Omega.{arith}
 use lib.ListN.{length}
 use Rattle.lattice.specs.Shots.{Shot}
@@ -16,7 +16,7 @@ allNumbers [] = []
 allNumbers (t ∷ ts) = shotNumbers (shotFields t) ++ allNumbers ts
 
 -- a list of whole shots is the numbers of its shots
-pub all-numbers : (e : ℕ) (coords : List ℕ) → length coords % 3 ≡ 0 → allNumbers (shotsOf e coords) ≡ coords
+pub all-numbers : (e : ℕ) (coords : List ℕ) → length coords ≡ placeOf (shotCount coords) → allNumbers (shotsOf e coords) ≡ coords
 unfolding shotsOf
 all-numbers e [] h = refl
 all-numbers e (x ∷ []) h = absurd (omega arith)
@@ -33,7 +33,10 @@ module _ (e : ℕ) where
   unfolding shotsOf
   shots-more f coords = refl
 
--- how many shots there are, and how many places they take
+-- ---- how many shots there are, and how many places they take
+pub threes-whole : (coords : List ℕ) → length coords % 3 ≡ 0 → length coords ≡ placeOf (shotCount coords)
+threes-whole coords h = omega (arith, h)
+
 pub count-none : shotCount [] ≡ 0
 count-none = refl
 
@@ -44,12 +47,6 @@ module _ (f : Fields) (coords : List ℕ) where
   pub places-more : length coords ≡ placeOf (shotCount coords) → length (shotNumbers f ++ coords) ≡ placeOf (shotCount (shotNumbers f ++ coords))
   places-more h = omega (arith, h)
 
-pub place-next : (i : ℕ) (f : Fields) → placeOf i + length (shotNumbers f) ≡ placeOf (i + 1)
-place-next i f = omega arith
-
 -- shots that have a place take no more numbers than there are
 pub places-fit : (coords before : List ℕ) → length coords ≡ placeOf (shotCount coords) → shotCount coords ≤ shotCount before → length coords ≤ length before
 places-fit coords before w h = omega (arith, w, h)
-
-pub place-fits : (before : List ℕ) (n i : ℕ) → n ≤ shotCount before → i < n → placeOf (i + 1) ≤ length before
-place-fits before n i h l = omega (arith, h, l)

@@ -1,24 +1,23 @@
 -- The records of a file one after another, whole or faulty, up to the first faulty one. Assumes nothing.
-use mathlib.Core.Path.{_≡_, refl, sym, ap, subst, _∙_}
+use mathlib.Core.Path.{_≡_, refl, sym, ap, subst}
 use mathlib.Core.Bool.{Bool, true, false, cond}
 use mathlib.Core.List.{List, []}
-use mathlib.Core.Logic.{_⊎_, inl, inr, ⊎-elim}
 use Prim.Native.Nat.{ℕ, zero, suc, _+_, _≤_, _<_}
 use native.Mathlib.Decide.{decLe}
 use native.Mathlib.Omega.{arith}
 use lib.Dec.{ltb, leb}
 use lib.ListN.{length, getD, List·getD-eq-default}
-use borrow.Author.Tests.{ltb-true, ltb-false, leb-true, leb-false}
+use borrow.Author.Tests.{ltb-true, ltb-false, leb-false}
 use Rattle.job.specs.declared.Refusal.{Refusal}
 use Rattle.job.specs.declared.Refusal.the-variants.{TooManyShots, NoPlace, UnknownBit, CutShort}
 use Rattle.job.specs.Refusals.{numberOf}
 use Rattle.shotfile_records.specs.declared.Fields.{Fields}
 use Rattle.shotfile_records.specs.declared.Taken.{Taken}
 use Rattle.shotfile_records.specs.declared.Taken.the-variants.{Whole, Refused}
-use Rattle.shotfile_records.specs.Records.{headerAbsent, firstAbsent, endAt, fieldsAt, recordAt}
+use Rattle.shotfile_records.specs.Records.{headerAbsent, firstAbsent, fieldsAt, recordAt}
 use Rattle.shotfile.specs.declared.reader.Cursor.{Cursor}
 use Rattle.shotfile.specs.declared.reader.Step.the-variants.{End}
-use Rattle.shotfile.specs.Files.{shotNumbers, stepOf, stepAt, Rest, shots, faulty, withShot, onStep, shotsFrom, File, file, refused, withSettings, firstShot, onHeader, fileIn}
+use Rattle.shotfile.specs.Files.{stepOf, stepAt, Rest, shots, faulty, withShot, onStep, shotsFrom, File, file, refused, withSettings, firstShot, onHeader, fileIn}
 use Rattle.shotfile.specs.Conditions.{endOf, IsRecord, header, first-shot, next-shot, Fault, too-many-shots, no-place, unknown-bit, cut-short, FirstFault, Faultless}
 use Rattle.shotfile.proofs.WriteBack.{parts}
 

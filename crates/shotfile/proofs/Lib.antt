@@ -8,6 +8,7 @@ pub mod ReadBack
 pub mod WriteBack
 pub mod Shortest
 pub mod Tight
+pub mod Fewest
 pub mod Accepted
 pub mod Faults
 pub mod Conditions

@@ -9,7 +9,7 @@ use lib.ListN.{length, getD, length-append}
 use lib.Seq.{getD-append-seam, getD-append-add}
 use borrow.Author.Tests.{eqb-true, eqb-false}
 use Rattle.lattice.specs.Shots.{Shot}
-use Rattle.job.specs.Job.{shotsOf, shotCount}
+use Rattle.job.specs.Job.{shotsOf, shotCount, placeOf}
 use Rattle.job.proofs.Shots.{shots-count}
 use Rattle.shotfile_records.specs.declared.Fields.{Fields}
 use Rattle.shotfile_records.specs.declared.Taken.the-variants.{Whole}
@@ -195,7 +195,7 @@ module _ (s : List ℕ) where
 
 -- the whole file
 pub file-read : (F E G : ℕ) (coords : List ℕ) (places : ℕ) → SmallFields (settingFields F E G) → SmallShots (shotsOf E coords)
-    → length coords % 3 ≡ 0 → shotCount coords ≤ 4096 → shotCount coords ≤ places
+    → length coords ≡ placeOf (shotCount coords) → shotCount coords ≤ 4096 → shotCount coords ≤ places
     → fileIn places (fileOf F E G coords) ≡ file (settingFields F E G) coords
 unfolding fileIn fileOf
 file-read F E G coords places header-small small t l r = ap (λ t. onHeader t (λ end. shotsFrom 4096 places s (firstShot end))) header ∙ ap (withSettings f) rest

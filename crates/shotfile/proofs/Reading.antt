@@ -3,7 +3,6 @@ use mathlib.Core.Path.{_≡_, refl, sym, ap, _∙_}
 use mathlib.Core.List.{List}
 use Prim.Native.Nat.{ℕ, _≤_}
 use native.Mathlib.Omega.{arith}
-use lib.ListN.{length}
 use Rattle.job.specs.declared.Refusal.{Refusal}
 use Rattle.job.specs.Job.{shotCount}
 use Rattle.shotfile_records.specs.declared.Fields.{Fields}

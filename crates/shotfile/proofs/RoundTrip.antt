@@ -2,9 +2,11 @@
 -- (a) A list that the writer accepts is read back from what it wrote, with its settings.
 -- (b) A file in its shortest form is written back, byte for byte, from what was read.
 -- (c) What is written is in its shortest form, and no file with the same list and settings has fewer bytes.
--- Each is stated of the definitions, and once more of the calls, by their contracts `ReadCall` and `WriteCall`.
+-- (d) A file is in its shortest form if and only if no file with the same list and settings has fewer bytes.
+-- Each is stated of the definitions, and (a) to (c) once more of the calls, by their contracts `ReadCall` and `WriteCall`.
 use mathlib.Core.Path.{_≡_, sym, ap, subst, _∙_}
 use mathlib.Core.List.{List, [], _∷_}
+use mathlib.Core.Logic.{_↔_}
 use Prim.Native.Nat.{ℕ, _≤_}
 use native.Mathlib.Omega.{arith}
 use lib.Dec.{T}
@@ -19,10 +21,12 @@ use Rattle.shotfile.specs.declared.writer.WriteAnswer.{WriteAnswer}
 use Rattle.shotfile.specs.declared.writer.WriteAnswer.the-variants.{Written}
 use Rattle.shotfile.specs.Files.{settingFields, File, file, fileIn, fileOf, shortest}
 use Rattle.shotfile.specs.Calls.{inFront, readNumbers, readAnswer, readValues, readCoords, ReadCall, writtenNumbers, WriteCall}
+use Rattle.shotfile.proofs.Coords.{threes-whole}
 use Rattle.shotfile.proofs.ReadBack.{SmallFields, SmallShots, file-read}
 use Rattle.shotfile.proofs.Tight.{file-tight}
 use Rattle.shotfile.proofs.WriteBack.{Bytes}
 use Rattle.shotfile.proofs.Shortest.{file-least, file-same}
+use Rattle.shotfile.proofs.Fewest.{file-fewest, again-bytes, again-read}
 use Rattle.shotfile.proofs.Writing.{write-done}
 use Rattle.shotfile.proofs.Accepted.{AcceptedFile, accepted-file, AcceptedList, accepted-list}
 
@@ -45,7 +49,7 @@ read-written F E G coords places v r =
     file-read F E G coords places
     (small-settings v)
     (small-shots F (shotsOf E coords) (v .field-most) (v .inside))
-    (v .threes)
+    (threes-whole coords (v .threes))
     (v .few)
     r
 
@@ -63,6 +67,14 @@ pub shortest-least : (s : List ℕ) (places : ℕ) (F E G : ℕ) (coords : List 
     → fileIn places s ≡ file (settingFields F E G) coords
     → length (fileOf F E G coords) ≤ length s
 shortest-least s places F E G coords e = file-least s places e
+
+-- (d)
+pub shortest-fewest : (s : List ℕ) (places : ℕ) (F E G : ℕ) (coords : List ℕ) → Bytes s → fileIn places s ≡ file (settingFields F E G) coords
+    → T (shortest s) ↔ ((t : List ℕ) → Bytes t → fileIn places t ≡ file (settingFields F E G) coords → length s ≤ length t)
+shortest-fewest s places F E G coords b e = (
+  λ h t c k. subst (λ (l : List ℕ). length l ≤ length t) (written-read s places F E G coords b h e) (shortest-least t places F E G coords k),
+  λ h. subst T (sym (file-fewest s places e (h (fileOf F E G coords) (again-bytes s places b e) (again-read s places b e)))) tt,
+)
 
 -- ---- of the calls
 wrote-file : {F E G : ℕ} {coords before after : List ℕ} {n : ℕ} → AcceptedList F E G coords before n after → take n after ≡ fileOf F E G coords

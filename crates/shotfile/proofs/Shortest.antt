@@ -57,10 +57,10 @@ module _ (e : ℕ) where
   unfolding shotRecords
   records-more p f coords = ap (shotRecords p) (shots-more e f coords)
 
-  more-length : (p f : Fields) (coords : List ℕ) → length (shotRecords p (shotsOf e (shotNumbers f ++ coords))) ≡ length (recordOf p f) + length (shotRecords f (shotsOf e coords))
+  pub more-length : (p f : Fields) (coords : List ℕ) → length (shotRecords p (shotsOf e (shotNumbers f ++ coords))) ≡ length (recordOf p f) + length (shotRecords f (shotsOf e coords))
   more-length p f coords = ap length (records-more p f coords) ∙ length-append (recordOf p f) (shotRecords f (shotsOf e coords))
 
-  shots-least : {s : List ℕ} {left places : ℕ} {c : Cursor} {coords : List ℕ} → Reads s left places c coords → c .at ≤ length s
+  pub shots-least : {s : List ℕ} {left places : ℕ} {c : Cursor} {coords : List ℕ} → Reads s left places c coords → c .at ≤ length s
       → c .at + length (shotRecords (c .last) (shotsOf e coords)) ≤ length s
   shots-least {s} {left} {places} {c} (done h) l = omega (arith, ap length (records-none (c .last)))
   shots-least {s} {left} {places} {c} (shot {f = f} {end = end} {coords = coords} i t r) l =
@@ -68,7 +68,7 @@ module _ (e : ℕ) where
       omega (arith, shots-least r (p .room), record-least s (c .at) (c .last) f end p, more-length (c .last) f coords)
 
 -- a file is its header and its shots
-file-size : (f : Fields) (coords : List ℕ) → length (fileOf (f .first) (f .second) (f .third) coords) ≡ length (recordOf headerAbsent f) + length (shotRecords firstAbsent (shotsOf (f .second) coords))
+pub file-size : (f : Fields) (coords : List ℕ) → length (fileOf (f .first) (f .second) (f .third) coords) ≡ length (recordOf headerAbsent f) + length (shotRecords firstAbsent (shotsOf (f .second) coords))
 unfolding fileOf
 file-size f coords = length-append (recordOf headerAbsent f) (shotRecords firstAbsent (shotsOf (f .second) coords))
 

@@ -31,7 +31,7 @@ placed-tight {s} {at} {absent} {f} p =
     rw (← placed-first p, ← placed-second p, ← placed-third p, field-tight s (at + 1) (absent .first) (f .first) (p .first-at), field-tight s (at + 1 + 2 * bitOf (absent .first) (f .first)) (absent .second) (f .second) (p .second-at), field-tight s (at + 1 + 2 * bitOf (absent .first) (f .first) + 2 * bitOf (absent .second) (f .second)) (absent .third) (f .third) (p .third-at))
 
 -- past the end no field stands
-end-tight : (s : List ℕ) (at : ℕ) (absent : Fields) → length s ≤ at → tight s at absent ≡ true
+pub end-tight : (s : List ℕ) (at : ℕ) (absent : Fields) → length s ≤ at → tight s at absent ≡ true
 unfolding tight needless
 end-tight s at absent h = rw (List·getD-eq-default s 0 h)
 

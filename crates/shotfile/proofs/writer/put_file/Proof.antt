@@ -5,9 +5,8 @@ use Prim.Native.Nat.{_+_, _-_, _≤_}
 use native.Mathlib.Omega.{arith}
 use lib.ListN.{length}
 use Rattle.job.specs.Job.{shotCount}
-use Rattle.buffer.proofs.WroteLaws.{wrote-length}
 use Rattle.buffer.proofs.Underway.{Underway, underway-none, underway-all, underway-room, underway-more}
-use Rattle.shotfile_records.specs.Records.{firstAbsent, recordOf}
+use Rattle.shotfile_records.specs.Records.{recordOf}
 use Rattle.shotfile.proofs.Writing.{recordsFrom, records-on, records-end, header-room, shots-room, all-written}
 use borrow.Author.Needs.{needs}
 use Rattle.shotfile.proofs.writer.put_file.Statement.{statement}

@@ -1,6 +1,5 @@
 -- `write` answers and leaves what the checks say: each way out is one law of `Writing`. Assumes nothing.
-use mathlib.Core.Path.{refl, sym, _∙_}
-use mathlib.Core.List.{[]}
+use mathlib.Core.Path.{sym, _∙_}
 use native.Mathlib.Omega.{arith}
 use Rattle.shotfile.proofs.Writing.{few-shots, write-refused, write-short, write-done}
 use borrow.Author.Needs.{needs}
