@@ -20,10 +20,10 @@ use Rattle.job.proofs.Shots.{shots-count, shots-from, shots-end}
 use Rattle.job.proofs.Conditions.{accepted-valid}
 use Rattle.shotfile_records.specs.declared.Fields.{Fields}
 use Rattle.shotfile.specs.declared.writer.WriteAnswer.the-variants.{Written, Refused as Unwritten}
-use Rattle.shotfile.specs.Calls.{inFront, longFile, writeTests, writtenNumbers, writeAnswer, writeValues, writeBytes, WriteCall}
+use Rattle.shotfile.specs.Calls.{longFile, writeTests, writtenNumbers, writeAnswer, writeValues, writeBytes, WriteCall}
 use Rattle.shotfile_records.specs.Records.{headerAbsent, firstAbsent, recordOf}
 use Rattle.shotfile.specs.Files.{settingFields, shotFields, coordsAt, shotRecords, fileOf}
-use Rattle.buffer.specs.Wrote.{Wrote}
+use Rattle.buffer.specs.Wrote.{Wrote, inFront}
 use Rattle.buffer.proofs.WroteLaws.{wrote-as, wrote-then}
 use Rattle.buffer.proofs.Underway.{wrote-front}
 use Rattle.shotfile_records.proofs.Putting.{record-most}
