@@ -1,5 +1,6 @@
-// Ours: one call of heqdanu.h, timed: `ours FILE SECONDS [CALL]`, CALL being measure (unless said), list, need, read or
-// write. `need` is the measuring call with an empty work slice: the list's checks and the count of the index's entries.
+// Ours: one call of heqdanu.h, timed: `ours FILE SECONDS [CALL]`, CALL being measure (unless said), list, index,
+// recount, need, read or write. `need` is the measuring call with an empty work slice: the list's checks and the count
+// of the index's entries.
 #include "../include/heqdanu.h"
 #include "common.hpp"
 
@@ -8,6 +9,7 @@
 
 static uint64_t answer[HEQDANU_ANSWER];
 
+// The figures of an answer; the index alone has none, and leaves the zeros of the refusal that told the need.
 static Totals answered(uint8_t written, uint64_t expected = HEQDANU_ACCEPTED) {
     if (written != 1 || answer[0] != expected) {
         fprintf(stderr, "refused %llu %llu\n", (unsigned long long)answer[0], (unsigned long long)answer[1]);
@@ -32,11 +34,18 @@ int main(int count, char **arguments) {
         return heqdanu_measure(list.field, list.edge, list.grid, coords, ncoords, work, nwork, answer, HEQDANU_ANSWER);
     };
     uint32_t none = 0;
-    answered(measure(&none, 0), HEQDANU_WORK_SHORT);
+    answered(measure(&none, 0), HEQDANU_SHORT_WORK);
     std::vector<uint32_t> work(answer[1]);
     if (call == "need")
-        return report(patience, [&] { return answered(measure(&none, 0), HEQDANU_WORK_SHORT); });
+        return report(patience, [&] { return answered(measure(&none, 0), HEQDANU_SHORT_WORK); });
     if (call == "measure") return report(patience, [&] { return answered(measure(work.data(), work.size())); });
+    if (call == "index" || call == "recount") {
+        auto indexing = call == "index" ? heqdanu_index : heqdanu_recount;
+        return report(patience, [&] {
+            return answered(indexing(list.field, list.edge, list.grid, coords, ncoords, work.data(), work.size(),
+                                     answer, HEQDANU_ANSWER));
+        });
+    }
     if (call == "list") {
         std::vector<uint8_t> listing(HEQDANU_RECORD * answered(measure(work.data(), work.size())).corners + 1);
         return report(patience, [&] {

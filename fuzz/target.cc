@@ -1,9 +1,9 @@
 // The fuzz target: calls of heqdanu.h on any bytes, held to a brute-force oracle.
 //
 // The input's first six bytes choose the buffers' lengths and how the list is made; the rest is a shot file. The file is
-// read; the list that it holds, as it is or squeezed into a small field, goes through measure, recount, list and write.
-// Answers and every place of every buffer must be the oracle's. Lists whose cells are too many to count here are held
-// to what the calls say of each other: a listing's sums give the totals, and what is written reads back.
+// read; the list that it holds, as it is or squeezed into a small field, goes through measure, recount, index, list and
+// write. Answers and every place of every buffer must be the oracle's. Lists whose cells are too many to count here are
+// held to what the calls say of each other: a listing's sums give the totals, and what is written reads back.
 //
 // The archive carries no sanitizer, so each lent buffer ends where an unmapped page begins, and the bytes before it are
 // looked at afterwards. The address and undefined-behaviour sanitizers watch this file and the oracle.
@@ -194,6 +194,20 @@ void measure(const char *call, Measure library, const oracle::List &list, Expect
     lent.work.check(call, "the index differs");
 }
 
+void index_alone(const oracle::List &list, const Expected &expected, const uint8_t *choice) {
+    Buffers &lent = buffers();
+    lent.work.lend(about(expected.need, choice[1]), choice[5]);
+    lent.answer.lend(answer_places(choice[4]), choice[5]);
+    uint8_t written = heqdanu_index(list.field, list.edge, list.grid, list.coords, list.ncoords, lent.work.places,
+                                    lent.work.length, lent.answer.places, lent.answer.length);
+    oracle::Refusal refusal = with_work(expected, lent.work.length);
+    bool room = expect_answer(HEQDANU_INDEX_ANSWER, refusal, {});
+    if (room && refusal.number == 0) lent.work.store(oracle::index(list));
+    expect(written == room, "index", "says wrongly whether it answered");
+    lent.answer.check("index", "the answer differs");
+    lent.work.check("index", "the index differs");
+}
+
 void list_corners(const oracle::List &list, Expected &expected, const uint8_t *choice) {
     Buffers &lent = buffers();
     lent.work.lend(about(expected.need, choice[1]), choice[5]);
@@ -268,6 +282,7 @@ extern "C" int LLVMFuzzerTestOneInput(const uint8_t *data, size_t size) {
     measure("measure", heqdanu_measure, list, expected, data);
     if (list.field <= RECOUNT_FIELD || expected.refusal.number != 0)
         measure("recount", heqdanu_recount, list, expected, data);
+    index_alone(list, expected, data);
     list_corners(list, expected, data);
     write(list, data);
     return 0;

@@ -1,7 +1,7 @@
 /* heqdanu.h: cube-shot quotes for C and C++.
  *
  * The calls measure a union of equal axis-aligned cubes ("shots") on a whole-number lattice, list its corner points,
- * and read and write shot files. They live in target/staticlib/libcapi.a, which `rt staticlib capi` proves and writes:
+ * file the shots in a grid index, and read and write shot files. They live in target/staticlib/libcapi.a, which `rt staticlib capi` proves and writes:
  *
  *     cc program.c -Iinclude target/staticlib/libcapi.a -o program
  *
@@ -20,7 +20,7 @@
  * allocates memory, keeps a pointer, or touches a place outside the buffers. Calls from several threads are fine as
  * long as they share no buffer that one of them writes.
  *
- * ANSWERS go to `answer`, at least HEQDANU_ANSWER (or HEQDANU_WRITE_ANSWER) places of 64 bits:
+ * ANSWERS go to `answer`, at least HEQDANU_ANSWER (HEQDANU_INDEX_ANSWER, HEQDANU_WRITE_ANSWER) places of 64 bits:
  *
  *     answer[0]   0 if the call accepted, else the number of the refusal (below)
  *     answer[1]   the refusal's detail, 0 if accepted
@@ -43,22 +43,23 @@ extern "C" {
  * condition holds; the reader takes the file record by record, and the first faulty record decides. */
 enum {
     HEQDANU_ACCEPTED = 0,
-    HEQDANU_NOT_THREES = 1,       /* ncoords is not a multiple of 3; 0 */
+    HEQDANU_BROKEN_SHOT = 1,      /* ncoords is not a multiple of 3; 0 */
     HEQDANU_TOO_MANY_SHOTS = 2,   /* more than 4,096 shots; 0, for the reader the offset of the 4,097th shot's map */
-    HEQDANU_NO_PLACES = 3,        /* no three places left in coords for the shot that begins; its map's offset */
+    HEQDANU_NO_PLACE = 3,         /* no three places left in coords for the shot that begins; its map's offset */
     HEQDANU_UNKNOWN_BIT = 4,      /* a map has a bit above bit 2; the map's offset */
-    HEQDANU_CUT_FILE = 5,         /* the file ends inside a record, or is empty; that record's map's offset, 0 if empty */
-    HEQDANU_FIELD = 6,            /* field is out of range; 0 */
-    HEQDANU_EDGE = 7,             /* edge is out of range; 0 */
-    HEQDANU_GRID = 8,             /* grid is out of range or does not divide field; 0 */
-    HEQDANU_OUTSIDE = 9,          /* a shot leaves the field; the first such shot, counted from 0 */
-    HEQDANU_WORK_SHORT = 10,      /* the work slice is too short; the entries needed */
-    HEQDANU_LISTING_SHORT = 11,   /* the listing is shorter than 7 times the corner count; the corners */
-    HEQDANU_BYTES_SHORT = 12      /* the byte buffer is shorter than the file; the bytes needed */
+    HEQDANU_CUT_SHORT = 5,        /* the file ends inside a record, or is empty; that record's map's offset, 0 if empty */
+    HEQDANU_FIELD_RANGE = 6,      /* field is out of range; 0 */
+    HEQDANU_EDGE_RANGE = 7,       /* edge is out of range; 0 */
+    HEQDANU_GRID_RANGE = 8,       /* grid is out of range or does not divide field; 0 */
+    HEQDANU_OUTSIDE_FIELD = 9,    /* a shot leaves the field; the first such shot, counted from 0 */
+    HEQDANU_SHORT_WORK = 10,      /* the work slice is too short; the entries needed */
+    HEQDANU_SHORT_LISTING = 11,   /* the listing is shorter than 7 times the corner count; the corners */
+    HEQDANU_SHORT_FILE = 12       /* the byte buffer is shorter than the file; the bytes needed */
 };
 
-/* Places of `answer` that the calls need: all calls but heqdanu_write, and heqdanu_write. */
+/* Places of `answer` that the calls need: heqdanu_index, heqdanu_write, and all others. */
 #define HEQDANU_ANSWER 6
+#define HEQDANU_INDEX_ANSWER 2
 #define HEQDANU_WRITE_ANSWER 3
 
 /* Bytes of a listing's record: x, y, z in 16 bits each, least byte first, then the pattern byte. */
@@ -101,6 +102,15 @@ uint8_t heqdanu_list(uint16_t field, uint16_t edge, uint16_t grid, const uint16_
  * hundred. Same arguments, answer, refusals and buffers as heqdanu_measure. */
 uint8_t heqdanu_recount(uint16_t field, uint16_t edge, uint16_t grid, const uint16_t *coords, size_t ncoords,
                         uint32_t *work, size_t nwork, uint64_t *answer, size_t nanswer);
+
+/* Builds the grid index of a list and measures nothing.
+ *
+ * answer: number, detail (HEQDANU_INDEX_ANSWER places).
+ *
+ * Same arguments, refusals and work slice as heqdanu_measure.
+ */
+uint8_t heqdanu_index(uint16_t field, uint16_t edge, uint16_t grid, const uint16_t *coords, size_t ncoords,
+                      uint32_t *work, size_t nwork, uint64_t *answer, size_t nanswer);
 
 /* Reads a shot file.
  *

@@ -68,6 +68,15 @@ extern "C" uint8_t heqdanu_recount(uint16_t field, uint16_t edge, uint16_t grid,
     return measure({field, edge, grid, coords, ncoords}, work, nwork, answer, nanswer);
 }
 
+extern "C" uint8_t heqdanu_index(uint16_t field, uint16_t edge, uint16_t grid, const uint16_t *coords, size_t ncoords,
+                                 uint32_t *work, size_t nwork, uint64_t *answer, size_t nanswer) {
+    if (nanswer < HEQDANU_INDEX_ANSWER) return 0;
+    oracle::List list = {field, edge, grid, coords, ncoords};
+    oracle::Refusal refusal = check(list, nwork);
+    if (refusal.number == 0 && (FAULT != 13 || list.shots() > 1)) put_index(list, work, nwork);
+    return answered(answer, {refusal.number, refusal.detail});
+}
+
 extern "C" uint8_t heqdanu_list(uint16_t field, uint16_t edge, uint16_t grid, const uint16_t *coords, size_t ncoords,
                                 uint32_t *work, size_t nwork, uint8_t *listing, size_t nlisting, uint64_t *answer,
                                 size_t nanswer) {

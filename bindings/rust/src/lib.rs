@@ -2,8 +2,8 @@
 //! whole-number lattice, and the shot files that hold such lists.
 //!
 //! The work is done by the proved library `libcapi.a`; this crate turns its calls into safe functions. [`measure`],
-//! [`list`], [`recount`], [`read`] and [`write`] use buffers that the caller lends and allocate nothing; [`quote`],
-//! [`corners`], [`from_file`] and [`to_file`] allocate what they need.
+//! [`list`], [`recount`], [`index`], [`read`] and [`write`] use buffers that the caller lends and allocate nothing;
+//! [`quote`], [`corners`], [`from_file`] and [`to_file`] allocate what they need.
 //!
 //! ```
 //! use heqdanu::{quote, List, Totals};
@@ -86,7 +86,7 @@ pub fn measure(list: &List, work: &mut [u32]) -> Result<Totals, Refusal> {
 }
 
 /// Measures a list and stores its corner points, [`RECORD`] bytes each, in the first bytes of `listing`. Success and
-/// [`Reason::ListingShort`] leave the grid index in the first entries of `work`; nothing else changes.
+/// [`Reason::ShortListing`] leave the grid index in the first entries of `work`; nothing else changes.
 pub fn list(list: &List, work: &mut [u32], listing: &mut [u8]) -> Result<Totals, Refusal> {
     let mut answer = [0; 6];
     // SAFETY: each pointer comes from a slice with the length beside it, and no two of them overlap.
@@ -113,9 +113,23 @@ pub fn recount(list: &List, work: &mut [u32]) -> Result<Totals, Refusal> {
     measure_by(raw::heqdanu_recount, list, work)
 }
 
+/// Leaves the grid index of a list in the first entries of `work` and measures nothing; nothing else changes. The same
+/// refusals as [`measure`].
+pub fn index(list: &List, work: &mut [u32]) -> Result<(), Refusal> {
+    let (written, [number, detail]) = answer_of(raw::heqdanu_index, list, work);
+    numbers(written, [number, detail, 0, 0, 0, 0])?;
+    Ok(())
+}
+
 /// Measures a list by one of the calls that do.
-fn measure_by(call: raw::Measuring, list: &List, work: &mut [u32]) -> Result<Totals, Refusal> {
-    let mut answer = [0; 6];
+fn measure_by(call: raw::Indexing, list: &List, work: &mut [u32]) -> Result<Totals, Refusal> {
+    let (written, answer) = answer_of(call, list, work);
+    totals(written, answer)
+}
+
+/// What a call on a list and a work slice answers in so many places.
+fn answer_of<const N: usize>(call: raw::Indexing, list: &List, work: &mut [u32]) -> (u8, [u64; N]) {
+    let mut answer = [0; N];
     // SAFETY: each pointer comes from a slice with the length beside it, and no two of them overlap.
     let written = unsafe {
         call(
@@ -130,7 +144,7 @@ fn measure_by(call: raw::Measuring, list: &List, work: &mut [u32]) -> Result<Tot
             answer.len(),
         )
     };
-    totals(written, answer)
+    (written, answer)
 }
 
 /// Reads a shot file. Success stores the shots in the first places of `coords`; nothing else changes. Ranges are not
@@ -178,7 +192,7 @@ pub fn write(list: &List, bytes: &mut [u8]) -> Result<usize, Refusal> {
 /// The work entries that a list needs.
 pub fn work_needed(list: &List) -> Result<usize, Refusal> {
     match measure(list, &mut []) {
-        Err(Refusal { reason: Reason::WorkShort, detail }) => Ok(detail as usize),
+        Err(Refusal { reason: Reason::ShortWork, detail }) => Ok(detail as usize),
         Err(refusal) => Err(refusal),
         Ok(_) => unreachable!("an index has at least two entries"),
     }

@@ -1,8 +1,8 @@
 //! The calls as the archive has them. `include/heqdanu.h` says what each does with its buffers.
 
-/// `heqdanu_measure`, or `heqdanu_recount`, which has the same promises.
-pub type Measuring =
-    unsafe extern "C" fn(u16, u16, u16, *const u16, usize, *mut u32, usize, *mut u64, usize) -> u8;
+/// The calls that take a list and leave its index in a work slice: `heqdanu_measure`, `heqdanu_recount` and
+/// `heqdanu_index`.
+pub type Indexing = unsafe extern "C" fn(u16, u16, u16, *const u16, usize, *mut u32, usize, *mut u64, usize) -> u8;
 
 #[allow(missing_docs)]
 extern "C" {
@@ -33,6 +33,18 @@ extern "C" {
     ) -> u8;
 
     pub fn heqdanu_recount(
+        field: u16,
+        edge: u16,
+        grid: u16,
+        coords: *const u16,
+        ncoords: usize,
+        work: *mut u32,
+        nwork: usize,
+        answer: *mut u64,
+        nanswer: usize,
+    ) -> u8;
+
+    pub fn heqdanu_index(
         field: u16,
         edge: u16,
         grid: u16,

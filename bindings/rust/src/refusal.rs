@@ -7,45 +7,45 @@ use std::fmt;
 #[derive(Clone, Copy, Debug, PartialEq, Eq, Hash, PartialOrd, Ord)]
 pub enum Reason {
     /// 1: the coordinates' count is not a multiple of three.
-    NotThrees = 1,
+    BrokenShot = 1,
     /// 2: more than 4,096 shots. The reader's detail is the offset of the map of the first shot too many.
     TooManyShots,
     /// 3: the coordinate slice lacks three places for the shot that begins; the offset of its map.
-    NoPlaces,
+    NoPlace,
     /// 4: a map has a bit that has no meaning; the offset of the map.
     UnknownBit,
     /// 5: the file ends inside a record or is empty; the offset of the record's map.
-    CutFile,
+    CutShort,
     /// 6: the field side is outside 1 to 1,024.
-    Field,
+    FieldRange,
     /// 7: the shot edge is outside 1 to the field side.
-    Edge,
+    EdgeRange,
     /// 8: the grid size is outside 1 to 64 or does not divide the field side.
-    Grid,
+    GridRange,
     /// 9: a shot leaves the field; the first such shot, from 0.
-    Outside,
+    OutsideField,
     /// 10: the work slice is too short; the entries needed.
-    WorkShort,
+    ShortWork,
     /// 11: the listing is too short; the corners.
-    ListingShort,
+    ShortListing,
     /// 12: the byte buffer is shorter than the file; the bytes needed.
-    BytesShort,
+    ShortFile,
 }
 
 impl Reason {
     const ALL: [Reason; 12] = [
-        Reason::NotThrees,
+        Reason::BrokenShot,
         Reason::TooManyShots,
-        Reason::NoPlaces,
+        Reason::NoPlace,
         Reason::UnknownBit,
-        Reason::CutFile,
-        Reason::Field,
-        Reason::Edge,
-        Reason::Grid,
-        Reason::Outside,
-        Reason::WorkShort,
-        Reason::ListingShort,
-        Reason::BytesShort,
+        Reason::CutShort,
+        Reason::FieldRange,
+        Reason::EdgeRange,
+        Reason::GridRange,
+        Reason::OutsideField,
+        Reason::ShortWork,
+        Reason::ShortListing,
+        Reason::ShortFile,
     ];
 
     /// The refusal's number, 1 to 12.
@@ -55,18 +55,18 @@ impl Reason {
 
     fn words(self) -> &'static str {
         match self {
-            Reason::NotThrees => "the coordinates' count is not a multiple of three",
+            Reason::BrokenShot => "the coordinates' count is not a multiple of three",
             Reason::TooManyShots => "there are more than 4,096 shots",
-            Reason::NoPlaces => "the coordinate slice has no three places left for the shot that begins at byte",
+            Reason::NoPlace => "the coordinate slice has no three places left for the shot that begins at byte",
             Reason::UnknownBit => "a bit without meaning stands in the map at byte",
-            Reason::CutFile => "the file ends within the record at byte",
-            Reason::Field => "the field side is outside 1 to 1,024",
-            Reason::Edge => "the shot edge is outside 1 to the field side",
-            Reason::Grid => "the grid size is outside 1 to 64 or does not divide the field side",
-            Reason::Outside => "a shot leaves the field, the first one being shot",
-            Reason::WorkShort => "the work slice is too short, the entries needed being",
-            Reason::ListingShort => "the listing is too short, the corners being",
-            Reason::BytesShort => "the byte buffer is too short, the bytes needed being",
+            Reason::CutShort => "the file ends within the record at byte",
+            Reason::FieldRange => "the field side is outside 1 to 1,024",
+            Reason::EdgeRange => "the shot edge is outside 1 to the field side",
+            Reason::GridRange => "the grid size is outside 1 to 64 or does not divide the field side",
+            Reason::OutsideField => "a shot leaves the field, the first one being shot",
+            Reason::ShortWork => "the work slice is too short, the entries needed being",
+            Reason::ShortListing => "the listing is too short, the corners being",
+            Reason::ShortFile => "the byte buffer is too short, the bytes needed being",
         }
     }
 }
@@ -93,7 +93,7 @@ impl fmt::Display for Refusal {
     fn fmt(&self, f: &mut fmt::Formatter<'_>) -> fmt::Result {
         f.write_str(self.reason.words())?;
         match self.reason {
-            Reason::NotThrees | Reason::TooManyShots | Reason::Field | Reason::Edge | Reason::Grid => Ok(()),
+            Reason::BrokenShot | Reason::TooManyShots | Reason::FieldRange | Reason::EdgeRange | Reason::GridRange => Ok(()),
             _ => write!(f, " {}", self.detail),
         }
     }

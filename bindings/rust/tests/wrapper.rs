@@ -1,8 +1,8 @@
 //! The wrapper on the request's examples: totals, corners, files, and each refusal that a caller can meet.
 
 use heqdanu::{
-    corners, from_file, list, measure, quote, read, recount, to_file, work_needed, write, Corner, Header, List, Reason,
-    Refusal, Totals,
+    corners, from_file, index, list, measure, quote, read, recount, to_file, work_needed, write, Corner, Header, List,
+    Reason, Refusal, Totals,
 };
 
 const TWO: List = List { field: 8, edge: 2, grid: 2, coords: &[0, 0, 0, 1, 1, 1] };
@@ -48,33 +48,38 @@ fn the_index_stays_in_the_work_slice() {
     let mut work = [5; 11];
     assert_eq!(measure(&one, &mut work).unwrap().volume, 8);
     assert_eq!(work, [0, 1, 1, 1, 1, 1, 1, 1, 1, 0, 5]);
+    let mut work = [5; 11];
+    assert_eq!(index(&one, &mut work), Ok(()));
+    assert_eq!(work, [0, 1, 1, 1, 1, 1, 1, 1, 1, 0, 5]);
     let (mut work, mut listing) = ([5; 11], [9; 55]);
-    assert_eq!(list(&one, &mut work, &mut listing), refused(Reason::ListingShort, 8));
+    assert_eq!(list(&one, &mut work, &mut listing), refused(Reason::ShortListing, 8));
     assert_eq!((work, listing), ([0, 1, 1, 1, 1, 1, 1, 1, 1, 0, 5], [9; 55]));
 }
 
 #[test]
 fn refusals() {
-    assert_eq!(quote(&List { coords: &[1, 2], ..TWO }), refused(Reason::NotThrees, 0));
+    assert_eq!(quote(&List { coords: &[1, 2], ..TWO }), refused(Reason::BrokenShot, 0));
     assert_eq!(quote(&List { coords: &[0; 12_291], ..TWO }), refused(Reason::TooManyShots, 0));
-    assert_eq!(quote(&List { field: 1025, ..TWO }), refused(Reason::Field, 0));
-    assert_eq!(quote(&List { edge: 9, ..TWO }), refused(Reason::Edge, 0));
-    assert_eq!(quote(&List { grid: 3, ..TWO }), refused(Reason::Grid, 0));
-    assert_eq!(quote(&List { coords: &[6, 6, 6, 7, 6, 6], ..TWO }), refused(Reason::Outside, 1));
-    assert_eq!(measure(&List { coords: &[2, 2, 2], ..TWO }, &mut [0; 16]), refused(Reason::WorkShort, 17));
+    assert_eq!(quote(&List { field: 1025, ..TWO }), refused(Reason::FieldRange, 0));
+    assert_eq!(quote(&List { edge: 9, ..TWO }), refused(Reason::EdgeRange, 0));
+    assert_eq!(quote(&List { grid: 3, ..TWO }), refused(Reason::GridRange, 0));
+    assert_eq!(quote(&List { coords: &[6, 6, 6, 7, 6, 6], ..TWO }), refused(Reason::OutsideField, 1));
+    assert_eq!(measure(&List { coords: &[2, 2, 2], ..TWO }, &mut [0; 16]), refused(Reason::ShortWork, 17));
+    assert_eq!(index(&List { coords: &[2, 2, 2], ..TWO }, &mut [0; 16]), refused(Reason::ShortWork, 17));
+    assert_eq!(index(&List { coords: &[6, 6, 7], ..TWO }, &mut []), refused(Reason::OutsideField, 0));
     assert_eq!(work_needed(&TWO), Ok(11));
-    assert_eq!(write(&TWO, &mut [0; 14]), refused(Reason::BytesShort, 15));
-    assert_eq!(read(&[0, 0], &mut [0; 2]), refused(Reason::NoPlaces, 1));
+    assert_eq!(write(&TWO, &mut [0; 14]), refused(Reason::ShortFile, 15));
+    assert_eq!(read(&[0, 0], &mut [0; 2]), refused(Reason::NoPlace, 1));
     assert_eq!(read(&[0, 8], &mut [0; 3]), refused(Reason::UnknownBit, 1));
-    assert_eq!(read(&[], &mut []), refused(Reason::CutFile, 0));
+    assert_eq!(read(&[], &mut []), refused(Reason::CutShort, 0));
     assert_eq!(read(&[0; 4098], &mut [0; 20_000]), refused(Reason::TooManyShots, 4097));
 }
 
 #[test]
 fn a_refusal_in_words() {
-    let refusal = Refusal { reason: Reason::WorkShort, detail: 17 };
+    let refusal = Refusal { reason: Reason::ShortWork, detail: 17 };
     assert_eq!(refusal.to_string(), "the work slice is too short, the entries needed being 17");
     assert_eq!(refusal.reason.number(), 10);
-    let refusal = Refusal { reason: Reason::Grid, detail: 0 };
+    let refusal = Refusal { reason: Reason::GridRange, detail: 0 };
     assert!(refusal.to_string().ends_with("does not divide the field side"));
 }

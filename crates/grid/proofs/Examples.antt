@@ -1,6 +1,6 @@
 -- Needs that document 01 names: field 8, edge 2, grid 2.
 use mathlib.Core.Path.{_≡_, refl}
-use mathlib.Core.List.{List, [], _∷_}
+use mathlib.Core.List.{[], _∷_}
 use Rattle.lattice.specs.Sums.{total}
 use Rattle.grid.specs.Grid.{meets, pairs, need}
 

@@ -7,15 +7,15 @@ use native.Mathlib.Nat.{le-div-iff-mul-le, div-lt-iff-lt-mul, mul-le-mul, mul-po
 use native.Mathlib.Numerals.{add-one}
 use native.Mathlib.Omega.{arith}
 use lib.Dec.{leb, ltb}
-use lib.ListN.{getD}
 use borrow.Author.Tests.{le-leb, leb-true, leb-false}
 use Rattle.lattice.specs.Sums.{total}
 use Rattle.lattice.specs.Cells.{bit}
-use Rattle.job.specs.Job.{shotAt, Valid}
-use Rattle.grid.specs.Grid.{meets, touchesCell, shotCount, spanOf, pairsOf, pairs, need}
+use Rattle.lattice.specs.Shots.{Shot}
+use Rattle.job.specs.Job.{shotCount, shotAt, Valid}
+use Rattle.grid.specs.Grid.{meets, touches, touchesCell, spanOf, pairsOf, pairs, need}
 use Rattle.grid.proofs.TotalLaws.{total-agree, total-most, total-swap, total-digits, total-triples, count-inside, count-past}
-use Rattle.grid.proofs.CellLaws.{digit-high, digit-low, cube-most}
-use Rattle.grid.proofs.ShotLaws.{in-field-at, width-times, width-least}
+use Rattle.grid.proofs.CellLaws.{digit-high, digit-low}
+use Rattle.grid.proofs.ShotLaws.{width-times, width-least}
 
 -- ---- how many intervals a span meets
 
@@ -29,13 +29,13 @@ leb-alike a b c d f g = one (leb a b) (leb c d) refl refl
 
 module _ (s c e : ℕ) (h : 1 ≤ s) where
   -- the interval after the last one that a span meets, and the first one
-  abbrev pub lastAfter : ℕ
+  abbrev lastAfter : ℕ
   lastAfter = (c + e) / s + 1
 
-  abbrev pub firstMet : ℕ
+  abbrev firstMet : ℕ
   firstMet = (c - 1) / s
 
-  pub meets-from : (g : ℕ) → meets s g c e ≡ (ltb g lastAfter && leb firstMet g)
+  meets-from : (g : ℕ) → meets s g c e ≡ (ltb g lastAfter && leb firstMet g)
   unfolding meets
   meets-from g =
       rw (leb-alike (g * s) (c + e) (suc g) ((c + e) / s + 1) (λ l. omega (arith, le-div-iff-mul-le {k = s} {x = g} {y = c + e} h .1 l)) (λ l. le-div-iff-mul-le {k = s} {x = g} {y = c + e} h .0 (omega arith)))
@@ -70,7 +70,7 @@ first-of-none s c h e = rw e (sym (div-eq-of-lt {n = 0} {m = s} h))
 
 -- ---- the grid cells that a shot belongs to
 
-pub span-most : (G s c e : ℕ) → spanOf G s c e ≤ G
+span-most : (G s c e : ℕ) → spanOf G s c e ≤ G
 span-most G s c e = omega (arith, total-most G 1 (λ g. bit (meets s g c e)) (λ g l. bit-most (meets s g c e)), mul-one G)
   where
     bit-most : (b : Bool) → bit b ≤ 1
@@ -78,36 +78,39 @@ span-most G s c e = omega (arith, total-most G 1 (λ g. bit (meets s g c e)) (λ
     bit-most false = omega arith
 
 -- three spans of at most 64
-pub product-most : (a b c G : ℕ) → G ≤ 64 → a ≤ G → b ≤ G → c ≤ G → a * b * c ≤ 262144
-product-most a b c G h i j k = mul-le-mul {n₁ = a * b} {m₁ = c} {n₂ = 4096} {m₂ = 64} (mul-le-mul {n₁ = a} {m₁ = b} {n₂ = 64} {m₂ = 64} (omega arith) (omega arith)) (omega arith)
+pub square-few : (a b : ℕ) → a ≤ 64 → b ≤ 64 → a * b ≤ 4096
+square-few a b h i = mul-le-mul {n₁ = a} {m₁ = b} {n₂ = 64} {m₂ = 64} h i
 
-pub square-of-most : (a b G : ℕ) → G ≤ 64 → a ≤ G → b ≤ G → a * b ≤ 4096
-square-of-most a b G h i j = mul-le-mul {n₁ = a} {m₁ = b} {n₂ = 64} {m₂ = 64} (omega arith) (omega arith)
+pub product-few : (a b c : ℕ) → a ≤ 64 → b ≤ 64 → c ≤ 64 → a * b * c ≤ 262144
+product-few a b c h i j = mul-le-mul {n₁ = a * b} {m₁ = c} {n₂ = 4096} {m₂ = 64} (square-few a b h i) j
+
+-- a span found from a coordinate and an edge that are known
+pub span-alike : (G s : ℕ) {r c c' e e' : ℕ} → r ≡ spanOf G s c e → c ≡ c' → e ≡ e' → r ≡ spanOf G s c' e'
+span-alike G s a h k = rw (← h, ← k) a
+
+pub span-few : (G s c e : ℕ) → G ≤ 64 → {r : ℕ} → r ≡ spanOf G s c e → r ≤ 64
+span-few G s c e h a = omega (arith, a, span-most G s c e)
+
+pairs-product : (F G : ℕ) (t : Shot) → spanOf G (F / G) (t .x) (t .edge) * spanOf G (F / G) (t .y) (t .edge) * spanOf G (F / G) (t .z) (t .edge) ≡ (total (G * G * G) λ cell. bit (touchesCell F G cell t))
+pairs-product F G t =
+    sym (total-digits (G * G) G _
+    ∙ (total-digits G G _
+    ∙ (total-agree G _ _ (λ gx hx. total-agree G _ _ (λ gy hy. total-agree G _ _ (λ gz hz. by-place gx gy gz hy hz)))
+    ∙ total-triples G (λ g. meets (F / G) g (t .x) (t .edge)) (λ g. meets (F / G) g (t .y) (t .edge)) (λ g. meets (F / G) g (t .z) (t .edge)))))
+  where
+    by-place : (gx gy gz : ℕ) → gy < G → gz < G → bit (touchesCell F G ((gx * G + gy) * G + gz) t) ≡ bit (touches (F / G) gx gy gz t)
+    by-place gx gy gz hy hz = rw (digit-high G (gx * G + gy) gz hz, digit-low G (gx * G + gy) gz hz, digit-high G gx gy hy, digit-low G gx gy hy)
+
+pub pairs-of-spans : (F G : ℕ) (t : Shot) {a b c : ℕ} → a ≡ spanOf G (F / G) (t .x) (t .edge) → b ≡ spanOf G (F / G) (t .y) (t .edge) → c ≡ spanOf G (F / G) (t .z) (t .edge) → a * b * c ≡ (total (G * G * G) λ cell. bit (touchesCell F G cell t))
+pairs-of-spans F G t x y z = rw (x, y, z) (pairs-product F G t)
+
+-- a span that stays in the field of a valid list stays in its intervals
+pub span-in : {F E G : ℕ} {coords : List ℕ} → Valid F E G coords → (c e : ℕ) → c + e ≤ F → (1 ≤ F / G) × (c + e ≤ G * (F / G))
+span-in v c e h = (width-least v, omega (arith, width-times v))
 
 module _ (F E G : ℕ) (coords : List ℕ) where
-  pub pairs-product : (i : ℕ) → spanOf G (F / G) (getD coords (3 * i) 0) E * spanOf G (F / G) (getD coords (3 * i + 1) 0) E * spanOf G (F / G) (getD coords (3 * i + 2) 0) E ≡ pairsOf F E G coords i
-  pairs-product i =
-      sym (total-digits (G * G) G _
-      ∙ (total-digits G G _
-      ∙ (total-agree G _ _ (λ gx hx. total-agree G _ _ (λ gy hy. total-agree G _ _ (λ gz hz. by-place gx gy gz hy hz)))
-      ∙ total-triples G (λ g. meets (F / G) g (getD coords (3 * i) 0) E) (λ g. meets (F / G) g (getD coords (3 * i + 1) 0) E) (λ g. meets (F / G) g (getD coords (3 * i + 2) 0) E))))
-    where
-      by-place : (gx gy gz : ℕ) → gy < G → gz < G → bit (touchesCell F G ((gx * G + gy) * G + gz) (shotAt E coords i)) ≡ bit (meets (F / G) gx (getD coords (3 * i) 0) E && (meets (F / G) gy (getD coords (3 * i + 1) 0) E && meets (F / G) gz (getD coords (3 * i + 2) 0) E))
-      by-place gx gy gz hy hz = rw (digit-high G (gx * G + gy) gz hz, digit-low G (gx * G + gy) gz hz, digit-high G gx gy hy, digit-low G gx gy hy)
-
-  -- the spans of a shot stay in the field
-  module _ (v : Valid F E G coords) (i : ℕ) (h : i < shotCount coords) where
-    pub in-width-x : (1 ≤ F / G) × (getD coords (3 * i) 0 + E ≤ G * (F / G))
-    in-width-x = (width-least v, omega (arith, width-times v, in-field-at F E coords (v .inside) i h .x-in))
-
-    pub in-width-y : (1 ≤ F / G) × (getD coords (3 * i + 1) 0 + E ≤ G * (F / G))
-    in-width-y = (width-least v, omega (arith, width-times v, in-field-at F E coords (v .inside) i h .y-in))
-
-    pub in-width-z : (1 ≤ F / G) × (getD coords (3 * i + 2) 0 + E ≤ G * (F / G))
-    in-width-z = (width-least v, omega (arith, width-times v, in-field-at F E coords (v .inside) i h .z-in))
-
   -- the pairs counted by shots are the pairs counted by grid cells
-  pub pairs-by-shots : total (shotCount coords) (pairsOf F E G coords) ≡ pairs F E G coords
+  pairs-by-shots : total (shotCount coords) (pairsOf F E G coords) ≡ pairs F E G coords
   unfolding pairs
   pairs-by-shots = total-swap (shotCount coords) (G * G * G) (λ i cell. bit (touchesCell F G cell (shotAt E coords i)))
 
@@ -120,14 +123,14 @@ module _ (F E G : ℕ) (coords : List ℕ) where
   pairs-next n e e' = rw (add-one n, e, e')
 
   pub pairs-few : G ≤ 64 → (n : ℕ) → total n (pairsOf F E G coords) ≤ n * 262144
-  pairs-few h n = total-most n 262144 (pairsOf F E G coords) λ i l.
-      omega (arith, pairs-product i, product-most (spanOf G (F / G) (getD coords (3 * i) 0) E) (spanOf G (F / G) (getD coords (3 * i + 1) 0) E) (spanOf G (F / G) (getD coords (3 * i + 2) 0) E) G h (span-most G (F / G) (getD coords (3 * i) 0) E) (span-most G (F / G) (getD coords (3 * i + 1) 0) E) (span-most G (F / G) (getD coords (3 * i + 2) 0) E))
+  pairs-few h n = total-most n 262144 (pairsOf F E G coords) λ i l. rw (← pairs-product F G (shotAt E coords i)) (few (shotAt E coords i))
+    where
+      few : (t : Shot) → spanOf G (F / G) (t .x) (t .edge) * spanOf G (F / G) (t .y) (t .edge) * spanOf G (F / G) (t .z) (t .edge) ≤ 262144
+      few t = product-few _ _ _ (one (t .x) (t .edge)) (one (t .y) (t .edge)) (one (t .z) (t .edge))
+        where
+          one : (c e : ℕ) → spanOf G (F / G) c e ≤ 64
+          one c e = omega (arith, span-most G (F / G) c e)
 
   pub need-by-shots : {cells a : ℕ} (n : ℕ) → n ≡ shotCount coords → cells ≡ G * G * G → a ≡ total n (pairsOf F E G coords) → cells + 1 + a ≡ need F E G coords
   unfolding need
   need-by-shots n e c p = rw (c, p, e, pairs-by-shots)
-
--- largest need
-pub need-most : (F E G : ℕ) (coords : List ℕ) → Valid F E G coords → need F E G coords ≤ 1074003969
-unfolding need
-need-most F E G coords v = omega (arith, pairs-by-shots F E G coords, pairs-few F E G coords (v .grid-most) (shotCount coords), v .few, cube-most G (v .grid-most))

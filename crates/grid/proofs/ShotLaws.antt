@@ -1,36 +1,13 @@
--- The shots of a list by their numbers, and the intervals that a shot of a valid list meets.
+-- The lowest interval that a span meets, and the width of the intervals of a valid list.
 use mathlib.Core.Path.{_≡_}
 use mathlib.Core.Bool.{true}
-use mathlib.Core.List.{List, [], _∷_}
+use mathlib.Core.List.{List}
 use Prim.Native.Nat.{ℕ, zero, suc, _+_, _-_, _*_, _/_, _≤_, _<_}
 use native.Mathlib.Nat.{div-add-mod, div-mul-le-self, lt-div-mul-add, div-lt-iff-lt-mul, add-mul, one-mul, mul-zero, mul-pos}
 use native.Mathlib.Omega.{arith}
-use lib.ListN.{getD}
 use borrow.Author.Tests.{le-leb}
-use Rattle.lattice.specs.Shots.{InField, AllInField}
-use Rattle.job.specs.Job.{shotsOf, shotAt, Valid}
-use Rattle.grid.specs.Grid.{meets, shotCount}
-
--- ---- by number
-
--- shot number i + 1 is number i behind the first
-pub shot-next : (e x y z : ℕ) (rest : List ℕ) (i : ℕ) → shotAt e (x ∷ y ∷ z ∷ rest) (suc i) ≡ shotAt e rest i
-shot-next e x y z rest i =
-    let a : getD (x ∷ y ∷ z ∷ rest) (3 * suc i) 0 ≡ getD rest (3 * i) 0 = rw (three (3 * i) (3 * suc i) (omega arith)) in
-    let b : getD (x ∷ y ∷ z ∷ rest) (3 * suc i + 1) 0 ≡ getD rest (3 * i + 1) 0 = rw (three (3 * i + 1) (3 * suc i + 1) (omega arith)) in
-    let c : getD (x ∷ y ∷ z ∷ rest) (3 * suc i + 2) 0 ≡ getD rest (3 * i + 2) 0 = rw (three (3 * i + 2) (3 * suc i + 2) (omega arith)) in
-    rw (a, b, c)
-  where
-    three : (n m : ℕ) → m ≡ n + 3 → m ≡ suc (suc (suc n))
-    three n m h = omega arith
-
-pub in-field-at : (n e : ℕ) (coords : List ℕ) → AllInField n (shotsOf e coords) → (i : ℕ) → i < shotCount coords → InField n (shotAt e coords i)
-unfolding shotsOf
-in-field-at n e [] h i l = absurd (omega arith)
-in-field-at n e (x ∷ []) h i l = absurd (omega arith)
-in-field-at n e (x ∷ y ∷ []) h i l = absurd (omega arith)
-in-field-at n e (x ∷ y ∷ z ∷ rest) h zero l = h .0
-in-field-at n e (x ∷ y ∷ z ∷ rest) h (suc i) l = rw (shot-next e x y z rest i) (in-field-at n e rest (h .1) i (omega arith))
+use Rattle.job.specs.Job.{Valid}
+use Rattle.grid.specs.Grid.{meets}
 
 -- ---- the lowest interval that a span meets
 

@@ -3,14 +3,14 @@
 use mathlib.Core.Path.{_≡_}
 use mathlib.Core.Bool.{Bool, _&&_}
 use mathlib.Core.List.{List, [], _∷_, _++_}
-use Prim.Native.Nat.{ℕ, _+_, _-_, _*_, _/_, _%_, _≤_}
+use Prim.Native.Nat.{ℕ, zero, suc, _+_, _-_, _*_, _/_, _%_, _≤_}
 use lib.Dec.{leb}
 use lib.ListN.{length, getD, take, drop}
-use Rattle.lattice.specs.Sums.{total}
+use Rattle.lattice.specs.Sums.{total, join}
 use Rattle.lattice.specs.Cells.{bit}
 use Rattle.lattice.specs.Shots.{Shot}
-use Rattle.job.specs.Job.{shotAt}
-use Rattle.grid.specs.Numbers.{upTo, keep, joined}
+use Rattle.job.specs.Job.{shotCount, xAt, yAt, zAt, edgeAt, shotAt}
+use Rattle.grid.specs.Numbers.{upTo, those}
 
 -- interval g of width s, with both its ends, shares a point with the e units from c, with both their ends
 unfoldable pub meets : ℕ → ℕ → ℕ → ℕ → Bool
@@ -24,16 +24,19 @@ touches s gx gy gz t = meets s gx (t .x) (t .edge) && (meets s gy (t .y) (t .edg
 abbrev pub touchesCell : ℕ → ℕ → ℕ → Shot → Bool
 touchesCell F G cell t = touches (F / G) (cell / G / G) (cell / G % G) (cell % G) t
 
-abbrev pub shotCount : List ℕ → ℕ
-shotCount coords = length coords / 3
-
 -- the shots that pass a test, by their numbers, rising
 abbrev pub shotsThat : (Shot → Bool) → ℕ → List ℕ → List ℕ
-shotsThat f E coords = keep (λ i. f (shotAt E coords i)) (upTo (shotCount coords))
+shotsThat f E coords = those (λ i. f (shotAt E coords i)) (upTo (shotCount coords))
 
--- shot number i meets interval g of an axis: 0 is x, 1 is y, 2 is z
+-- the coordinate of shot number i on an axis: 0 is x, 1 is y, 2 is z
+abbrev pub onAxis : ℕ → List ℕ → ℕ → ℕ
+onAxis zero coords i = xAt coords i
+onAxis (suc zero) coords i = yAt coords i
+onAxis (suc (suc n)) coords i = zAt coords i
+
+-- shot number i meets interval g of an axis
 abbrev pub meetsOn : ℕ → ℕ → ℕ → ℕ → List ℕ → ℕ → Bool
-meetsOn axis s g E coords i = meets s g (getD coords (3 * i + axis) 0) E
+meetsOn axis s g E coords i = meets s g (onAxis axis coords i) (edgeAt E coords i)
 
 -- the run of a grid cell: the shots that belong to it
 unfoldable pub runOf : ℕ → ℕ → ℕ → List ℕ → ℕ → List ℕ
@@ -41,11 +44,11 @@ runOf F E G coords cell = shotsThat (touchesCell F G cell) E coords
 
 -- where the first n runs of a series start, counted from the first run entry
 unfoldable pub starts : (ℕ → List ℕ) → ℕ → List ℕ
-starts run n = joined n λ cell. length (joined cell run) ∷ []
+starts run n = join n λ cell. length (join cell run) ∷ []
 
 -- the starting places of the runs, the last being the number of pairs; then the runs
 unfoldable pub indexOf : ℕ → ℕ → ℕ → List ℕ → List ℕ
-indexOf F E G coords = starts (runOf F E G coords) (G * G * G + 1) ++ joined (G * G * G) (runOf F E G coords)
+indexOf F E G coords = starts (runOf F E G coords) (G * G * G + 1) ++ join (G * G * G) (runOf F E G coords)
 
 -- pairs of a grid cell and a shot that belongs to it
 unfoldable pub pairs : ℕ → ℕ → ℕ → List ℕ → ℕ
@@ -54,6 +57,10 @@ pairs F E G coords = total (G * G * G) λ cell. total (shotCount coords) λ i. b
 -- the entries that the index needs
 unfoldable pub need : ℕ → ℕ → ℕ → List ℕ → ℕ
 need F E G coords = G * G * G + 1 + pairs F E G coords
+
+-- a slice with the index at its front: the entries past the index keep their values
+abbrev pub withIndex : ℕ → ℕ → ℕ → List ℕ → List ℕ → List ℕ
+withIndex F E G coords work = indexOf F E G coords ++ drop (need F E G coords) work
 
 -- how many of the G intervals of width s a span meets
 abbrev pub spanOf : ℕ → ℕ → ℕ → ℕ → ℕ

@@ -1,7 +1,7 @@
 -- Lists of numbers made piece by piece: the words of the grid's definitions.
 use mathlib.Core.Bool.{Bool, cond, _||_, false}
 use mathlib.Core.List.{List, [], _∷_, _++_}
-use Prim.Native.Nat.{ℕ, zero, suc}
+use Prim.Native.Nat.{ℕ, zero, suc, _<_}
 use lib.Dec.{eqb}
 
 -- 0, 1, .. n - 1
@@ -9,15 +9,15 @@ unfoldable pub upTo : ℕ → List ℕ
 upTo zero = []
 upTo (suc n) = upTo n ++ n ∷ []
 
--- the numbers that pass a test, in their order
-unfoldable pub keep : (ℕ → Bool) → List ℕ → List ℕ
-keep f [] = []
-keep f (a ∷ l) = cond (f a) (a ∷ keep f l) (keep f l)
+-- those numbers of a list that pass a test, in their order
+unfoldable pub those : (ℕ → Bool) → List ℕ → List ℕ
+those f [] = []
+those f (a ∷ l) = cond (f a) (a ∷ those f l) (those f l)
 
--- f 0, f 1, .. f (n - 1), one after the other
-unfoldable pub joined : ℕ → (ℕ → List ℕ) → List ℕ
-joined zero f = []
-joined (suc n) f = joined n f ++ f n
+-- every number of a list is below n
+unfoldable pub AllBelow : ℕ → List ℕ → Type 0
+AllBelow n [] = Unit {0}
+AllBelow n (a ∷ l) = (a < n) × AllBelow n l
 
 -- whether a number is in a list
 unfoldable pub has : List ℕ → ℕ → Bool

@@ -1,8 +1,9 @@
 // Intervals of an axis: whether a shot meets one, and how many it meets. Document 01, 'The grid index'.
 ghost use mathlib.Core.Path.{_≡_};
-ghost use Prim.Native.Nat.{_+_, _-_, _*_, _/_, _≤_};
-ghost use lib.ListN.{getD};
-ghost use Rattle.grid.specs.Grid.{meets, meetsOn, spanOf};
+ghost use Prim.Native.Nat.{_+_, _-_, _*_, _/_, _≤_, _<_};
+ghost use Rattle.job.specs.Job.{shotCount};
+ghost use Rattle.grid.specs.Grid.{meets, onAxis, meetsOn, spanOf};
+use job::shot;
 
 // The number of grid cells.
 pub fn cells_of(grid: u16) -> usize
@@ -12,14 +13,18 @@ pub fn cells_of(grid: u16) -> usize
     (grid as usize) * (grid as usize) * (grid as usize)
 }
 
-// A coordinate by its place; 0 past the end.
-fn coordinate(coords: &[u16], place: usize) -> u16
-    ensures { λ r. ⌜ r ≡ getD (now (coords .entry)) place 0 ⌝ }
+// The coordinate of a shot on an axis: 0 is x, 1 is y, 2 is z.
+fn on_axis(coords: &[u16], axis: u16, shot: usize) -> u16
+    requires { ⌜ shot < shotCount (now coords) ⌝ }
+    ensures { λ r. ⌜ r ≡ onAxis axis (now (coords .entry)) shot ⌝ }
 {
-    if coords.len() <= place {
-        return 0;
+    if axis == 0 {
+        return shot::x_of(coords, shot);
     }
-    coords[place]
+    if axis == 1 {
+        return shot::y_of(coords, shot);
+    }
+    shot::z_of(coords, shot)
 }
 
 // Whether an interval of an axis shares a point with the edge of a shot, ends included.
@@ -42,10 +47,12 @@ pub fn shot_meets(
     interval: u16,
     shot: u32,
 ) -> bool
+    requires { ⌜ shot < shotCount (now coords) ⌝ }
     ensures { λ r. ⌜ r ≡ meetsOn axis width interval edge (now (coords .entry)) shot ⌝ }
 {
-    let place = 3 * (shot as usize) + (axis as usize);
-    interval_meets(width, interval, coordinate(coords, place), edge)
+    let number = shot as usize;
+    let at = on_axis(coords, axis, number);
+    interval_meets(width, interval, at, shot::edge_of(edge, coords, number))
 }
 
 // The first interval of an axis that a shot from a coordinate on meets.

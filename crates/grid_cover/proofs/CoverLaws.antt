@@ -3,14 +3,15 @@ use mathlib.Core.Path.{_≡_, refl, sym, ap, _∙_}
 use mathlib.Core.Bool.{Bool, true, false, cond, _||_}
 use mathlib.Core.Option.{none, some}
 use mathlib.Core.List.{List, [], _∷_, _++_}
-use Prim.Native.Nat.{ℕ, _+_, _-_, _*_, _/_, _≤_, _<_}
+use Prim.Native.Nat.{ℕ, _+_, _-_, _/_, _≤_, _<_}
 use native.Mathlib.Omega.{arith}
 use lib.Dec.{ltb}
 use lib.ListN.{length, getD, take, drop, take-append-drop, length-drop}
 use lib.Seq.{take-all, length-take-le}
 use borrow.Author.Tests.{le-ltb, lt-ltb, le-leb, lt-leb}
 use Rattle.lattice.specs.Shots.{spans}
-use Rattle.grid_cover.specs.Cover.{shotCovers, first, found, firstCovering, runCovers}
+use Rattle.job.specs.Job.{shotCount, xAt, yAt, zAt, edgeAt}
+use Rattle.grid_cover.specs.Cover.{shotCovers, first, isSome, firstCovering, runCovers}
 
 -- ---- one shot
 
@@ -21,32 +22,34 @@ pub span-if : (e a i : ℕ) → a ≤ i → ltb i (a + e) ≡ spans e a i
 span-if e a i h = rw (le-leb a i h)
 
 module _ (e : ℕ) (coords : List ℕ) (s i j k : ℕ) where
-  pub shot-outside : length coords ≤ 3 * s + 2 → false ≡ shotCovers e coords s i j k
+  pub shot-outside : shotCount coords ≤ s → false ≡ shotCovers e coords s i j k
   unfolding shotCovers
-  shot-outside h = rw (le-ltb s (length coords / 3) (omega arith))
+  shot-outside h = rw (le-ltb s (shotCount coords) h)
 
-  module _ (h : 3 * s + 2 < length coords) where
-    pub shot-not-x : spans e (getD coords (3 * s) 0) i ≡ false → false ≡ shotCovers e coords s i j k
+  -- the coordinates and the edge of a shot, read one by one
+  module _ (h : s < shotCount coords) {edge x : ℕ} (is : edge ≡ edgeAt e coords s) (x-is : x ≡ xAt coords s) where
+    pub shot-not-x : spans edge x i ≡ false → false ≡ shotCovers e coords s i j k
     unfolding shotCovers
-    shot-not-x x = rw (lt-ltb s (length coords / 3) (omega arith), x)
+    shot-not-x p = rw (lt-ltb s (shotCount coords) h, ← is, ← x-is, p)
 
-    pub shot-not-y : spans e (getD coords (3 * s) 0) i ≡ true → spans e (getD coords (3 * s + 1) 0) j ≡ false → false ≡ shotCovers e coords s i j k
-    unfolding shotCovers
-    shot-not-y x y = rw (lt-ltb s (length coords / 3) (omega arith), x, y)
+    module _ {y : ℕ} (y-is : y ≡ yAt coords s) (p : spans edge x i ≡ true) where
+      pub shot-not-y : spans edge y j ≡ false → false ≡ shotCovers e coords s i j k
+      unfolding shotCovers
+      shot-not-y q = rw (lt-ltb s (shotCount coords) h, ← is, ← x-is, ← y-is, p, q)
 
-    pub shot-by-z : spans e (getD coords (3 * s) 0) i ≡ true → spans e (getD coords (3 * s + 1) 0) j ≡ true → spans e (getD coords (3 * s + 2) 0) k ≡ shotCovers e coords s i j k
-    unfolding shotCovers
-    shot-by-z x y = rw (lt-ltb s (length coords / 3) (omega arith), x, y)
+      pub shot-by-z : {z : ℕ} → z ≡ zAt coords s → spans edge y j ≡ true → spans edge z k ≡ shotCovers e coords s i j k
+      unfolding shotCovers
+      shot-by-z z-is q = rw (lt-ltb s (shotCount coords) h, ← is, ← x-is, ← y-is, ← z-is, p, q)
 
 -- ---- the first of a list that passes a test
 
 module _ (f : ℕ → Bool) where
-  pub found-append : (l m : List ℕ) → found (first f (l ++ m)) ≡ (found (first f l) || found (first f m))
+  pub first-append : (l m : List ℕ) → isSome (first f (l ++ m)) ≡ (isSome (first f l) || isSome (first f m))
   unfolding first
-  found-append [] m = refl
-  found-append (a ∷ l) m = one (f a) (found-append l m)
+  first-append [] m = refl
+  first-append (a ∷ l) m = one (f a) (first-append l m)
     where
-      one : (b : Bool) → found (first f (l ++ m)) ≡ (found (first f l) || found (first f m)) → found (cond b (some a) (first f (l ++ m))) ≡ (found (cond b (some a) (first f l)) || found (first f m))
+      one : (b : Bool) → isSome (first f (l ++ m)) ≡ (isSome (first f l) || isSome (first f m)) → isSome (cond b (some a) (first f (l ++ m))) ≡ (isSome (cond b (some a) (first f l)) || isSome (first f m))
       one true h = refl
       one false h = h
 
@@ -61,11 +64,11 @@ module _ (e : ℕ) (coords : List ℕ) (run : List ℕ) (i j k : ℕ) where
       nothing [] h = refl
       nothing (a ∷ l) h = absurd (omega arith)
 
-  pub run-split : (m : ℕ) → (runCovers e coords (take m run) i j k || runCovers e coords (drop m run) i j k) ≡ runCovers e coords run i j k
+  run-split : (m : ℕ) → (runCovers e coords (take m run) i j k || runCovers e coords (drop m run) i j k) ≡ runCovers e coords run i j k
   unfolding firstCovering
   run-split m =
-      sym (found-append (λ s. shotCovers e coords s i j k) (take m run) (drop m run))
-      ∙ ap (λ (l : List ℕ). found (first (λ s. shotCovers e coords s i j k) l)) (take-append-drop m run)
+      sym (first-append (λ s. shotCovers e coords s i j k) (take m run) (drop m run))
+      ∙ ap (λ (l : List ℕ). isSome (first (λ s. shotCovers e coords s i j k) l)) (take-append-drop m run)
 
   rest-whole : (m : ℕ) → take (length run - m) (drop m run) ≡ drop m run
   rest-whole m = take-all (length run - m) (drop m run) (omega (arith, length-drop m run))
@@ -81,7 +84,7 @@ unfolding firstCovering first
 run-one e coords [] i j k h = absurd (omega arith)
 run-one e coords (s ∷ []) i j k h = one (shotCovers e coords s i j k)
   where
-    one : (b : Bool) → b ≡ found (cond b (some s) none)
+    one : (b : Bool) → b ≡ isSome (cond b (some s) none)
     one true = refl
     one false = refl
 run-one e coords (s ∷ t ∷ l) i j k h = absurd (omega arith)

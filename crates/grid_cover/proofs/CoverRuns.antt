@@ -1,24 +1,25 @@
 -- The run of a grid cell covers what the list covers: the unit cells in it, and the eight cells about each lattice point of its closed box.
 use mathlib.Core.Path.{_≡_, refl, sym, ap, _∙_}
-use mathlib.Core.Bool.{Bool, true, false, cond, _&&_, _||_, or-false, or-assoc, and-false, false≢true}
+use mathlib.Core.Bool.{Bool, true, false, cond, _&&_, _||_, and-false, false≢true}
 use mathlib.Core.Option.{none, some}
 use mathlib.Core.List.{List, [], _∷_}
 use Prim.Native.Nat.{ℕ, zero, suc, _+_, _*_, _/_, _≤_, _<_}
-use native.Mathlib.Nat.{div-mul-le-self, lt-div-mul-add, add-mul, one-mul}
 use native.Mathlib.Omega.{arith}
-use lib.Dec.{leb, ltb}
-use borrow.Author.Tests.{le-leb, lt-ltb, leb-true, ltb-true}
+use lib.Dec.{T, leb, ltb}
+use borrow.Author.Tests.{le-leb, lt-ltb, leb-true, ltb-true, ltb-false}
 use Rattle.lattice.specs.Cells.{Cells, below, up}
 use Rattle.lattice.specs.Pattern.{around}
 use Rattle.lattice.specs.Shots.{Shot, spans, covers, any, cells}
-use Rattle.job.specs.Job.{shotsOf, shotAt}
-use Rattle.grid.specs.Numbers.{upTo, keep}
-use Rattle.grid.specs.Grid.{meets, touchesCell, shotCount, runOf}
-use Rattle.grid_cover.specs.Cover.{shotCovers, first, found, firstCovering, runCovers}
-use Rattle.grid.proofs.NumberLaws.{keep-append}
+use Rattle.job.specs.Job.{shotsOf, shotCount, shotAt}
+use Rattle.job.proofs.Shots.{any-at, at-any}
+use Rattle.job.proofs.Tests.{or-left, or-right}
+use Rattle.lattice.proofs.ShotLaws.{or-elim}
+use Rattle.grid.specs.Numbers.{upTo, those}
+use Rattle.grid.specs.Grid.{meets, touchesCell, runOf}
+use Rattle.grid_cover.specs.Cover.{shotCovers, first, isSome, firstCovering, runCovers}
+use Rattle.grid.proofs.NumberLaws.{those-append}
 use Rattle.grid.proofs.CellLaws.{digit-high, digit-low}
-use Rattle.grid.proofs.ShotLaws.{shot-next}
-use Rattle.grid_cover.proofs.CoverLaws.{found-append}
+use Rattle.grid_cover.proofs.CoverLaws.{first-append}
 
 -- ---- some number below n passes a test
 
@@ -26,41 +27,57 @@ someBelow : ℕ → (ℕ → Bool) → Bool
 someBelow zero f = false
 someBelow (suc n) f = someBelow n f || f n
 
-some-front : (n : ℕ) (f : ℕ → Bool) → someBelow (suc n) f ≡ (f 0 || someBelow n (λ i. f (suc i)))
-unfolding someBelow
-some-front zero f = sym (or-false (f 0))
-some-front (suc n) f = rw (some-front n f) (or-assoc (f 0) (someBelow n (λ i. f (suc i))) (f (suc n)))
-
 some-agree : (n : ℕ) (f g : ℕ → Bool) → ((i : ℕ) → i < n → f i ≡ g i) → someBelow n f ≡ someBelow n g
 unfolding someBelow
 some-agree zero f g h = refl
 some-agree (suc n) f g h = rw (some-agree n f g (λ i l. h i (omega arith)), h n (omega arith))
 
+some-of : (n : ℕ) (f : ℕ → Bool) (i : ℕ) → i < n → T (f i) → T (someBelow n f)
+unfolding someBelow
+some-of zero f i h t = absurd (omega arith)
+some-of (suc n) f i h t = one (ltb i n) refl (λ l. some-of n f i l t)
+  where
+    one : (b : Bool) → ltb i n ≡ b → (i < n → T (someBelow n f)) → T (someBelow n f || f n)
+    one true e before = or-left (someBelow n f) (f n) (before (ltb-true i n e))
+    one false e before =
+        let last : n ≡ i = omega (arith, ltb-false i n e) in
+        or-right (someBelow n f) (f n) (rw last t)
+
+some-at : (n : ℕ) (f : ℕ → Bool) → T (someBelow n f) → (i : ℕ) × (i < n) × T (f i)
+unfolding someBelow
+some-at zero f t = absurd t
+some-at (suc n) f t = or-elim (someBelow n f) (f n) t (λ h. let r = some-at n f h in (r .0, omega (arith, r .1), r .2)) (λ h. (n, omega arith, h))
+
 -- some shot of a list
 any-shots : (f : Shot → Bool) (e : ℕ) (coords : List ℕ) → any f (shotsOf e coords) ≡ someBelow (shotCount coords) (λ i. f (shotAt e coords i))
-unfolding any shotsOf someBelow
-any-shots f e [] = refl
-any-shots f e (x ∷ []) = refl
-any-shots f e (x ∷ y ∷ []) = refl
-any-shots f e (x ∷ y ∷ z ∷ rest) =
-    let n : shotCount (x ∷ y ∷ z ∷ rest) ≡ suc (shotCount rest) = omega arith in
-    rw (any-shots f e rest, n)
-    (sym (some-front (shotCount rest) (λ i. f (shotAt e (x ∷ y ∷ z ∷ rest) i)) ∙ ap (λ b. f (record { x = x; y = y; z = z; edge = e }) || b) (some-agree (shotCount rest) _ _ λ i l. ap f (shot-next e x y z rest i))))
-
--- some number that is kept
-found-keep : (p f : ℕ → Bool) (n : ℕ) → found (first f (keep p (upTo n))) ≡ someBelow n (λ i. p i && f i)
-unfolding upTo keep first someBelow
-found-keep p f zero = refl
-found-keep p f (suc n) =
-    ap (λ l. found (first f l)) (keep-append p (upTo n) (n ∷ []))
-    ∙ (found-append f (keep p (upTo n)) (keep p (n ∷ []))
-    ∙ rw (found-keep p f n) (ap (λ b. someBelow n (λ i. p i && f i) || b) (one (p n) (f n))))
+any-shots f e coords = same (any f (shotsOf e coords)) (someBelow (shotCount coords) (λ i. f (shotAt e coords i))) there back
   where
-    two : (b : Bool) → found (cond b (some n) none) ≡ b
+    there : T (any f (shotsOf e coords)) → T (someBelow (shotCount coords) (λ i. f (shotAt e coords i)))
+    there t = let r = any-at e f coords t in some-of (shotCount coords) (λ i. f (shotAt e coords i)) (r .0) (r .1) (r .2)
+
+    back : T (someBelow (shotCount coords) (λ i. f (shotAt e coords i))) → T (any f (shotsOf e coords))
+    back t = let r = some-at (shotCount coords) (λ i. f (shotAt e coords i)) t in at-any e f coords (r .0) (r .1) (r .2)
+
+    same : (b c : Bool) → (T b → T c) → (T c → T b) → b ≡ c
+    same true true g h = refl
+    same true false g h = absurd (g tt)
+    same false true g h = absurd (h tt)
+    same false false g h = refl
+
+-- some number of those that pass a test
+first-those : (p f : ℕ → Bool) (n : ℕ) → isSome (first f (those p (upTo n))) ≡ someBelow n (λ i. p i && f i)
+unfolding upTo those first someBelow
+first-those p f zero = refl
+first-those p f (suc n) =
+    ap (λ l. isSome (first f l)) (those-append p (upTo n) (n ∷ []))
+    ∙ (first-append f (those p (upTo n)) (those p (n ∷ []))
+    ∙ rw (first-those p f n) (ap (λ b. someBelow n (λ i. p i && f i) || b) (one (p n) (f n))))
+  where
+    two : (b : Bool) → isSome (cond b (some n) none) ≡ b
     two true = refl
     two false = refl
 
-    one : (a b : Bool) → found (first f (cond a (n ∷ []) [])) ≡ (a && f n)
+    one : (a b : Bool) → isSome (first f (cond a (n ∷ []) [])) ≡ (a && f n)
     one true b = two (f n)
     one false b = refl
 
@@ -93,7 +110,7 @@ module _ (F E G : ℕ) (coords : List ℕ) (gx gy gz : ℕ) (hy : gy < G) (hz : 
   pub run-covers : (i j k : ℕ) → Near (F / G) gx i → Near (F / G) gy j → Near (F / G) gz k → runCovers E coords (runOf F E G coords ((gx * G + gy) * G + gz)) i j k ≡ cells (shotsOf E coords) i j k
   unfolding firstCovering runOf shotCovers
   run-covers i j k nx ny nz =
-      found-keep (λ s. touchesCell F G cell (shotAt E coords s)) (λ s. shotCovers E coords s i j k) (shotCount coords)
+      first-those (λ s. touchesCell F G cell (shotAt E coords s)) (λ s. shotCovers E coords s i j k) (shotCount coords)
       ∙ (some-agree (shotCount coords) _ _ one ∙ sym (any-shots (λ t. covers t i j k) E coords))
     where
       cell : ℕ
@@ -103,15 +120,6 @@ module _ (F E G : ℕ) (coords : List ℕ) (gx gy gz : ℕ) (hy : gy < G) (hz : 
       one s l =
           rw (digit-high G (gx * G + gy) gz hz, digit-low G (gx * G + gy) gz hz, digit-high G gx gy hy, digit-low G gx gy hy, lt-ltb s (shotCount coords) l)
           (absorb _ _ _ (spans E (shotAt E coords s .x) i) (spans E (shotAt E coords s .y) j) (spans E (shotAt E coords s .z) k) (near-meets (F / G) gx i E (shotAt E coords s .x) nx) (near-meets (F / G) gy j E (shotAt E coords s .y) ny) (near-meets (F / G) gz k E (shotAt E coords s .z) nz))
-
--- ---- the grid cell that holds a unit cell
-
-pub near-holding : (s i : ℕ) → 1 ≤ s → Near s (i / s) i
-near-holding s i h =
-    record {
-      low = omega (arith, div-mul-le-self i s);
-      high = omega (arith, lt-div-mul-add {a = i} {b = s} h, add-mul (i / s) 1 s, one-mul s);
-    }
 
 -- ---- the eight cells about a lattice point of a closed box
 

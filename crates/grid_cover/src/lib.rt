@@ -4,6 +4,7 @@
 ghost use mathlib.Core.Path.{_≡_};
 ghost use Rattle.lattice.specs.Shots.{spans};
 ghost use Rattle.grid_cover.specs.Cover.{shotCovers, runCovers};
+use job::shot;
 
 // Whether the edge of a shot from a coordinate on spans a cell of the axis.
 fn spans_cell(edge: u16, at: u16, cell: u16) -> bool
@@ -19,17 +20,18 @@ fn spans_cell(edge: u16, at: u16, cell: u16) -> bool
 fn shot_covers(coords: &[u16], edge: u16, shot: u32, i: u16, j: u16, k: u16) -> bool
     ensures { λ r. ⌜ r ≡ shotCovers edge (now (coords .entry)) shot i j k ⌝ }
 {
-    let at = 3 * (shot as usize);
-    if coords.len() <= at + 2 {
+    let number = shot as usize;
+    if shot::count(coords) <= number {
         return false;
     }
-    if !spans_cell(edge, coords[at], i) {
+    let side = shot::edge_of(edge, coords, number);
+    if !spans_cell(side, shot::x_of(coords, number), i) {
         return false;
     }
-    if !spans_cell(edge, coords[at + 1], j) {
+    if !spans_cell(side, shot::y_of(coords, number), j) {
         return false;
     }
-    spans_cell(edge, coords[at + 2], k)
+    spans_cell(side, shot::z_of(coords, number), k)
 }
 
 // Whether some shot of the run covers the cell (i, j, k): a recursion on the run's halves. The run may be any numbers.

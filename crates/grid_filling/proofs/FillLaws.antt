@@ -5,15 +5,15 @@ use Prim.Native.Nat.{ℕ, _+_, _-_, _*_, _/_, _≤_, _<_}
 use native.Mathlib.Nat.{add-zero, add-assoc, add-mul, one-mul, zero-mul}
 use native.Mathlib.Omega.{arith}
 use lib.ListN.{length, set}
-use Rattle.job.specs.Job.{Valid}
+use Rattle.job.specs.Job.{shotCount, Valid}
 use Rattle.buffer.specs.Wrote.{Wrote}
-use Rattle.grid.specs.Numbers.{upTo, keep}
-use Rattle.grid.specs.Grid.{meetsOn, shotCount, runOf, rowOf, slabOf}
-use Rattle.grid_filling.specs.Filling.{Ready, Grew}
-use Rattle.grid.proofs.NumberLaws.{upTo-length, keep-length}
+use Rattle.grid.specs.Numbers.{upTo, AllBelow}
+use Rattle.grid.specs.Grid.{meetsOn, runOf, rowOf, slabOf}
+use Rattle.grid_filling.specs.Filling.{narrowed, Ready, Grew}
+use Rattle.grid.proofs.NumberLaws.{upTo-length, those-length, below-upTo}
 use Rattle.grid.proofs.CellLaws.{digits-below, square-most, cube-most, slab-few}
 use Rattle.grid_filling.proofs.StoreLaws.{grew-none, grew-cell, grew-then, ready-after, ready-room}
-use Rattle.grid_filling.proofs.NarrowLaws.{slab-narrow, row-narrow, run-narrow, place-fits}
+use Rattle.grid_filling.proofs.NarrowLaws.{slab-narrow, row-narrow, run-narrow, slab-below, row-below, place-fits}
 
 -- ---- the cells of a row
 
@@ -32,22 +32,25 @@ module _ (F E G : ℕ) (coords : List ℕ) (v : Valid F E G coords) (line : ℕ)
       ready : Ready (runOf F E G coords) (G * G * G) (line * G + gz) next w
       ready = ready-after (runOf F E G coords) (G * G * G) p a
 
-      run-is : runOf F E G coords (line * G + gz) ≡ keep (meetsOn 2 (F / G) gz E coords) row
+      run-is : runOf F E G coords (line * G + gz) ≡ narrowed 2 (F / G) gz E coords row
       run-is = rw is (run-narrow F E G coords line gz h)
 
-      pub cell-asked : {cells : ℕ} → cells ≡ G * G * G → (line * G + gz < cells + 1) × (cells + 1 ≤ next × (next < 4294967296 × next + length (keep (meetsOn 2 (F / G) gz E coords) row) ≤ length w))
+      pub cell-asked : {cells : ℕ} → cells ≡ G * G * G → (line * G + gz < cells + 1) × (cells + 1 ≤ next × (next < 4294967296 × (AllBelow (shotCount coords) row × next + length (narrowed 2 (F / G) gz E coords row) ≤ length w)))
       cell-asked e = (
         omega (arith, cell-below gz h),
         (
           omega (arith, ready .next),
           (
             place-fits F E G coords v (line * G + gz) next (omega (arith, cell-below gz h)) ready,
-            omega (arith, ready-room (runOf F E G coords) (G * G * G) (line * G + gz) (cell-below gz h) ready, ap length run-is),
+            (
+              rw is (row-below F E G coords line),
+              omega (arith, ready-room (runOf F E G coords) (G * G * G) (line * G + gz) (cell-below gz h) ready, ap length run-is),
+            ),
           ),
         ),
       )
 
-      pub cell-turn : {cells r : ℕ} {w' : List ℕ} → cells ≡ G * G * G → Wrote (set w (line * G + gz) (next - (cells + 1))) w' next r (keep (meetsOn 2 (F / G) gz E coords) row) → Grew (runOf F E G coords) (G * G * G) (line * G) (line * G + (gz + 1)) w₀ w' r
+      pub cell-turn : {cells r : ℕ} {w' : List ℕ} → cells ≡ G * G * G → Wrote (set w (line * G + gz) (next - (cells + 1))) w' next r (narrowed 2 (F / G) gz E coords row) → Grew (runOf F E G coords) (G * G * G) (line * G) (line * G + (gz + 1)) w₀ w' r
       cell-turn {cells} {r} {w'} e b =
           rw (← add-assoc (line * G) gz 1)
           (grew-then (runOf F E G coords) (G * G * G) a (grew-cell (runOf F E G coords) (G * G * G) (line * G + gz) next (cell-below gz h) ready (rw (e, ← run-is) at b)))
@@ -61,16 +64,16 @@ module _ (F E G : ℕ) (coords : List ℕ) (v : Valid F E G coords) (gx : ℕ) (
   pub line-number : (gy : ℕ) → gy < G → gx * G + gy < 4096
   line-number gy h = omega (arith, line-below gy h, square-most G (v .grid-most))
 
-  pub row-room : (gy : ℕ) (slab : List ℕ) → slab ≡ slabOf F E G coords gx → 0 + length (keep (meetsOn 1 (F / G) gy E coords) slab) ≤ 4096
-  row-room gy slab is = omega (arith, keep-length (meetsOn 1 (F / G) gy E coords) slab, ap length is, slab-few F E G coords v gx)
+  pub row-asked : (gy : ℕ) (slab : List ℕ) → slab ≡ slabOf F E G coords gx → AllBelow (shotCount coords) slab × (0 + length (narrowed 1 (F / G) gy E coords slab) ≤ 4096)
+  row-asked gy slab is = (rw is (slab-below F E G coords gx), omega (arith, those-length (meetsOn 1 (F / G) gy E coords) slab, ap length is, slab-few F E G coords v gx))
 
-  pub row-is : (gy : ℕ) → gy < G → (slab : List ℕ) → slab ≡ slabOf F E G coords gx → keep (meetsOn 1 (F / G) gy E coords) slab ≡ rowOf F E G coords (gx * G + gy)
+  pub row-is : (gy : ℕ) → gy < G → (slab : List ℕ) → slab ≡ slabOf F E G coords gx → narrowed 1 (F / G) gy E coords slab ≡ rowOf F E G coords (gx * G + gy)
   row-is gy h slab is = rw is (sym (row-narrow F E G coords gx gy h))
 
-  pub slab-room : (all : List ℕ) → all ≡ upTo (shotCount coords) → 0 + length (keep (meetsOn 0 (F / G) gx E coords) all) ≤ 4096
-  slab-room all is = omega (arith, keep-length (meetsOn 0 (F / G) gx E coords) all, ap length is, upTo-length (shotCount coords), v .few)
+  pub slab-asked : (all : List ℕ) → all ≡ upTo (shotCount coords) → AllBelow (shotCount coords) all × (0 + length (narrowed 0 (F / G) gx E coords all) ≤ 4096)
+  slab-asked all is = (rw is (below-upTo (shotCount coords)), omega (arith, those-length (meetsOn 0 (F / G) gx E coords) all, ap length is, upTo-length (shotCount coords), v .few))
 
-  pub slab-is : (all : List ℕ) → all ≡ upTo (shotCount coords) → keep (meetsOn 0 (F / G) gx E coords) all ≡ slabOf F E G coords gx
+  pub slab-is : (all : List ℕ) → all ≡ upTo (shotCount coords) → narrowed 0 (F / G) gx E coords all ≡ slabOf F E G coords gx
   slab-is all is = rw is (sym (slab-narrow F E G coords gx))
 
 module _ (F E G : ℕ) (coords : List ℕ) (gx : ℕ) {at : ℕ} {w₀ : List ℕ} (p : Ready (runOf F E G coords) (G * G * G) (gx * G * G) at w₀) where

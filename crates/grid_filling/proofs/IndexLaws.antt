@@ -1,51 +1,47 @@
 -- The index of a list: what it needs, that a filled slice holds it, and the runs read from it.
 use mathlib.Core.Path.{_≡_, refl, sym, ap, _∙_, fun-ext}
 use mathlib.Core.Bool.{Bool, true, false, cond}
-use mathlib.Core.List.{List, [], _∷_, _++_}
+use mathlib.Core.List.{List, [], _∷_}
 use Prim.Native.Nat.{ℕ, zero, suc, _+_, _-_, _*_, _≤_}
 use native.Mathlib.Nat.{add-zero, add-suc, le-refl}
 use native.Mathlib.Omega.{arith}
-use lib.ListN.{length, take, drop, set, length-append}
+use lib.ListN.{length, take, set, length-append}
 use lib.Seq.{take-all, take-append-le}
 use mir.Val.{Fits}
 use mir.Syntax.{w32}
-use Rattle.lattice.specs.Sums.{total}
+use Rattle.lattice.specs.Sums.{total, join}
 use Rattle.lattice.specs.Cells.{bit}
-use Rattle.job.specs.Job.{shotAt, Valid}
-use Rattle.grid.specs.Numbers.{upTo, keep, joined}
-use Rattle.grid.specs.Grid.{touchesCell, shotCount, runOf, starts, indexOf, pairs, need}
-use Rattle.grid_filling.specs.Filling.{placeOf, Ready, Grew}
-use Rattle.grid.proofs.NumberLaws.{upTo-length, keep-append}
+use Rattle.job.specs.Job.{shotCount, shotAt, Valid}
+use Rattle.grid.specs.Numbers.{upTo, those}
+use Rattle.grid.specs.Grid.{touchesCell, runOf, starts, indexOf, pairs, need, withIndex}
+use Rattle.grid_filling.specs.Filling.{runPlace, Ready, Grew}
+use Rattle.lattice.proofs.JoinLaws.{length-join}
+use Rattle.grid.proofs.NumberLaws.{upTo-length, those-append}
 use Rattle.grid.proofs.CellLaws.{runs-few}
 use Rattle.grid.proofs.StartLaws.{starts-length}
-use Rattle.grid_filling.proofs.StoreLaws.{filled-none, index-whole}
+use Rattle.grid_filling.proofs.StoreLaws.{runs-in-none, index-whole}
 
 -- ---- the need
 
--- as many as pass the test are kept
-pub keep-count : (f : ℕ → Bool) (n : ℕ) → length (keep f (upTo n)) ≡ total n (λ i. bit (f i))
-unfolding upTo keep total
-keep-count f zero = refl
-keep-count f (suc n) =
-    omega (arith, ap length (keep-append f (upTo n) (n ∷ [])), length-append (keep f (upTo n)) (keep f (n ∷ [])), keep-count f n, one (f n))
+-- how many pass a test
+those-count : (f : ℕ → Bool) (n : ℕ) → length (those f (upTo n)) ≡ total n (λ i. bit (f i))
+unfolding upTo those total
+those-count f zero = refl
+those-count f (suc n) =
+    omega (arith, ap length (those-append f (upTo n) (n ∷ [])), length-append (those f (upTo n)) (those f (n ∷ [])), those-count f n, one (f n))
   where
     one : (b : Bool) → length (cond b (n ∷ []) []) ≡ bit b
     one true = refl
     one false = refl
 
-pub joined-count : (f : ℕ → List ℕ) (n : ℕ) → length (joined n f) ≡ total n (λ i. length (f i))
-unfolding joined total
-joined-count f zero = refl
-joined-count f (suc n) = omega (arith, length-append (joined n f) (f n), joined-count f n)
-
 module _ (F E G : ℕ) (coords : List ℕ) where
   -- the pairs are the entries of the runs
-  pub pairs-runs : pairs F E G coords ≡ length (joined (G * G * G) (runOf F E G coords))
+  pairs-runs : pairs F E G coords ≡ length (join (G * G * G) (runOf F E G coords))
   unfolding pairs runOf
   pairs-runs =
-      sym (joined-count (runOf F E G coords) (G * G * G) ∙ ap (total (G * G * G)) (fun-ext λ cell. keep-count (λ i. touchesCell F G cell (shotAt E coords i)) (shotCount coords)))
+      sym (length-join (G * G * G) (runOf F E G coords) ∙ ap (total (G * G * G)) (fun-ext λ cell. those-count (λ i. touchesCell F G cell (shotAt E coords i)) (shotCount coords)))
 
-  pub need-place : need F E G coords ≡ placeOf (runOf F E G coords) (G * G * G) (G * G * G)
+  pub need-place : need F E G coords ≡ runPlace (runOf F E G coords) (G * G * G) (G * G * G)
   unfolding need
   need-place = ap (λ (n : ℕ). G * G * G + 1 + n) pairs-runs
 
@@ -53,7 +49,7 @@ module _ (F E G : ℕ) (coords : List ℕ) where
   pub need-length : need F E G coords ≡ length (indexOf F E G coords)
   unfolding indexOf
   need-length =
-      omega (arith, need-place, length-append (starts (runOf F E G coords) (G * G * G + 1)) (joined (G * G * G) (runOf F E G coords)), starts-length (runOf F E G coords) (G * G * G + 1))
+      omega (arith, need-place, length-append (starts (runOf F E G coords) (G * G * G + 1)) (join (G * G * G) (runOf F E G coords)), starts-length (runOf F E G coords) (G * G * G + 1))
 
 -- ---- a filled slice
 
@@ -62,7 +58,7 @@ unfolding upTo
 upTo-more n zero = rw (add-zero n) (take-all n (upTo n) (omega (arith, upTo-length n)))
 upTo-more n (suc k) = rw (add-suc n k, take-append-le n (upTo (n + k)) ((n + k) ∷ []) (omega (arith, upTo-length (n + k)))) (upTo-more n k)
 
-pub upTo-front : (n m : ℕ) → n ≤ m → take n (upTo m) ≡ upTo n
+upTo-front : (n m : ℕ) → n ≤ m → take n (upTo m) ≡ upTo n
 upTo-front n m h =
     let e : n + (m - n) ≡ m = omega arith in
     rw e at (upTo-more n (m - n))
@@ -75,15 +71,15 @@ upTo-part-count n h e = sym (ap length (upTo-part n h e) ∙ upTo-length n)
 
 module _ (F E G : ℕ) (coords : List ℕ) (w : List ℕ) (room : need F E G coords ≤ length w) where
   pub build-ready : {cells : ℕ} → cells ≡ G * G * G → Ready (runOf F E G coords) (G * G * G) 0 (cells + 1) w
-  unfolding joined
+  unfolding join
   build-ready e = record { next = omega arith; room = omega (arith, need-place F E G coords) }
 
   pub build-fits : Valid F E G coords → {cells r : ℕ} {w' : List ℕ} → cells ≡ G * G * G → Grew (runOf F E G coords) (G * G * G) 0 (G * G * G) w w' r → Fits w32 (r - (cells + 1))
   build-fits v e a = record { fits = omega (arith, a .next, runs-few F E G coords v (G * G * G) (le-refl (G * G * G))) }
 
-  pub build-last : {cells r : ℕ} {w' : List ℕ} → cells ≡ G * G * G → Grew (runOf F E G coords) (G * G * G) 0 (G * G * G) w w' r → set w' cells (r - (cells + 1)) ≡ indexOf F E G coords ++ drop (need F E G coords) w
+  pub build-last : {cells r : ℕ} {w' : List ℕ} → cells ≡ G * G * G → Grew (runOf F E G coords) (G * G * G) 0 (G * G * G) w w' r → set w' cells (r - (cells + 1)) ≡ withIndex F E G coords w
   unfolding indexOf
   build-last {cells} {r} {w'} e a =
-      let last : r - (cells + 1) ≡ length (joined (G * G * G) (runOf F E G coords)) = omega (arith, a .next) in
+      let last : r - (cells + 1) ≡ length (join (G * G * G) (runOf F E G coords)) = omega (arith, a .next) in
       rw (last, e, need-place F E G coords)
-      (index-whole (runOf F E G coords) (G * G * G) w w' (a .fills w (filled-none (runOf F E G coords) (G * G * G) w (omega (arith, need-place F E G coords)))))
+      (index-whole (runOf F E G coords) (G * G * G) w w' (a .fills w (runs-in-none (runOf F E G coords) (G * G * G) w (omega (arith, need-place F E G coords)))))

@@ -4,26 +4,31 @@ use mathlib.Core.Path.{_≡_}
 use mathlib.Core.List.{List, _++_}
 use Prim.Native.Nat.{ℕ, _+_, _≤_}
 use lib.ListN.{length, drop}
-use Rattle.grid.specs.Numbers.{joined}
-use Rattle.grid.specs.Grid.{starts}
+use Rattle.lattice.specs.Sums.{join}
+use Rattle.grid.specs.Numbers.{those}
+use Rattle.grid.specs.Grid.{meetsOn, starts}
+
+-- of the shots that a list numbers, those that meet interval g of an axis: 0 is x, 1 is y, 2 is z
+abbrev pub narrowed : ℕ → ℕ → ℕ → ℕ → List ℕ → List ℕ → List ℕ
+narrowed axis s g E coords l = those (meetsOn axis s g E coords) l
 
 -- the place where the run of cell c goes
-abbrev pub placeOf : (ℕ → List ℕ) → ℕ → ℕ → ℕ
-placeOf run N c = N + 1 + length (joined c run)
+abbrev pub runPlace : (ℕ → List ℕ) → ℕ → ℕ → ℕ
+runPlace run N c = N + 1 + length (join c run)
 
 -- w is w₀ with c starting places and c runs; the other starting places are yet to come
-pub record Filled (run : ℕ → List ℕ) (N c : ℕ) (w₀ w : List ℕ) : Type 0 where
+pub record RunsIn (run : ℕ → List ℕ) (N c : ℕ) (w₀ w : List ℕ) : Type 0 where
   pub waiting : List ℕ
   pub left : c + length waiting ≡ N + 1
-  pub is : w ≡ (starts run c ++ waiting) ++ (joined c run ++ drop (placeOf run N c) w₀)
+  pub is : w ≡ (starts run c ++ waiting) ++ (join c run ++ drop (runPlace run N c) w₀)
 
 -- the runs fit, and at is the place where that of cell c goes
 pub record Ready (run : ℕ → List ℕ) (N c at : ℕ) (w : List ℕ) : Type 0 where
-  pub next : at ≡ placeOf run N c
-  pub room : placeOf run N N ≤ length w
+  pub next : at ≡ runPlace run N c
+  pub room : runPlace run N N ≤ length w
 
 -- w' is w with the runs from cell c up to cell c' and their starting places; the run of cell c' goes to r
 pub record Grew (run : ℕ → List ℕ) (N c c' : ℕ) (w w' : List ℕ) (r : ℕ) : Type 0 where
-  pub next : r ≡ placeOf run N c'
+  pub next : r ≡ runPlace run N c'
   pub same-length : length w' ≡ length w
-  pub fills : (w₀ : List ℕ) → Filled run N c w₀ w → Filled run N c' w₀ w'
+  pub fills : (w₀ : List ℕ) → RunsIn run N c w₀ w → RunsIn run N c' w₀ w'

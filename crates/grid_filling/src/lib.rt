@@ -1,21 +1,22 @@
 // Putting the uniform grid index of a list into a lent work slice. Document 01, 'The grid index'.
 //
-// `build` leaves the index as a function of the list (specs/Grid.antt of `grid`), and past it what was there. The shots are narrowed to a slab, a row
-// and a cell, and each run goes behind the one before it; nothing of the work slice serves as scratch. specs/Filling.antt says what stands in the
-// slice while it is filled. Stands on `grid`, whose index it puts in, and on `buffer`, `lattice` and `job`.
+// `build` leaves the index as a function of the list (specs/Grid.antt of `grid`), and past it what was there. The shots are narrowed to a
+// slab, a row and a cell, and each run goes behind the one before it; nothing of the work slice serves as scratch. specs/Filling.antt says what
+// stands in the slice while it is filled. Stands on `grid`, whose index it puts in, and on `buffer`, `lattice` and `job`.
 ghost use mathlib.Core.Path.{_≡_};
 ghost use mathlib.Core.Bool.{cond};
-ghost use mathlib.Core.List.{[], _∷_, _++_};
+ghost use mathlib.Core.List.{[], _∷_};
 ghost use Prim.Native.Nat.{_+_, _-_, _*_, _≤_, _<_};
-ghost use lib.ListN.{length, drop, set};
+ghost use lib.ListN.{length, set};
 ghost use Rattle.lattice.specs.Cells.{bit};
-ghost use Rattle.job.specs.Job.{Valid};
+ghost use Rattle.job.specs.Job.{shotCount, Valid};
 ghost use Rattle.buffer.specs.Wrote.{Wrote};
-ghost use Rattle.grid.specs.Numbers.{upTo, keep};
-ghost use Rattle.grid.specs.Grid.{meetsOn, runOf, rowOf, slabOf, shotCount, indexOf, need};
-ghost use Rattle.grid_filling.specs.Filling.{Ready, Grew};
+ghost use Rattle.grid.specs.Numbers.{upTo, AllBelow};
+ghost use Rattle.grid.specs.Grid.{runOf, rowOf, slabOf, need, withIndex};
+ghost use Rattle.grid_filling.specs.Filling.{narrowed, Ready, Grew};
 use grid::intervals::cells_of;
 use grid::intervals::shot_meets;
+use job::shot;
 
 // Puts a number at a place if it is wanted, and gives the place after it.
 fn put_if(wanted: bool, shot: u32, to: &mut [u32], at: usize) -> usize
@@ -40,8 +41,9 @@ fn narrow(
     to: &mut [u32],
     at: usize,
 ) -> usize
-    requires { ⌜ at + length (keep (meetsOn axis width interval edge (now coords)) (now from)) ≤ length (now to) ⌝ }
-    ensures { λ r. ⌜ Wrote (now (to .entry)) (now (to .exit)) at r (keep (meetsOn axis width interval edge (now (coords .entry))) (now (from .entry))) ⌝ }
+    requires { ⌜ AllBelow (shotCount (now coords)) (now from) ⌝ }
+    requires { ⌜ at + length (narrowed axis width interval edge (now coords) (now from)) ≤ length (now to) ⌝ }
+    ensures { λ r. ⌜ Wrote (now (to .entry)) (now (to .exit)) at r (narrowed axis width interval edge (now (coords .entry)) (now (from .entry))) ⌝ }
 {
     let mut next = at;
     for i in 0..from.len() {
@@ -70,8 +72,10 @@ fn fill_cell(
     requires { ⌜ cell < base ⌝ }
     requires { ⌜ base ≤ at ⌝ }
     requires { ⌜ at < 4294967296 ⌝ }
-    requires { ⌜ at + length (keep (meetsOn 2 width gz edge (now coords)) (now row)) ≤ length (now work) ⌝ }
-    ensures { λ r. ⌜ Wrote (set (now (work .entry)) cell (at - base)) (now (work .exit)) at r (keep (meetsOn 2 width gz edge (now (coords .entry))) (now (row .entry))) ⌝ }
+    requires { ⌜ AllBelow (shotCount (now coords)) (now row) ⌝ }
+    requires { ⌜ at + length (narrowed 2 width gz edge (now coords) (now row)) ≤ length (now work) ⌝ }
+    ensures { λ r. ⌜ Wrote (set (now (work .entry)) cell (at - base)) (now (work .exit)) at r
+        (narrowed 2 width gz edge (now (coords .entry)) (now (row .entry))) ⌝ }
 {
     work[cell] = (at - base) as u32;
     narrow(coords, edge, 2, width, gz, row, work, at)
@@ -92,7 +96,8 @@ fn fill_cells(
     requires { ⌜ line < grid * grid ⌝ }
     requires { ⌜ now row ≡ rowOf field edge grid (now coords) line ⌝ }
     requires { ⌜ Ready (runOf field edge grid (now coords)) (grid * grid * grid) (line * grid) at (now work) ⌝ }
-    ensures { λ r. ⌜ Grew (runOf field edge grid (now (coords .entry))) (grid * grid * grid) (line * grid) (line * grid + grid) (now (work .entry)) (now (work .exit)) r ⌝ }
+    ensures { λ r. ⌜ Grew (runOf field edge grid (now (coords .entry))) (grid * grid * grid)
+        (line * grid) (line * grid + grid) (now (work .entry)) (now (work .exit)) r ⌝ }
 {
     let width = field / grid;
     let base = cells_of(grid) + 1;
@@ -121,7 +126,8 @@ fn fill_row(
     requires { ⌜ gy < grid ⌝ }
     requires { ⌜ now slab ≡ slabOf field edge grid (now coords) gx ⌝ }
     requires { ⌜ Ready (runOf field edge grid (now coords)) (grid * grid * grid) ((gx * grid + gy) * grid) at (now work) ⌝ }
-    ensures { λ r. ⌜ Grew (runOf field edge grid (now (coords .entry))) (grid * grid * grid) ((gx * grid + gy) * grid) ((gx * grid + gy) * grid + grid) (now (work .entry)) (now (work .exit)) r ⌝ }
+    ensures { λ r. ⌜ Grew (runOf field edge grid (now (coords .entry))) (grid * grid * grid)
+        ((gx * grid + gy) * grid) ((gx * grid + gy) * grid + grid) (now (work .entry)) (now (work .exit)) r ⌝ }
 {
     let mut row: [u32; 4096] = [0; 4096];
     let n = narrow(coords, edge, 1, field / grid, gy, slab, &mut row, 0);
@@ -144,7 +150,8 @@ fn fill_rows(
     requires { ⌜ gx < grid ⌝ }
     requires { ⌜ now slab ≡ slabOf field edge grid (now coords) gx ⌝ }
     requires { ⌜ Ready (runOf field edge grid (now coords)) (grid * grid * grid) (gx * grid * grid) at (now work) ⌝ }
-    ensures { λ r. ⌜ Grew (runOf field edge grid (now (coords .entry))) (grid * grid * grid) (gx * grid * grid) ((gx + 1) * grid * grid) (now (work .entry)) (now (work .exit)) r ⌝ }
+    ensures { λ r. ⌜ Grew (runOf field edge grid (now (coords .entry))) (grid * grid * grid)
+        (gx * grid * grid) ((gx + 1) * grid * grid) (now (work .entry)) (now (work .exit)) r ⌝ }
 {
     let mut next = at;
     for gy in 0..grid {
@@ -168,7 +175,8 @@ fn fill_slab(
     requires { ⌜ gx < grid ⌝ }
     requires { ⌜ now all ≡ upTo (shotCount (now coords)) ⌝ }
     requires { ⌜ Ready (runOf field edge grid (now coords)) (grid * grid * grid) (gx * grid * grid) at (now work) ⌝ }
-    ensures { λ r. ⌜ Grew (runOf field edge grid (now (coords .entry))) (grid * grid * grid) (gx * grid * grid) ((gx + 1) * grid * grid) (now (work .entry)) (now (work .exit)) r ⌝ }
+    ensures { λ r. ⌜ Grew (runOf field edge grid (now (coords .entry))) (grid * grid * grid)
+        (gx * grid * grid) ((gx + 1) * grid * grid) (now (work .entry)) (now (work .exit)) r ⌝ }
 {
     let mut slab: [u32; 4096] = [0; 4096];
     let n = narrow(coords, edge, 0, field / grid, gx, all, &mut slab, 0);
@@ -188,7 +196,8 @@ fn fill_slabs(
     requires { ⌜ Valid field edge grid (now coords) ⌝ }
     requires { ⌜ now all ≡ upTo (shotCount (now coords)) ⌝ }
     requires { ⌜ Ready (runOf field edge grid (now coords)) (grid * grid * grid) 0 at (now work) ⌝ }
-    ensures { λ r. ⌜ Grew (runOf field edge grid (now (coords .entry))) (grid * grid * grid) 0 (grid * grid * grid) (now (work .entry)) (now (work .exit)) r ⌝ }
+    ensures { λ r. ⌜ Grew (runOf field edge grid (now (coords .entry))) (grid * grid * grid)
+        0 (grid * grid * grid) (now (work .entry)) (now (work .exit)) r ⌝ }
 {
     let mut next = at;
     for gx in 0..grid {
@@ -211,11 +220,11 @@ fn number(places: &mut [u32])
 pub fn build(field: u16, edge: u16, grid: u16, coords: &[u16], work: &mut [u32])
     requires { ⌜ Valid field edge grid (now coords) ⌝ }
     requires { ⌜ need field edge grid (now coords) ≤ length (now work) ⌝ }
-    ensures { λ _. ⌜ now (work .exit) ≡ indexOf field edge grid (now (coords .entry)) ++ drop (need field edge grid (now (coords .entry))) (now (work .entry)) ⌝ }
+    ensures { λ _. ⌜ now (work .exit) ≡ withIndex field edge grid (now (coords .entry)) (now (work .entry)) ⌝ }
 {
     let mut all: [u32; 4096] = [0; 4096];
     number(&mut all);
-    let shots = coords.len() / 3;
+    let shots = shot::count(coords);
     let cells = cells_of(grid);
     let end = fill_slabs(field, edge, grid, coords, &all[..shots], work, cells + 1);
     work[cells] = (end - (cells + 1)) as u32;

@@ -13,9 +13,9 @@ abbrev pub scale : Bool → ℕ → ℕ
 scale true x = x
 scale false x = 1
 
-abbrev pub drop : Bool → (ℕ → ℤ) → ℕ → ℤ
-drop true f x = fall f x
-drop false f x = f x
+abbrev pub fallIf : Bool → (ℕ → ℤ) → ℕ → ℤ
+fallIf true f x = fall f x
+fallIf false f x = f x
 
 -- the sum over the points 0 to n, each by its scale
 unfoldable pub scaled : Bool → ℕ → (ℕ → ℤ) → ℤ
@@ -55,26 +55,26 @@ keeps-zero : {A : Type 0} (op : (A → ℤ) → ℤ) → Keeps A op → (f : A �
 keeps-zero op keeps f h = ap op (fun-ext (λ t. simp h)) ∙ keeps f f ∙ +ℤ-invr (op f)
 
 -- one axis, under such an operator
-pub scaled-drop : (m : Bool) (n : ℕ) {A : Type 0} (op : (A → ℤ) → ℤ) → Keeps A op → (f : ℕ → A → ℤ) → ((t : A) → f (suc n) t ≡ pos 0)
-    → scaled m n (λ x. op (λ t. drop m (λ i. f i t) x)) ≡ counted m n (λ x. op (f x))
+pub scaled-fall : (m : Bool) (n : ℕ) {A : Type 0} (op : (A → ℤ) → ℤ) → Keeps A op → (f : ℕ → A → ℤ) → ((t : A) → f (suc n) t ≡ pos 0)
+    → scaled m n (λ x. op (λ t. fallIf m (λ i. f i t) x)) ≡ counted m n (λ x. op (f x))
 unfolding scaled
-scaled-drop true n op keeps f h =
+scaled-fall true n op keeps f h =
     sum-ext (suc n) (λ x. ap (λ v. pos x *ℤ v) (keeps (f x) (f (suc x))))
     ∙ sum-by-parts n (λ x. op (f x)) (keeps-zero op keeps (f (suc n)) h)
-scaled-drop false n op keeps f h = sum-ext (suc n) (λ x. one-*ℤ (op (f x)))
+scaled-fall false n op keeps f h = sum-ext (suc n) (λ x. one-*ℤ (op (f x)))
 
 -- a function of the lattice points that vanishes outside the field
 abbrev pub Vanishes : ℕ → (ℕ → ℕ → ℕ → ℤ) → Type 0
 Vanishes n g = (x y z : ℕ) → ((x ≤ n) × (y ≤ n) × (z ≤ n) → ⊥) → g x y z ≡ pos 0
 
-drop-zero : (m : Bool) (f : ℕ → ℤ) (x : ℕ) → ((i : ℕ) → f i ≡ pos 0) → drop m f x ≡ pos 0
-drop-zero true f x h = simp h
-drop-zero false f x h = h x
+fallIf-zero : (m : Bool) (f : ℕ → ℤ) (x : ℕ) → ((i : ℕ) → f i ≡ pos 0) → fallIf m f x ≡ pos 0
+fallIf-zero true f x h = simp h
+fallIf-zero false f x h = h x
 
 module _ (a b c : Bool) (n : ℕ) (g : ℕ → ℕ → ℕ → ℤ) where
   -- the falls of g on the axes whose mode is along
   abbrev pub falls : ℕ → ℕ → ℕ → ℤ
-  falls x y z = drop a (λ x. drop b (λ y. drop c (g x y) z) y) x
+  falls x y z = fallIf a (λ x. fallIf b (λ y. fallIf c (g x y) z) y) x
 
   factors : (x y : ℕ) (f : ℕ → ℤ)
       → sum (suc n) (λ z. pos (scale a x * scale b y * scale c z) *ℤ f z) ≡ pos (scale a x) *ℤ (pos (scale b y) *ℤ scaled c n f)
@@ -96,13 +96,13 @@ module _ (a b c : Bool) (n : ℕ) (g : ℕ → ℕ → ℕ → ℤ) where
       ≡ (counted a n λ x. counted b n λ y. counted c n λ z. g x y z)
   by-parts v =
       nested
-      ∙ scaled-drop a n (λ h. scaled b n λ y. scaled c n λ z. h (y, z)) (both-keep (scaled b n) (scaled c n) (scaled-keeps b n) (scaled-keeps c n))
-      (λ x t. drop b (λ y. drop c (g x y) (t .1)) (t .0))
-      (λ t. drop-zero b (λ y. drop c (g (suc n) y) (t .1)) (t .0) (λ y. drop-zero c (g (suc n) y) (t .1) (λ z. v (suc n) y z (λ k. omega arith))))
+      ∙ scaled-fall a n (λ h. scaled b n λ y. scaled c n λ z. h (y, z)) (both-keep (scaled b n) (scaled c n) (scaled-keeps b n) (scaled-keeps c n))
+      (λ x t. fallIf b (λ y. fallIf c (g x y) (t .1)) (t .0))
+      (λ t. fallIf-zero b (λ y. fallIf c (g (suc n) y) (t .1)) (t .0) (λ y. fallIf-zero c (g (suc n) y) (t .1) (λ z. v (suc n) y z (λ k. omega arith))))
       ∙ counted-ext a n (λ x.
-      scaled-drop b n (scaled c n) (scaled-keeps c n) (λ y z. drop c (g x y) z) (λ z. drop-zero c (g x (suc n)) z (λ z. v x (suc n) z (λ k. omega arith)))
+      scaled-fall b n (scaled c n) (scaled-keeps c n) (λ y z. fallIf c (g x y) z) (λ z. fallIf-zero c (g x (suc n)) z (λ z. v x (suc n) z (λ k. omega arith)))
       ∙ counted-ext b n (λ y.
-      scaled-drop c n (λ (h : Unit {0} → ℤ). h tt) (λ f g. refl) (λ z t. g x y z) (λ t. v x y (suc n) (λ k. omega arith))))
+      scaled-fall c n (λ (h : Unit {0} → ℤ). h tt) (λ f g. refl) (λ z t. g x y z) (λ t. v x y (suc n) (λ k. omega arith))))
 
 -- the same for counts
 pub by-parts-count : (a b c : Bool) (n : ℕ) (g : ℕ → ℕ → ℕ → ℕ) → Vanishes n (λ x y z. pos (g x y z))

@@ -1,4 +1,5 @@
-// The unit edges at a lattice point, and the corner test, from the pattern byte: document 01, 'Cells and the three totals', 'Corner points'.
+// The unit edges at a lattice point, and the corner test, from the pattern byte: document 01, 'Cells and the three totals' and
+// 'Corner points'.
 ghost use mathlib.Core.Path.{_≡_};
 ghost use mathlib.Core.Bool.{Bool, false};
 ghost use Prim.Native.Nat.{ℕ, _<_};
@@ -18,7 +19,8 @@ pub enum UnitEdge {
     AboveZ,
 }
 
-// What a unit edge counts, by which of the four cells about it are covered: the low four bits of q, where 1 and 8, and 2 and 4, share only the edge.
+// What a unit edge counts, by which of the four cells about it are covered: the low four bits of q, where 1 and 8, and 2 and 4, share
+// only the edge.
 pub fn edge_of_four(q: u8) -> u8
     ensures { λ r. ⌜ r ≡ edge (λ b c. ofByte q false b c) ⌝ }
 {

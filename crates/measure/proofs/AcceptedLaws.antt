@@ -1,5 +1,6 @@
--- What is known of a list that a call accepts: it is valid, the totals are its cell counts, and the buffer holds its listing.
-use mathlib.Core.Path.{_≡_, refl, sym, _∙_, ap, subst}
+-- What is known of a list that a call accepts, from what the call promises: the list is valid, the totals are its cell counts, the work slice
+-- holds its index, and the buffer its listing.
+use mathlib.Core.Path.{_≡_, sym, _∙_, ap}
 use mathlib.Core.List.{List, _++_}
 use Prim.Native.Nat.{ℕ, _*_}
 use lib.ListN.{length, drop}
@@ -8,65 +9,65 @@ use Rattle.lattice.specs.Listing.{cornerCount, listing}
 use Rattle.lattice_sums.specs.CornerSums.{totalsOf}
 use Rattle.lattice_sums.specs.declared.sums.Totals.{Totals}
 use Rattle.job.specs.Job.{Valid}
-use Rattle.job.specs.Checking.{Test, andThen}
+use Rattle.job.specs.declared.Refusal.the-variants.{ShortListing}
 use Rattle.job.specs.declared.Checked.{Checked}
-use Rattle.job.specs.declared.Checked.the-variants.{Accepted as Passed, Refused}
-use Rattle.measure_intake.specs.Intake.{solid, measureChecked, answerOf, measureAnswer, onChecked}
-use Rattle.measure.specs.Answers.{listChecked, shortListing, listAnswer, listingAfter}
-use Rattle.measure_intake.specs.declared.Measured.{Measured}
-use Rattle.measure_intake.specs.declared.Measured.the-variants.{Quote, Refused as Unmeasured}
-use Rattle.measure_intake.proofs.IntakeLaws.{accepted-list}
+use Rattle.job.specs.declared.Checked.the-variants.{Accepted as Passed}
+use Rattle.grid.specs.Grid.{indexOf, need, Holds}
+use Rattle.measure_intake.specs.Intake.{solid, measureTests, measureChecked, answerOf, measureAnswer, measuredNumbers, numbersAfter, measureNumbers, sliceAfter, workAfter, MeasureCall}
+use Rattle.measure_intake.specs.declared.Measured.the-variants.{Quote}
+use Rattle.measure_intake.proofs.OneMore.{more-accepted}
+use Rattle.measure_intake.proofs.Refused.{answer-accepted, checks-accepted}
+use Rattle.measure.specs.Answers.{listTests, listChecked, listAnswer, listNumbers, listingOver, listingAfter, ListCall}
 
--- a list that measuring accepts, with these totals
-pub record Accepted (F E G : ℕ) (coords : List ℕ) (entries : ℕ) (t : Totals) : Type 0 where
+-- an accepted list, with these totals and this work slice
+pub record Accepted (F E G : ℕ) (coords : List ℕ) (t : Totals) (work' : List ℕ) : Type 0 where
   pub valid : Valid F E G coords
   pub totals-are : t ≡ totalsOf F (solid E coords)
+  pub holds-index : Holds F E G coords work'
 
--- an answer that is a quote comes of checks that pass
-IsQuote : Measured → Type 0
-IsQuote (Quote t) = Unit {0}
-IsQuote (Unmeasured r) = ⊥
+-- the numbers of checks that pass are the totals
+passed-totals : {c : Checked} (n : ℕ) (s : Cells) {t : Totals} → measuredNumbers (Quote t) ≡ numbersAfter c n s → c ≡ Passed → t ≡ totalsOf n s
+unfolding measuredNumbers
+passed-totals n s e k = ap (λ m. m .totals) (e ∙ ap (λ c. numbersAfter c n s) k)
 
-quote-passed : (c : Checked) (n : ℕ) (s : Cells) {t : Totals} → Quote t ≡ answerOf c n s → c ≡ Passed
-unfolding IsQuote
-quote-passed Passed n s e = refl
-quote-passed (Refused r) n s e = absurd (subst IsQuote e tt)
+-- the work slice that they leave holds the index
+passed-holds : (F E G : ℕ) (coords work : List ℕ) {work' : List ℕ} → work' ≡ workAfter F E G coords work → measureChecked F E G coords (length work) ≡ Passed → Holds F E G coords work'
+unfolding workAfter
+passed-holds F E G coords work e k = record {
+  rest = drop (need F E G coords) work;
+  is = e ∙ ap (λ c. sliceAfter c work (indexOf F E G coords ++ drop (need F E G coords) work)) k;
+}
 
-quote-totals : {c : Checked} (n : ℕ) (s : Cells) {t : Totals} → Quote t ≡ answerOf c n s → c ≡ Passed → t ≡ totalsOf n s
-quote-totals n s {t} e k = same (Quote t) (e ∙ ap (λ c. answerOf c n s) k)
-  where
-    of : Measured → Totals
-    of (Quote u) = u
-    of (Unmeasured r) = t
-
-    same : (a : Measured) → a ≡ Quote (totalsOf n s) → of a ≡ totalsOf n s
-    same a h = ap of h
-
--- of two checks that pass one after the other, the first passes
-earlier-passed : (c : Checked) (t : Test) → andThen c t ≡ Passed → c ≡ Passed
-earlier-passed Passed t e = refl
-earlier-passed (Refused r) t e = e
-
-pub accepted : (F E G : ℕ) (coords work : List ℕ) (t : Totals) → Quote t ≡ measureAnswer F E G coords (length work) → Accepted F E G coords (length work) t
-unfolding measureAnswer
-accepted F E G coords work t e =
-    let k = quote-passed (measureChecked F E G coords (length work)) F (solid E coords) e in
-    record { valid = accepted-list F E G coords work k; totals-are = quote-totals F (solid E coords) e k }
-
--- a list that listing accepts, and what the buffer holds then
-pub record Listed (F E G : ℕ) (coords : List ℕ) (entries : ℕ) (buffer : List ℕ) (t : Totals) : Type 0 where
-  pub measures : Accepted F E G coords entries t
-  pub bytes-after : listingAfter F E G coords entries buffer ≡ listing F (solid E coords) ++ drop (7 * t .corners) buffer
-
-pub listed-accepted : (F E G : ℕ) (coords work buffer : List ℕ) (t : Totals) → Quote t ≡ listAnswer F E G coords (length work) (length buffer) → Listed F E G coords (length work) buffer t
-unfolding listAnswer listingAfter listChecked totalsOf
-listed-accepted F E G coords work buffer t e =
-    let s : Cells = solid E coords in
-    let k = quote-passed (listChecked F E G coords (length work) (length buffer)) F s e in
-    let u = quote-totals F s e k in
+pub measure-accepted : {F E G : ℕ} {coords work work' : List ℕ} {t : Totals} → MeasureCall F E G coords work (Quote t) work' → Accepted F E G coords t work'
+unfolding measureAnswer measureNumbers
+measure-accepted {F} {E} {G} {coords} {work} {work'} {t} call =
+    let k = answer-accepted (measureChecked F E G coords (length work)) F (solid E coords) .0 (t, sym (call .answer)) in
     record {
-      measures = record { valid = accepted-list F E G coords work (earlier-passed (measureChecked F E G coords (length work)) (shortListing F s (length buffer)) k); totals-are = u };
-      bytes-after =
-          ap (λ c. onChecked c buffer (listing F s ++ drop (7 * cornerCount F s) buffer)) k
-          ∙ ap (λ n. listing F s ++ drop (7 * n) buffer) (sym (ap (λ (t : Totals). t .corners) u));
+      valid = checks-accepted F E G coords (length work) .0 k .0;
+      totals-are = passed-totals F (solid E coords) (call .numbers) k;
+      holds-index = passed-holds F E G coords work (call .index) k;
     }
+
+module _ {F E G : ℕ} {coords work buffer work' buffer' : List ℕ} {t : Totals} (call : ListCall F E G coords work buffer (Quote t) work' buffer') where
+  passed : listChecked F E G coords (length work) (length buffer) ≡ Passed
+  unfolding listAnswer
+  passed = answer-accepted (listChecked F E G coords (length work) (length buffer)) F (solid E coords) .0 (t, sym (call .answer))
+
+  pub list-accepted : Accepted F E G coords t work'
+  unfolding listNumbers listTests
+  list-accepted =
+      let n = cornerCount F (solid E coords) in
+      let k = more-accepted (measureTests F E G coords (length work)) (length buffer) (7 * n) (ShortListing n) .0 passed .0 in
+      record {
+        valid = checks-accepted F E G coords (length work) .0 k .0;
+        totals-are = passed-totals F (solid E coords) (call .numbers) passed;
+        holds-index = passed-holds F E G coords work (call .index) k;
+      }
+
+  -- what the buffer holds then
+  pub list-stored : buffer' ≡ listing F (solid E coords) ++ drop (7 * t .corners) buffer
+  unfolding listingAfter totalsOf
+  list-stored =
+      call .listing
+      ∙ ap (λ c. sliceAfter c buffer (listingOver F (solid E coords) buffer)) passed
+      ∙ ap (λ n. listing F (solid E coords) ++ drop (7 * n) buffer) (sym (ap (λ (t : Totals). t .corners) (list-accepted .totals-are)))

@@ -4,17 +4,14 @@
 // read first, what that means for every accepted list. Both calls count by the corner sums over the corner points that `sweep` finds. Stands on
 // `measure_intake` and `sweep`.
 ghost use mathlib.Core.Path.{_≡_};
-ghost use mathlib.Core.List.{_++_};
 ghost use Prim.Native.Nat.{_*_, _≤_};
-ghost use lib.ListN.{length, drop};
-ghost use Rattle.lattice.specs.Listing.{cornerCount, listing};
+ghost use lib.ListN.{length};
+ghost use Rattle.lattice.specs.Listing.{cornerCount};
 ghost use Rattle.lattice_sums.specs.CornerSums.{totalsOf};
 ghost use Rattle.job.specs.Job.{Valid};
 ghost use Rattle.grid.specs.Grid.{Holds};
-ghost use Rattle.measure_intake.specs.Intake.{solid, answerOf, onChecked, measureAnswer, workAfter};
-ghost use Rattle.measure.specs.Answers.{shortListing, listAnswer, listingAfter};
-ghost use Rattle.job.specs.Checking.{andThen};
-ghost use Rattle.job.specs.declared.Checked.the-variants.{Accepted};
+ghost use Rattle.measure_intake.specs.Intake.{solid, MeasureCall};
+ghost use Rattle.measure.specs.Answers.{listingOver, CornersListed, ListCall};
 use job::Checked;
 use job::Refusal;
 use lattice_sums::sums::Totals;
@@ -35,7 +32,7 @@ fn count(field: u16, edge: u16, grid: u16, coords: &[u16], work: &[u32]) -> Tota
 fn store(field: u16, edge: u16, grid: u16, coords: &[u16], work: &[u32], buffer: &mut [u8])
     requires { ⌜ Valid field edge grid (now coords) × Holds field edge grid (now coords) (now work) ⌝ }
     requires { ⌜ 7 * cornerCount field (solid edge (now coords)) ≤ length (now buffer) ⌝ }
-    ensures { λ _. ⌜ now (buffer .exit) ≡ listing field (solid edge (now (coords .entry))) ++ drop (7 * cornerCount field (solid edge (now (coords .entry)))) (now (buffer .entry)) ⌝ }
+    ensures { λ _. ⌜ now (buffer .exit) ≡ listingOver field (solid edge (now (coords .entry))) (now (buffer .entry)) ⌝ }
 {
     sweep::sweep(field, edge, grid, coords, work, buffer);
 }
@@ -50,8 +47,7 @@ fn list_corners(
     buffer: &mut [u8],
 ) -> Measured
     requires { ⌜ Valid field edge grid (now coords) × Holds field edge grid (now coords) (now work) ⌝ }
-    ensures answer { λ r. ⌜ r ≡ answerOf (andThen Accepted (shortListing field (solid edge (now (coords .entry))) (length (now (buffer .entry))))) field (solid edge (now (coords .entry))) ⌝ }
-    ensures listing { λ _. ⌜ now (buffer .exit) ≡ onChecked (andThen Accepted (shortListing field (solid edge (now (coords .entry))) (length (now (buffer .entry))))) (now (buffer .entry)) (listing field (solid edge (now (coords .entry))) ++ drop (7 * cornerCount field (solid edge (now (coords .entry)))) (now (buffer .entry))) ⌝ }
+    ensures { λ r. ⌜ CornersListed field (solid edge (now (coords .entry))) (now (buffer .entry)) r (now (buffer .exit)) ⌝ }
 {
     let totals = count(field, edge, grid, coords, work);
     let corners = totals.corners;
@@ -65,8 +61,7 @@ fn list_corners(
 // Measures a list: gives its three totals and its corner count, and leaves its index in the work slice. Refusals 1, 2, 6, 7, 8, 9, 10, in this
 // order, change nothing.
 pub fn measure(field: u16, edge: u16, grid: u16, coords: &[u16], work: &mut [u32]) -> Measured
-    ensures answer { λ r. ⌜ r ≡ measureAnswer field edge grid (now (coords .entry)) (length (now (work .entry))) ⌝ }
-    ensures index { λ _. ⌜ now (work .exit) ≡ workAfter field edge grid (now (coords .entry)) (now (work .entry)) ⌝ }
+    ensures { λ r. ⌜ MeasureCall field edge grid (now (coords .entry)) (now (work .entry)) r (now (work .exit)) ⌝ }
 {
     let checked = indexed(field, edge, grid, coords, work);
     match checked {
@@ -85,9 +80,7 @@ pub fn list(
     work: &mut [u32],
     buffer: &mut [u8],
 ) -> Measured
-    ensures answer { λ r. ⌜ r ≡ listAnswer field edge grid (now (coords .entry)) (length (now (work .entry))) (length (now (buffer .entry))) ⌝ }
-    ensures index { λ _. ⌜ now (work .exit) ≡ workAfter field edge grid (now (coords .entry)) (now (work .entry)) ⌝ }
-    ensures listing { λ _. ⌜ now (buffer .exit) ≡ listingAfter field edge grid (now (coords .entry)) (length (now (work .entry))) (now (buffer .entry)) ⌝ }
+    ensures { λ r. ⌜ ListCall field edge grid (now (coords .entry)) (now (work .entry)) (now (buffer .entry)) r (now (work .exit)) (now (buffer .exit)) ⌝ }
 {
     let checked = indexed(field, edge, grid, coords, work);
     match checked {

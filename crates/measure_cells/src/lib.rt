@@ -4,9 +4,7 @@
 pub mod points;
 pub mod tallies;
 
-ghost use mathlib.Core.Path.{_≡_};
-ghost use lib.ListN.{length};
-ghost use Rattle.measure_intake.specs.Intake.{measureAnswer, workAfter};
+ghost use Rattle.measure_intake.specs.Intake.{MeasureCall};
 use crate::points::count_field;
 use job::Checked;
 use measure_intake::Measured;
@@ -14,8 +12,7 @@ use measure_intake::indexed;
 
 // Counts a list: the answer and the index of the measuring call, by counting.
 pub fn recount(field: u16, edge: u16, grid: u16, coords: &[u16], work: &mut [u32]) -> Measured
-    ensures answer { λ r. ⌜ r ≡ measureAnswer field edge grid (now (coords .entry)) (length (now (work .entry))) ⌝ }
-    ensures index { λ _. ⌜ now (work .exit) ≡ workAfter field edge grid (now (coords .entry)) (now (work .entry)) ⌝ }
+    ensures { λ r. ⌜ MeasureCall field edge grid (now (coords .entry)) (now (work .entry)) r (now (work .exit)) ⌝ }
 {
     let checked = indexed(field, edge, grid, coords, work);
     match checked {

@@ -1,8 +1,5 @@
 // What one lattice point counts, from its pattern byte.
 ghost use mathlib.Core.Path.{_≡_};
-ghost use mathlib.Core.Bool.{Bool, true};
-ghost use Prim.Native.Nat.{_≤_};
-ghost use Rattle.lattice.specs.Cells.{square};
 ghost use Rattle.lattice.specs.Pattern.{ofByte};
 ghost use Rattle.measure_cells.specs.Points.{atPattern, plus, AtMost, differs};
 use lattice_sums::edges::UnitEdge;

@@ -1,75 +1,92 @@
--- How the answers follow from the checks, the length of the work slice and the index.
+-- How the promises follow from the checks, the length of the work slice and the index, and what is known of an accepted list.
 use mathlib.Core.Path.{_≡_, refl, sym, _∙_, ap}
-use mathlib.Core.Bool.{cond}
-use mathlib.Core.List.{List, _++_}
+use mathlib.Core.List.{List, [], _∷_, _++_}
 use Prim.Native.Nat.{ℕ, _≤_, _<_}
+use native.Mathlib.Omega.{arith}
 use lib.ListN.{length, drop}
-use borrow.Author.Tests.{lt-ltb, le-ltb}
+use Rattle.lattice.specs.Cells.{Cells}
 use Rattle.lattice_sums.specs.CornerSums.{totalsOf}
 use Rattle.lattice_sums.specs.declared.sums.Totals.{Totals}
 use Rattle.job.specs.Job.{Valid}
-use Rattle.job.specs.Checking.{checked, andThen}
+use Rattle.job.specs.Checking.{tests, checked}
 use Rattle.job.specs.declared.Refusal.{Refusal}
 use Rattle.job.specs.declared.Refusal.the-variants.{ShortWork}
 use Rattle.job.specs.declared.Checked.{Checked}
 use Rattle.job.specs.declared.Checked.the-variants.{Accepted, Refused}
 use Rattle.job.proofs.Conditions.{accepted-valid}
+use Rattle.job.proofs.Places.{first-stopped, checks}
 use Rattle.grid.specs.Grid.{indexOf, need, Holds}
-use Rattle.measure_intake.specs.Intake.{solid, measureChecked, shortWork, answerOf, measureAnswer, onChecked, workAfter}
+use Rattle.measure_intake.specs.Intake.{solid, shortWork, measureTests, measureChecked, answerOf, measureAnswer, measuredNumbers, numbersAfter, measureNumbers, sliceAfter, workAfter, IndexCall, MeasureCall}
+use Rattle.measure_intake.specs.declared.Measured.{Measured}
 use Rattle.measure_intake.specs.declared.Measured.the-variants.{Quote, Refused as Unmeasured}
+use Rattle.measure_intake.proofs.OneMore.{too-short, long-enough, more-accepted}
 
--- ---- the checks and the index
+-- ---- the intake
 module _ (F E G : ℕ) (coords work : List ℕ) where
-  -- a refused list
-  pub refused-checked : {c : Checked} (r : Refusal) → c ≡ checked F E G coords → c ≡ Refused r → c ≡ measureChecked F E G coords (length work)
-  unfolding measureChecked
-  refused-checked r e k = k ∙ ap (λ d. andThen d (shortWork F E G coords (length work))) (sym k ∙ e)
+  -- the work slice after these checks
+  left : Checked → List ℕ
+  left c = sliceAfter c work (indexOf F E G coords ++ drop (need F E G coords) work)
 
-  pub refused-work : (r : Refusal) → Refused r ≡ measureChecked F E G coords (length work) → work ≡ workAfter F E G coords work
-  unfolding workAfter
-  refused-work r e = ap (λ d. onChecked d work (indexOf F E G coords ++ drop (need F E G coords) work)) e
+  intake-is : {c : Checked} {work' : List ℕ} → c ≡ measureChecked F E G coords (length work) → work' ≡ left c → IndexCall F E G coords work c work'
+  unfolding workAfter left
+  intake-is e k = record { answer = e; numbers = checks (measureTests F E G coords (length work)) e .numbers; index = k ∙ ap left e }
 
-  -- an accepted list, and a work slice that is too short or long enough
+  -- a list that the checks refuse
+  pub refused-intake : {c : Checked} (r : Refusal) → c ≡ checked F E G coords → c ≡ Refused r → IndexCall F E G coords work c work
+  unfolding measureTests left
+  refused-intake r e k =
+      intake-is (k ∙ sym (first-stopped (shortWork F E G coords (length work) ∷ []) (tests F E G coords) (sym e ∙ k))) (sym (ap left k))
+
+  -- one that they accept, and a work slice that is too short or long enough
   module _ (accepted : checked F E G coords ≡ Accepted) where
     pub valid : Valid F E G coords
     valid = accepted-valid F E G coords .0 accepted
 
-    pub short-checked : length work < need F E G coords → Refused (ShortWork (need F E G coords)) ≡ measureChecked F E G coords (length work)
-    unfolding measureChecked
-    short-checked h = sym (ap (λ d. andThen d (shortWork F E G coords (length work))) accepted ∙ ap (λ b. cond b (Refused (ShortWork (need F E G coords))) Accepted) (lt-ltb (length work) (need F E G coords) h))
+    pub short-intake : {n : ℕ} → n ≡ need F E G coords → length work < n → IndexCall F E G coords work (Refused (ShortWork n)) work
+    unfolding measureTests left
+    short-intake e h =
+        intake-is (ap (λ n. Refused (ShortWork n)) e ∙ sym (too-short (tests F E G coords) (length work) (need F E G coords) (ShortWork (need F E G coords)) accepted (omega (arith, e)))) refl
 
-    pub long-checked : need F E G coords ≤ length work → Accepted ≡ measureChecked F E G coords (length work)
-    unfolding measureChecked
-    long-checked h = sym (ap (λ d. andThen d (shortWork F E G coords (length work))) accepted ∙ ap (λ b. cond b (Refused (ShortWork (need F E G coords))) Accepted) (le-ltb (length work) (need F E G coords) h))
+    pub long-intake : {n : ℕ} {work' : List ℕ} → n ≡ need F E G coords → n ≤ length work → work' ≡ indexOf F E G coords ++ drop (need F E G coords) work
+        → IndexCall F E G coords work Accepted work'
+    unfolding measureTests left
+    long-intake e h k = intake-is (sym (long-enough (tests F E G coords) (length work) (need F E G coords) (ShortWork (need F E G coords)) accepted (omega (arith, e)))) k
 
-  pub long-work : {after : List ℕ} → Accepted ≡ measureChecked F E G coords (length work) → after ≡ indexOf F E G coords ++ drop (need F E G coords) work → after ≡ workAfter F E G coords work
-  unfolding workAfter
-  long-work e k = k ∙ ap (λ d. onChecked d work (indexOf F E G coords ++ drop (need F E G coords) work)) e
+-- ---- an accepted list: it is valid, and the work slice holds its index
+module _ {F E G : ℕ} {coords work work' : List ℕ} {c : Checked} (call : IndexCall F E G coords work c work') (k : c ≡ Accepted) where
+  pub accepted-list : Valid F E G coords
+  unfolding measureTests
+  accepted-list =
+      accepted-valid F E G coords .0
+      (more-accepted (tests F E G coords) (length work) (need F E G coords) (ShortWork (need F E G coords)) .0 (sym (call .answer) ∙ k) .0)
 
-  -- what an accepted list leaves is its index
-  pub accepted-list : measureChecked F E G coords (length work) ≡ Accepted → Valid F E G coords
-  unfolding measureChecked
-  accepted-list e = accepted-valid F E G coords .0 (first (checked F E G coords) e)
-    where
-      first : (c : Checked) → andThen c (shortWork F E G coords (length work)) ≡ Accepted → c ≡ Accepted
-      first Accepted k = refl
-      first (Refused r) k = k
-
-  pub accepted-holds : measureChecked F E G coords (length work) ≡ Accepted → {after : List ℕ} → after ≡ workAfter F E G coords work → Holds F E G coords after
-  unfolding workAfter
-  accepted-holds e k = record {
+  pub accepted-holds : Holds F E G coords work'
+  unfolding workAfter left
+  accepted-holds = record {
     rest = drop (need F E G coords) work;
-    is = k ∙ ap (λ d. onChecked d work (indexOf F E G coords ++ drop (need F E G coords) work)) e;
+    is = call .index ∙ ap (left F E G coords work) (sym (call .answer) ∙ k);
   }
 
--- ---- the answers
-module _ (F E G : ℕ) (coords : List ℕ) (entries : ℕ) where
-  module _ (r : Refusal) (e : Refused r ≡ measureChecked F E G coords entries) where
-    pub refused-answer : Unmeasured r ≡ measureAnswer F E G coords entries
-    unfolding measureAnswer
-    refused-answer = ap (λ c. answerOf c F (solid E coords)) e
+-- ---- the numbers of an answer
+pub answer-numbers : (c : Checked) (F : ℕ) (s : Cells) → measuredNumbers (answerOf c F s) ≡ numbersAfter c F s
+unfolding measuredNumbers
+answer-numbers Accepted F s = refl
+answer-numbers (Refused r) F s = refl
 
-  module _ (e : measureChecked F E G coords entries ≡ Accepted) where
-    pub accepted-answer : {t : Totals} → t ≡ totalsOf F (solid E coords) → Quote t ≡ measureAnswer F E G coords entries
-    unfolding measureAnswer
-    accepted-answer k = ap Quote k ∙ ap (λ c. answerOf c F (solid E coords)) (sym e)
+-- ---- measuring, after the intake
+module _ {F E G : ℕ} {coords work work' : List ℕ} {c : Checked} (call : IndexCall F E G coords work c work') where
+  measure-is : {m : Measured} → m ≡ answerOf c F (solid E coords) → MeasureCall F E G coords work m work'
+  unfolding measureAnswer measureNumbers
+  measure-is e =
+      let k = e ∙ ap (λ c. answerOf c F (solid E coords)) (call .answer) in
+      record {
+        answer = k;
+        numbers = ap measuredNumbers k ∙ answer-numbers (measureChecked F E G coords (length work)) F (solid E coords);
+        index = call .index;
+      }
+
+  pub refused-measure : (r : Refusal) → c ≡ Refused r → MeasureCall F E G coords work (Unmeasured r) work'
+  refused-measure r k = measure-is (ap (λ c. answerOf c F (solid E coords)) (sym k))
+
+  pub accepted-measure : {t : Totals} → c ≡ Accepted → t ≡ totalsOf F (solid E coords) → MeasureCall F E G coords work (Quote t) work'
+  accepted-measure k e = measure-is (ap Quote e ∙ ap (λ c. answerOf c F (solid E coords)) (sym k))

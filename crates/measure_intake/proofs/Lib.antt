@@ -1,2 +1,3 @@
+pub mod OneMore
 pub mod IntakeLaws
 pub mod Refused

@@ -1,10 +1,14 @@
--- What the quoting program prints for a shot file: document 01, the end of 'Jobs with known totals'.
+-- What the quoting program prints for a shot file, and what is in the lent slices then: document 01, the end of 'Jobs with known totals'.
+use mathlib.Core.Path.{_≡_}
 use mathlib.Core.List.{List}
 use Prim.Native.Nat.{ℕ}
+use lib.ListN.{length}
+use Rattle.buffer.specs.Wrote.{Wrote}
 use Rattle.job.specs.Refusals.{numberOf, detailOf}
 use Rattle.job.specs.declared.Refusal.{Refusal}
 use Rattle.shotfile.specs.Files.{File, file, refused, fileIn}
-use Rattle.measure_intake.specs.Intake.{measureAnswer}
+use Rattle.shotfile.specs.Calls.{readCoords}
+use Rattle.measure_intake.specs.Intake.{measureAnswer, workAfter}
 use Rattle.measure_intake.specs.declared.Measured.{Measured}
 use Rattle.measure_intake.specs.declared.Measured.the-variants.{Quote, Refused}
 use Rattle.text_report.specs.Lines.{quoteLines, refusalLine}
@@ -18,10 +22,27 @@ answerText (Quote t) = quoteLines t
 answerText (Refused r) = refusalText r
 
 -- the file is read, and the list that it holds is measured
-abbrev pub fileText : File → ℕ → List ℕ
-fileText (file f coords) entries = answerText (measureAnswer (f .first) (f .second) (f .third) coords entries)
-fileText (refused r) entries = refusalText r
+abbrev pub quotedText : File → ℕ → List ℕ
+quotedText (file f coords) entries = answerText (measureAnswer (f .first) (f .second) (f .third) coords entries)
+quotedText (refused r) entries = refusalText r
 
 -- with so many coordinate places and work entries
 unfoldable pub quoteText : List ℕ → ℕ → ℕ → List ℕ
-quoteText bytes places entries = fileText (fileIn places bytes) entries
+quoteText bytes places entries = quotedText (fileIn places bytes) entries
+
+-- the work slice then: the index of the list, if neither the file nor the list is refused
+abbrev pub indexAfter : File → List ℕ → List ℕ
+indexAfter (file f coords) work = workAfter (f .first) (f .second) (f .third) coords work
+indexAfter (refused r) work = work
+
+-- ---- the promises
+-- quoting a list: the text at the front, and the index
+pub record ListQuoted (F E G : ℕ) (coords work out : List ℕ) (r : ℕ) (work' out' : List ℕ) : Type 0 where
+  pub text : Wrote out out' 0 r (answerText (measureAnswer F E G coords (length work)))
+  pub index : work' ≡ workAfter F E G coords work
+
+-- quoting a file: also its coordinates. A refused file leaves both slices as they were.
+pub record FileQuoted (bytes coords work out : List ℕ) (r : ℕ) (coords' work' out' : List ℕ) : Type 0 where
+  pub text : Wrote out out' 0 r (quoteText bytes (length coords) (length work))
+  pub coordinates : coords' ≡ readCoords (fileIn (length coords) bytes) coords
+  pub index : work' ≡ indexAfter (fileIn (length coords) bytes) work

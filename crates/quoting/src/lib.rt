@@ -3,9 +3,8 @@
 ghost use Prim.Native.Nat.{_≤_};
 ghost use lib.ListN.{length};
 ghost use Rattle.buffer.specs.Wrote.{Wrote};
-ghost use mathlib.Core.Path.{_≡_};
-ghost use Rattle.measure_intake.specs.Intake.{measureAnswer};
-ghost use Rattle.quoting.specs.Quoting.{refusalText, answerText, quoteText};
+ghost use Rattle.measure_intake.specs.Intake.{MeasureCall};
+ghost use Rattle.quoting.specs.Quoting.{refusalText, ListQuoted, FileQuoted};
 use job::Refusal;
 use measure_intake::Measured;
 use shotfile::reader::ReadAnswer;
@@ -27,7 +26,7 @@ fn figures(
     coords: &[u16],
     work: &mut [u32],
 ) -> Measured
-    ensures { λ r. ⌜ r ≡ measureAnswer field edge grid (now (coords .entry)) (length (now (work .entry))) ⌝ }
+    ensures { λ r. ⌜ MeasureCall field edge grid (now (coords .entry)) (now (work .entry)) r (now (work .exit)) ⌝ }
 {
     if again {
         return measure_cells::recount(field, edge, grid, coords, work);
@@ -46,7 +45,7 @@ fn quote_list(
     out: &mut [u8],
 ) -> usize
     requires { ⌜ 128 ≤ length (now out) ⌝ }
-    ensures { λ r. ⌜ Wrote (now (out .entry)) (now (out .exit)) 0 r (answerText (measureAnswer field edge grid (now (coords .entry)) (length (now (work .entry))))) ⌝ }
+    ensures { λ r. ⌜ ListQuoted field edge grid (now (coords .entry)) (now (work .entry)) (now (out .entry)) r (now (work .exit)) (now (out .exit)) ⌝ }
 {
     let measured = figures(again, field, edge, grid, coords, work);
     match measured {
@@ -64,7 +63,8 @@ fn quote_file(
     out: &mut [u8],
 ) -> usize
     requires { ⌜ 128 ≤ length (now out) ⌝ }
-    ensures { λ r. ⌜ Wrote (now (out .entry)) (now (out .exit)) 0 r (quoteText (now (bytes .entry)) (length (now (coords .entry))) (length (now (work .entry)))) ⌝ }
+    ensures { λ r. ⌜ FileQuoted (now (bytes .entry)) (now (coords .entry)) (now (work .entry)) (now (out .entry))
+        r (now (coords .exit)) (now (work .exit)) (now (out .exit)) ⌝ }
 {
     let read = shotfile::reader::read(bytes, coords);
     match read {
@@ -81,10 +81,12 @@ fn quote_file(
     }
 }
 
-// What the quoting program prints for a shot file, put to the front of a slice of at least 128 bytes.
+// What the quoting program prints for a shot file, put to the front of a slice of at least 128 bytes. The coordinates and the index of the list
+// stay in the other slices.
 pub fn quote(bytes: &[u8], coords: &mut [u16], work: &mut [u32], out: &mut [u8]) -> usize
     requires { ⌜ 128 ≤ length (now out) ⌝ }
-    ensures { λ r. ⌜ Wrote (now (out .entry)) (now (out .exit)) 0 r (quoteText (now (bytes .entry)) (length (now (coords .entry))) (length (now (work .entry)))) ⌝ }
+    ensures { λ r. ⌜ FileQuoted (now (bytes .entry)) (now (coords .entry)) (now (work .entry)) (now (out .entry))
+        r (now (coords .exit)) (now (work .exit)) (now (out .exit)) ⌝ }
 {
     quote_file(false, bytes, coords, work, out)
 }
@@ -92,7 +94,8 @@ pub fn quote(bytes: &[u8], coords: &mut [u16], work: &mut [u32], out: &mut [u8])
 // The same text, from totals that are counted again, cell by cell.
 pub fn recount(bytes: &[u8], coords: &mut [u16], work: &mut [u32], out: &mut [u8]) -> usize
     requires { ⌜ 128 ≤ length (now out) ⌝ }
-    ensures { λ r. ⌜ Wrote (now (out .entry)) (now (out .exit)) 0 r (quoteText (now (bytes .entry)) (length (now (coords .entry))) (length (now (work .entry)))) ⌝ }
+    ensures { λ r. ⌜ FileQuoted (now (bytes .entry)) (now (coords .entry)) (now (work .entry)) (now (out .entry))
+        r (now (coords .exit)) (now (work .exit)) (now (out .exit)) ⌝ }
 {
     quote_file(true, bytes, coords, work, out)
 }

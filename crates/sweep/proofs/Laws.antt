@@ -25,15 +25,15 @@ use Rattle.lattice.proofs.ShotLaws.{and-elim, or-elim, no-face-no-corner}
 use Rattle.lattice.proofs.Cases.{bool-ext}
 use Rattle.lattice.proofs.JoinLaws.{join-nil, join-end}
 use Rattle.lattice.proofs.SameSolid.{here-none}
-use Rattle.job.specs.Job.{Valid, shotsOf, shotAt}
+use Rattle.job.specs.Job.{Valid, shotsOf, shotAt, shotCount}
 use Rattle.job.proofs.Tests.{or-left, or-right}
 use Rattle.job.proofs.Shots.{stay-at, any-at, at-any}
 use Rattle.job.proofs.Conditions.{valid-within}
 use Rattle.buffer.specs.Wrote.{Wrote}
 use Rattle.buffer.proofs.WroteLaws.{front-part}
 use Rattle.grid.specs.Numbers.{has}
-use Rattle.grid.specs.Grid.{slabOf, shotCount, touchesSlab, meets}
-use Rattle.grid.proofs.NumberLaws.{has-keep}
+use Rattle.grid.specs.Grid.{slabOf, touchesSlab, meets}
+use Rattle.grid.proofs.NumberLaws.{has-those}
 use Rattle.grid.proofs.CellLaws.{slab-few}
 use Rattle.grid.proofs.ShotLaws.{width-times}
 use Rattle.grid_runs.proofs.SlabLaws.{plane-meets, slab-has}
@@ -187,7 +187,7 @@ module _ (F E G : ℕ) (coords : List ℕ) (v : Valid F E G coords) where
     slab-below k h =
         let i : ℕ = getD (slabOf F E G coords gx) k 0 in
         let t : T (ltb i (shotCount coords) && touchesSlab (F / G) gx (shotAt E coords i))
-        = subst T (has-keep i (λ i. touchesSlab (F / G) gx (shotAt E coords i)) (shotCount coords)) (place-has (slabOf F E G coords gx) k h) in
+        = subst T (has-those i (λ i. touchesSlab (F / G) gx (shotAt E coords i)) (shotCount coords)) (place-has (slabOf F E G coords gx) k h) in
         ltb→lt i (shotCount coords) (and-elim (ltb i (shotCount coords)) (touchesSlab (F / G) gx (shotAt E coords i)) t .0)
 
     pub slab-in-run : InRun 1024 E coords (slabOf F E G coords gx)

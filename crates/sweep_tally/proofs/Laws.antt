@@ -12,7 +12,7 @@ use Rattle.lattice.specs.Listing.{Corner, cornerRecord}
 use Rattle.lattice_sums.specs.CornerSums.{added, Room}
 use Rattle.lattice_sums.specs.declared.sums.CornerSums.{CornerSums}
 use Rattle.lattice_sums.proofs.CornerSumLaws.{added-room, room-more}
-use Rattle.sweep_tally.specs.Found.{at, spot, stored, Found, state, meet, found}
+use Rattle.sweep_tally.specs.Found.{at, spot, withRecord, stored, Found, state, meet, found}
 
 -- ---- the buffer
 -- seven stores one after the other
@@ -31,7 +31,7 @@ seven l i a b c d e f g h =
 
 pub record-stored : (l : List ℕ) (i x y z p : ℕ) → i + 7 ≤ length l
     → set (set (set (set (set (set (set l i (x % 256)) (i + 1) (x / 256)) (i + 2) (y % 256)) (i + 3) (y / 256)) (i + 4) (z % 256)) (i + 5) (z / 256)) (i + 6) p
-    ≡ take i l ++ (cornerRecord (at x y z p) ++ drop (i + 7) l)
+    ≡ withRecord l i (cornerRecord (at x y z p))
 unfolding cornerRecord
 record-stored l i x y z p h = seven l i (x % 256) (x / 256) (y % 256) (y / 256) (z % 256) (z / 256) p h
 
@@ -39,7 +39,7 @@ pub stored-none : (b : List ℕ) (n : ℕ) (r : List ℕ) → length b / 7 ≤ n
 unfolding stored
 stored-none b n r h = rw (le-ltb n (length b / 7) h)
 
-pub stored-one : (b : List ℕ) (n : ℕ) (r : List ℕ) {b' : List ℕ} → n < length b / 7 → b' ≡ take (7 * n) b ++ (r ++ drop (7 * n + 7) b) → b' ≡ stored b n r
+pub stored-one : (b : List ℕ) (n : ℕ) (r : List ℕ) {b' : List ℕ} → n < length b / 7 → b' ≡ withRecord b (7 * n) r → b' ≡ stored b n r
 unfolding stored
 stored-one b n r h e = rw (lt-ltb n (length b / 7) h) e
 

@@ -16,9 +16,13 @@ at x y z p = record { x = x; y = y; z = z; pattern = p }
 unfoldable pub spot : ℕ → ℕ → ℕ → ℕ → List Corner
 spot x y z p = cond (corner (ofByte p)) (at x y z p ∷ []) []
 
+-- the buffer with the seven bytes of a record at a place
+abbrev pub withRecord : List ℕ → ℕ → List ℕ → List ℕ
+withRecord b at r = take at b ++ (r ++ drop (at + 7) b)
+
 -- the buffer with record n, where there is room for it
 unfoldable pub stored : List ℕ → ℕ → List ℕ → List ℕ
-stored b n r = cond (ltb n (length b / 7)) (take (7 * n) b ++ (r ++ drop (7 * n + 7) b)) b
+stored b n r = cond (ltb n (length b / 7)) (withRecord b (7 * n) r) b
 
 pub record Found : Type 0 where
   pub sums : CornerSums

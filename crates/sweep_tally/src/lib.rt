@@ -1,18 +1,17 @@
-// Corners met one after the other: their sums, and their records in a lent buffer as far as it has room. Stands on `lattice`.
+// Corners met one after the other: their sums, and their records in a lent buffer as far as it has room. Stands on `lattice_sums`.
 ghost use mathlib.Core.Path.{_≡_};
-ghost use mathlib.Core.List.{_++_};
 ghost use Prim.Native.Nat.{_+_, _≤_};
-ghost use lib.ListN.{length, take, drop};
+ghost use lib.ListN.{length};
 ghost use Rattle.lattice.specs.Listing.{cornerRecord};
 ghost use Rattle.lattice_sums.specs.CornerSums.{RoomFor};
-ghost use Rattle.sweep_tally.specs.Found.{at, spot, stored, state, found};
+ghost use Rattle.sweep_tally.specs.Found.{at, spot, withRecord, stored, state, found};
 use lattice_sums::edges::is_corner;
 use lattice_sums::sums::CornerSums;
 
 // Writes a record at a place of the buffer.
 fn put_record(buf: &mut [u8], start: usize, x: u16, y: u16, z: u16, p: u8)
     requires { ⌜ start + 7 ≤ length (now buf) ⌝ }
-    ensures { λ _. ⌜ now (buf .exit) ≡ take start (now (buf .entry)) ++ (cornerRecord (at x y z p) ++ drop (start + 7) (now (buf .entry))) ⌝ }
+    ensures { λ _. ⌜ now (buf .exit) ≡ withRecord (now (buf .entry)) start (cornerRecord (at x y z p)) ⌝ }
 {
     buf[start] = (x % 256) as u8;
     buf[start + 1] = (x / 256) as u8;

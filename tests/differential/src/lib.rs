@@ -5,7 +5,7 @@
 //! must agree. A case that fails is made smaller as long as it still fails, and printed as a shot file.
 //!
 //! - [`lent`]: buffers filled with junk
-//! - [`lists`]: cases for measure, recount, list and write
+//! - [`lists`]: cases for measure, recount, index, list and write
 //! - [`files`]: cases for read
 //! - [`smallest`]: making a failing case smaller
 

@@ -1,4 +1,4 @@
-//! Cases for the calls that take a list: measure, recount, list and write.
+//! Cases for the calls that take a list: measure, recount, index, list and write.
 
 use crate::lent::Lent;
 use crate::smallest::Case;
@@ -50,13 +50,17 @@ impl ListCase {
         }
     }
 
-    fn measure(&self, calls: &Calls, work: usize, recount: bool) -> Result<(), String> {
-        let call = if recount { "recount" } else { "measure" };
+    /// Holds a call that leaves the index in a work slice to what the oracle answers and leaves.
+    fn indexing<const N: usize>(
+        &self,
+        (call, library): (&str, raw::Indexing),
+        work: usize,
+        oracle: impl FnOnce(&mut [u32]) -> [u64; N],
+    ) -> Result<(), String> {
         let mut random = Random::new(self.seed);
         let mut work = Lent::new(&mut random, work);
-        let mut answer = Lent::<u64>::new(&mut random, self.answer.places(6));
+        let mut answer = Lent::<u64>::new(&mut random, self.answer.places(N));
         let (mut our_work, mut our_answer) = (work.clone(), answer.clone());
-        let library = if recount { raw::heqdanu_recount } else { raw::heqdanu_measure };
         let List { field, edge, grid, coords } = &self.list;
         let (w, a) = (our_work.slice(), our_answer.slice());
         // SAFETY: each pointer comes from a slice with the length beside it, and no two of them overlap.
@@ -73,7 +77,7 @@ impl ListCase {
                 a.len(),
             )
         };
-        let expected = expect(answer.slice(), || calls.measure(work.slice()));
+        let expected = expect(answer.slice(), || oracle(work.slice()));
         same_answer(call, &[written.into()], &[expected])?;
         same_answer(call, our_answer.slice(), answer.slice())?;
         our_work.same_as(&work, call, "work")
@@ -152,10 +156,11 @@ impl Case for ListCase {
         let calls = Calls::on(&self.list);
         let (work, listing) = self.needs(&calls);
         let (work, listing) = (self.work.places(work), self.listing.places(listing));
-        self.measure(&calls, work, false)?;
+        self.indexing(("measure", raw::heqdanu_measure), work, |work| calls.measure(work))?;
+        self.indexing(("index", raw::heqdanu_index), work, |work| calls.index(work))?;
         self.list(&calls, work, listing)?;
         if self.list.field <= RECOUNT_FIELD || self.list.check().is_err() {
-            self.measure(&calls, work, true)?;
+            self.indexing(("recount", raw::heqdanu_recount), work, |work| calls.measure(work))?;
         }
         self.write()
     }

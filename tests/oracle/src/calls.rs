@@ -69,6 +69,17 @@ impl<'a> Calls<'a> {
         answer
     }
 
+    /// The index alone; success leaves it in the work slice.
+    pub fn index(&self, work: &mut [u32]) -> Answer<2> {
+        match self.check_with(work) {
+            Err(refusal) => refused(refusal),
+            Ok(()) => {
+                self.store_index(work);
+                [0, 0]
+            }
+        }
+    }
+
     /// Refusals 1, 2, 6 to 9 and 10.
     fn check_with(&self, work: &[u32]) -> Result<(), Refusal> {
         self.list.check()?;
@@ -79,9 +90,13 @@ impl<'a> Calls<'a> {
         Ok(())
     }
 
-    fn accept(&self, work: &mut [u32]) -> Answer<6> {
+    fn store_index(&self, work: &mut [u32]) {
         let index = grid::index(self.list);
         work[..index.len()].copy_from_slice(&index);
+    }
+
+    fn accept(&self, work: &mut [u32]) -> Answer<6> {
+        self.store_index(work);
         let [volume, area, edge, corners] = self.measured().numbers;
         [0, 0, volume, area, edge, corners]
     }
@@ -90,6 +105,11 @@ impl<'a> Calls<'a> {
 /// The measuring call on a list.
 pub fn measure(list: &List, work: &mut [u32]) -> Answer<6> {
     Calls::on(list).measure(work)
+}
+
+/// The index alone of a list.
+pub fn index(list: &List, work: &mut [u32]) -> Answer<2> {
+    Calls::on(list).index(work)
 }
 
 /// The listing call on a list.

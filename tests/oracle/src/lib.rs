@@ -9,7 +9,7 @@
 //! - [`corners`]: patterns, the seven weights, the listing, the corner sums
 //! - [`grid`]: the grid index
 //! - [`shotfile`]: the reader and the writer
-//! - [`calls`]: measure, list, read and write with lent buffers, as a caller sees them
+//! - [`calls`]: measure, list, index, read and write with lent buffers, as a caller sees them
 //! - [`quote`]: the quoting program
 //! - [`literal`]: the definitions once more, cell by cell and point by point, for small fields
 //! - [`inputs`]: random and damaged inputs, from a seed

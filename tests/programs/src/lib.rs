@@ -1,4 +1,7 @@
-//! The programs `quote`, `recount`, `shots` and `write_shots` as their users run them: bytes in, bytes out.
+//! The programs `quote`, `recount`, `shots`, `write_shots` and `listing` as their users run them: bytes in, bytes out;
+//! and the scripts at the root that prove, build and run them.
 
+pub mod listing;
 pub mod run;
 pub mod text;
+pub mod tree;

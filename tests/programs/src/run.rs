@@ -26,7 +26,8 @@ impl Told {
     }
 }
 
-fn program(name: &str) -> PathBuf {
+/// Where a program is: in target/bin, or in the folder that HEQDANU_BIN_DIR names.
+pub fn program(name: &str) -> PathBuf {
     let folder = std::env::var("HEQDANU_BIN_DIR")
         .unwrap_or_else(|_| concat!(env!("CARGO_MANIFEST_DIR"), "/../../target/bin").into());
     PathBuf::from(folder).join(name)

@@ -1,4 +1,6 @@
-//! A shot file as plain text, written from its description in README alone.
+//! A shot file as plain text. The lines and their order are written from README's description; the sentences are those
+//! that the programs print (crate `text_wording`), since README shows only some of them: the tests hold the programs to
+//! these words and do not judge them.
 
 use oracle::list::{List, Refusal};
 use oracle::quote::{BYTES, PLACES};
@@ -14,6 +16,8 @@ pub fn sentence(number: u64) -> &'static str {
         7 => "the shot edge is not 1 to the field side",
         8 => "the grid size is not 1 to 64, or does not divide the field side",
         9 => "a shot leaves the field",
+        10 => "the work slice is too short for the grid index",
+        11 => "the listing buffer is shorter than 7 bytes a corner",
         _ => panic!("refusal {number} has no sentence here"),
     }
 }
@@ -42,7 +46,9 @@ pub fn shots(input: &[u8]) -> String {
         }
     }
     match whole {
-        Err(Refusal { number, detail }) => text += &format!("refused {number} at byte {detail}: {}\n", sentence(number)),
+        Err(Refusal { number, detail }) => {
+            text += &format!("refused {number} at byte {detail}: {}\n", sentence(number))
+        }
         Ok(list) => match list.check() {
             Ok(()) => (),
             Err(Refusal { number: 9, detail }) => text += &format!("refused 9 at shot {detail}: {}\n", sentence(9)),

@@ -37,7 +37,11 @@ fn an_empty_input() {
 fn files_cut_at_every_byte() {
     for length in 0..=OVERLAP.len() {
         for name in READERS {
-            assert_eq!(on(name, &OVERLAP[..length]).text(), expected(name, &OVERLAP[..length]), "{name}, {length} bytes");
+            assert_eq!(
+                on(name, &OVERLAP[..length]).text(),
+                expected(name, &OVERLAP[..length]),
+                "{name}, {length} bytes"
+            );
         }
     }
 }

@@ -2,11 +2,12 @@
 
 use programs::run::with;
 
-const INPUTS: [(&str, &[u8]); 4] = [
+const INPUTS: [(&str, &[u8]); 5] = [
     ("quote", &[7, 8, 0, 2, 0, 2, 0, 0]),
     ("recount", &[7, 8, 0, 2, 0, 2, 0, 0]),
     ("shots", &[7, 8, 0, 2, 0, 2, 0, 0]),
     ("write_shots", b"shot 1 2 3\n"),
+    ("listing", &[7, 8, 0, 2, 0, 2, 0, 0]),
 ];
 
 /// That every program prints nothing and says what it cannot do.

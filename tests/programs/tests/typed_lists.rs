@@ -22,8 +22,14 @@ fn complaint(text: &[u8]) -> String {
 #[test]
 fn settings_shots_and_comments() {
     assert_eq!(written(""), [0]);
-    assert_eq!(written("field 8\nedge 2\ngrid 2\nshot 0 0 0\nshot 1 1 1\n"), [7, 8, 0, 2, 0, 2, 0, 0, 7, 1, 0, 1, 0, 1, 0]);
-    assert_eq!(written("# the first part\n\n  shot\t1 0 2 # lower corner\r\nfield 00064\r\n"), [1, 64, 0, 5, 1, 0, 2, 0]);
+    assert_eq!(
+        written("field 8\nedge 2\ngrid 2\nshot 0 0 0\nshot 1 1 1\n"),
+        [7, 8, 0, 2, 0, 2, 0, 0, 7, 1, 0, 1, 0, 1, 0]
+    );
+    assert_eq!(
+        written("# the first part\n\n  shot\t1 0 2 # lower corner\r\nfield 00064\r\n"),
+        [1, 64, 0, 5, 1, 0, 2, 0]
+    );
     assert_eq!(written("shot 1 2 3"), [0, 7, 1, 0, 2, 0, 3, 0]);
 }
 
@@ -51,7 +57,9 @@ fn mistakes_name_their_line() {
 
 #[test]
 fn lists_that_no_call_accepts() {
-    for (text, number) in [("field 0", 6), ("field 1025", 6), ("edge 0", 7), ("field 8", 7), ("grid 3", 8), ("shot 1009 0 0", 9)] {
+    for (text, number) in
+        [("field 0", 6), ("field 1025", 6), ("edge 0", 7), ("field 8", 7), ("grid 3", 8), ("shot 1009 0 0", 9)]
+    {
         let told = complaint(text.as_bytes());
         assert!(told.contains(&number.to_string()) && told.contains(text::sentence(number)), "{told:?} for {text:?}");
     }
@@ -72,7 +80,10 @@ fn a_text_that_is_too_long() {
 #[test]
 fn any_bytes() {
     let mut random = Random::new(43);
-    let words = ["field", "edge", "grid", "shot", "1", "2", "16", "65535", "65536", "#", "\n", "\n", " ", "\t", "\r", "x", "refused"];
+    let words = [
+        "field", "edge", "grid", "shot", "1", "2", "16", "65535", "65536", "#", "\n", "\n", " ", "\t", "\r", "x",
+        "refused",
+    ];
     for _ in 0..300 {
         let mut text = Vec::new();
         for _ in 0..random.within(0, 30) {

@@ -3,7 +3,7 @@ use mathlib.Core.Path.{_∙_}
 use native.Mathlib.Omega.{arith}
 use borrow.Author.Needs.{needs}
 use Rattle.buffer.proofs.WroteLaws.{front-part, front-count}
-use Rattle.grid_filling.proofs.FillLaws.{line-below, line-number, row-room, row-is}
+use Rattle.grid_filling.proofs.FillLaws.{line-below, line-number, row-asked, row-is}
 use Rattle.grid_filling.proofs.fill_row.Statement.{statement}
 use Rattle.grid_filling.proofs.fill_row.Tie as tie
 
@@ -14,7 +14,7 @@ slice-aggregate-narrow : tie.Need-slice-aggregate-narrow
 slice-aggregate-narrow c = search needs
 
 narrow-requires : tie.Need-narrow-requires
-narrow-requires c κs = let a = c .before .before .before .before in row-room (a .args .field) (a .args .edge) (a .args .grid) (a .args .coords .now) (a .pre .0) (a .args .gx) (a .pre .1 .0) (a .args .gy) (a .args .slab .now) (a .pre .1 .1 .1 .0)
+narrow-requires c κs = let a = c .before .before .before .before in row-asked (a .args .field) (a .args .edge) (a .args .grid) (a .args .coords .now) (a .pre .0) (a .args .gx) (a .pre .1 .0) (a .args .gy) (a .args .slab .now) (a .pre .1 .1 .1 .0)
 
 mul-line : tie.Need-mul-line
 mul-line c = let a = c .before .before .before .before .before .before in omega (arith, line-number (a .args .field) (a .args .edge) (a .args .grid) (a .args .coords .now) (a .pre .0) (a .args .gx) (a .pre .1 .0) (a .args .gy) (a .pre .1 .1 .0))

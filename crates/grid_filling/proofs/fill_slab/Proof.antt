@@ -2,7 +2,7 @@
 use mathlib.Core.Path.{_∙_}
 use borrow.Author.Needs.{needs}
 use Rattle.buffer.proofs.WroteLaws.{front-part, front-count}
-use Rattle.grid_filling.proofs.FillLaws.{slab-room, slab-is}
+use Rattle.grid_filling.proofs.FillLaws.{slab-asked, slab-is}
 use Rattle.grid_filling.proofs.fill_slab.Statement.{statement}
 use Rattle.grid_filling.proofs.fill_slab.Tie as tie
 
@@ -13,7 +13,7 @@ slice-aggregate-narrow : tie.Need-slice-aggregate-narrow
 slice-aggregate-narrow c = search needs
 
 narrow-requires : tie.Need-narrow-requires
-narrow-requires c κs = let a = c .before .before .before .before in slab-room (a .args .field) (a .args .edge) (a .args .grid) (a .args .coords .now) (a .pre .0) (a .args .gx) (a .pre .1 .0) (a .args .all .now) (a .pre .1 .1 .0)
+narrow-requires c κs = let a = c .before .before .before .before in slab-asked (a .args .field) (a .args .edge) (a .args .grid) (a .args .coords .now) (a .pre .0) (a .args .gx) (a .pre .1 .0) (a .args .all .now) (a .pre .1 .1 .0)
 
 array-share-prefix-slab : tie.Need-array-share-prefix-slab
 array-share-prefix-slab c = search needs

@@ -1,10 +1,7 @@
 -- The corners are counted before the buffer is called too short.
-use Prim.Native.Nat.{_*_, _≤_}
 use native.Mathlib.Omega.{arith}
-use lib.ListN.{length}
-use Rattle.lattice.specs.Listing.{cornerCount}
 use Rattle.measure_intake.specs.Intake.{solid}
-use Rattle.measure.proofs.AnswerLaws.{totals-corners, short-listing, short-kept, long-listing, long-stored}
+use Rattle.measure.proofs.AnswerLaws.{totals-corners, short-listing, long-listing}
 use borrow.Author.Needs.{needs}
 use Rattle.measure.proofs.list_corners.Statement.{statement}
 use Rattle.measure.proofs.list_corners.Tie as tie
@@ -13,7 +10,7 @@ count-requires : tie.Need-count-requires
 count-requires c κs = search needs
 
 returns : tie.Need-returns
-returns c = let s = c .before .before .before .before .before in let e = totals-corners (s .args .field) (solid (s .args .edge) (s .args .coords .now)) (c .before .count .ensures) in (short-listing (s .args .field) (solid (s .args .edge) (s .args .coords .now)) (s .args .buffer .now) e (c .if1 .taken), short-kept (s .args .field) (solid (s .args .edge) (s .args .coords .now)) (s .args .buffer .now) e (c .if1 .taken))
+returns c = let s = c .before .before .before .before .before in short-listing (s .args .field) (solid (s .args .edge) (s .args .coords .now)) (s .args .buffer .now) (totals-corners (s .args .field) (solid (s .args .edge) (s .args .coords .now)) (c .before .count .ensures)) (c .if1 .taken)
 
 store-requires : tie.Need-store-requires
 store-requires c κs = let s = c .before .before .before .before .before .before in (s .pre, omega (arith, totals-corners (s .args .field) (solid (s .args .edge) (s .args .coords .now)) (c .before .before .count .ensures), c .before .if1 .left))
@@ -22,7 +19,7 @@ same-length : tie.Need-same-length
 same-length c = search needs
 
 returns-2 : tie.Need-returns-2
-returns-2 c = let s = c .before .before .before .before .before .before .before .before .before in let h : 7 * cornerCount (s .args .field) (solid (s .args .edge) (s .args .coords .now)) ≤ length (s .args .buffer .now) = omega (arith, totals-corners (s .args .field) (solid (s .args .edge) (s .args .coords .now)) (c .before .before .before .before .before .count .ensures), c .before .before .before .before .if1 .left) in (long-listing (s .args .field) (solid (s .args .edge) (s .args .coords .now)) (s .args .buffer .now) h (c .before .before .before .before .before .count .ensures), long-stored (s .args .field) (solid (s .args .edge) (s .args .coords .now)) (s .args .buffer .now) h (c .before .before .store .ensures))
+returns-2 c = let s = c .before .before .before .before .before .before .before .before .before in long-listing (s .args .field) (solid (s .args .edge) (s .args .coords .now)) (s .args .buffer .now) (omega (arith, totals-corners (s .args .field) (solid (s .args .edge) (s .args .coords .now)) (c .before .before .before .before .before .count .ensures), c .before .before .before .before .if1 .left)) (c .before .before .before .before .before .count .ensures) (c .before .before .store .ensures)
 
 pub list-corners-spec : {M : Type 1} → statement M
 list-corners-spec =

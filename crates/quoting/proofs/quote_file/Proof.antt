@@ -4,9 +4,8 @@ use mathlib.Core.Path.{_≡_, sym, _∙_}
 use native.Mathlib.Omega.{arith}
 use lib.ListN.{length}
 use lib.Seq.{length-take-le}
-use Rattle.buffer.proofs.WroteLaws.{wrote-as}
 use Rattle.shotfile.proofs.RoundTrip.{file-room}
-use Rattle.quoting.proofs.TextLaws.{refused-text, read-text}
+use Rattle.quoting.proofs.TextLaws.{file-refused, file-quoted}
 use borrow.Author.Needs.{needs}
 use Rattle.quoting.proofs.quote_file.Statement.{statement}
 use Rattle.quoting.proofs.quote_file.Tie as tie
@@ -45,7 +44,7 @@ same-length-3 : tie.Need-same-length-3
 same-length-3 c = search needs
 
 returns : tie.Need-returns
-returns c = let s = c .before .before .before .before .before .before .before .before .before .before .before .before .before .before .before .before .before .before .before in wrote-as (read-text (s .args .bytes .now) (s .args .coords .now) (length (s .args .work .now)) (c .before .before .before .before .before .before .before .before .before .read2 .given .0 .0) (c .before .before .before .before .before .before .before .before .before .read2 .given .0 .1 .0) (c .before .before .before .before .before .before .before .before .before .read2 .given .0 .1 .1 .0) (c .before .before .before .before .before .before .before .before .before .read2 .given .0 .1 .1 .1 .0) (sym (c .before .before .before .before .before .before .before .before .before .before .before .before .before .read .ensures .0) ∙ c .before .before .before .before .before .before .before .before .before .read2 .given .1) (c .before .before .before .before .before .before .before .before .before .before .before .before .before .read .ensures .1)) (c .before .before .before .before .quote-list .ensures)
+returns c = let f = c .before .before .before .before .before .before .before .before .before .before .before .before .before .read .ensures in file-quoted (f .0) (f .1) (c .before .before .before .before .before .before .before .before .before .read2 .given .0 .0) (c .before .before .before .before .before .before .before .before .before .read2 .given .0 .1 .0) (c .before .before .before .before .before .before .before .before .before .read2 .given .0 .1 .1 .0) (c .before .before .before .before .before .before .before .before .before .read2 .given .0 .1 .1 .1 .0) (c .before .before .before .before .before .before .before .before .before .read2 .given .1) (c .before .before .before .before .quote-list .ensures)
 
 same-length-4 : tie.Need-same-length-4
 same-length-4 c = search needs
@@ -54,7 +53,7 @@ same-length-5 : tie.Need-same-length-5
 same-length-5 c = search needs
 
 returns-2 : tie.Need-returns-2
-returns-2 c = let s = c .before .before .before .before .before .before .before .before .before .before .before .before .before .before .before in wrote-as (refused-text (s .args .bytes .now) (length (s .args .coords .now)) (length (s .args .work .now)) (c .before .before .before .before .before .read3 .given .0 .0) (sym (c .before .before .before .before .before .before .before .before .before .read .ensures .0) ∙ c .before .before .before .before .before .read3 .given .1)) (c .before .before .refuse .ensures)
+returns-2 c = let f = c .before .before .before .before .before .before .before .before .before .read .ensures in file-refused (f .0) (f .1) (c .before .before .before .before .before .read3 .given .0 .0) (c .before .before .before .before .before .read3 .given .1) (c .before .before .refuse .ensures)
 
 pub quote-file-spec : {M : Type 1} → statement M
 quote-file-spec =

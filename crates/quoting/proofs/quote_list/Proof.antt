@@ -1,7 +1,6 @@
 -- Each answer of measuring has its text.
-use mathlib.Core.Path.{sym, _∙_, ap}
 use Rattle.quoting.specs.Quoting.{answerText}
-use Rattle.buffer.proofs.WroteLaws.{wrote-as}
+use Rattle.quoting.proofs.TextLaws.{list-quoted}
 use borrow.Author.Needs.{needs}
 use Rattle.quoting.proofs.quote_list.Statement.{statement}
 use Rattle.quoting.proofs.quote_list.Tie as tie
@@ -29,7 +28,7 @@ same-length-2 c = search needs
 
 returns : tie.Need-returns
 unfolding answerText
-returns c = wrote-as (ap answerText (sym (c .before .before .before .before .before .measured .given .1) ∙ c .before .before .before .before .before .before .before .before .before .figures .ensures)) (c .before .before .quote-lines .ensures)
+returns c = list-quoted (c .before .before .before .before .before .before .before .before .before .figures .ensures) (c .before .before .before .before .before .measured .given .1) (c .before .before .quote-lines .ensures)
 
 same-length-3 : tie.Need-same-length-3
 same-length-3 c = search needs
@@ -39,7 +38,7 @@ same-length-4 c = search needs
 
 returns-2 : tie.Need-returns-2
 unfolding answerText
-returns-2 c = wrote-as (ap answerText (sym (c .before .before .before .before .before .measured2 .given .1) ∙ c .before .before .before .before .before .before .before .before .before .figures .ensures)) (c .before .before .refuse .ensures)
+returns-2 c = list-quoted (c .before .before .before .before .before .before .before .before .before .figures .ensures) (c .before .before .before .before .before .measured2 .given .1) (c .before .before .refuse .ensures)
 
 pub quote-list-spec : {M : Type 1} → statement M
 quote-list-spec =

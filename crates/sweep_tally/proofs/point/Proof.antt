@@ -18,7 +18,10 @@ same-length : tie.Need-same-length
 same-length c = search needs
 
 returns : tie.Need-returns
-returns c = point-corner _ _ _ _ _ _ (sym (c .before .before .before .before .before .before .is-corner .ensures) ∙ c .before .before .before .before .before .if1 .taken) (c .add .ensures) (c .before .before .before .put .ensures)
+returns c =
+    let s = c .before .before .before .before .before .before .before .before in
+    let corner = sym (c .before .before .before .before .before .before .is-corner .ensures) ∙ c .before .before .before .before .before .if1 .taken in
+    point-corner _ _ (s .args .x) (s .args .y) (s .args .z) (s .args .p) corner (c .add .ensures) (c .before .before .before .put .ensures)
 
 returns-2 : tie.Need-returns-2
 returns-2 c = point-none _ _ _ _ _ _ (sym (c .before .is-corner .ensures) ∙ c .if1 .left)

@@ -1,85 +1,67 @@
 -- The pairs of a shot are the product of its three spans.
-use Prim.Native.Nat.{_+_, _*_, _/_}
+use mathlib.Core.Path.{_∙_}
+use Prim.Native.Nat.{_/_}
 use native.Mathlib.Omega.{arith}
-use lib.ListN.{getD}
 use borrow.Author.Needs.{needs}
-use Rattle.grid.proofs.NeedLaws.{in-width-x, in-width-y, in-width-z, span-most, square-of-most, product-most, pairs-product}
+use Rattle.job.specs.Job.{shotAt}
+use Rattle.job.proofs.Shots.{stay-at}
+use Rattle.grid.proofs.NeedLaws.{span-in, span-alike, span-few, pairs-of-spans}
 use Rattle.grid.proofs.need.pairs_of.Statement.{statement}
 use Rattle.grid.proofs.need.pairs_of.Tie as tie
 
 div-width : tie.Need-div-width
 div-width c = search needs
 
-mul-span : tie.Need-mul-span
-mul-span c = search needs
+edge-of-requires : tie.Need-edge-of-requires
+edge-of-requires c κs = search needs
 
-mul-span-2 : tie.Need-mul-span-2
-mul-span-2 c = search needs
-
-shared-slice-read-span : tie.Need-shared-slice-read-span
-shared-slice-read-span c = search needs
+x-of-requires : tie.Need-x-of-requires
+x-of-requires c κs = search needs
 
 span-requires : tie.Need-span-requires
-span-requires c κs = let a = c .before .before in in-width-x (a .args .field) (a .args .edge) (a .args .grid) (a .args .coords .now) (a .pre .0) (a .args .shot) (a .pre .1)
+span-requires c κs = let a = c .before .before .before in span-in (a .pre .0) (c .x-of .result) (c .before .edge-of .result) (omega (arith, c .x-of .ensures, c .before .edge-of .ensures, stay-at (a .args .field) (a .args .edge) (a .args .coords .now) (a .pre .0 .inside) (a .args .shot) (a .pre .1) .x-in))
 
-mul-span-3 : tie.Need-mul-span-3
-mul-span-3 c = search needs
-
-add-span : tie.Need-add-span
-add-span c = search needs
-
-mul-span-4 : tie.Need-mul-span-4
-mul-span-4 c = search needs
-
-shared-slice-read-span-2 : tie.Need-shared-slice-read-span-2
-shared-slice-read-span-2 c = search needs
+y-of-requires : tie.Need-y-of-requires
+y-of-requires c κs = search needs
 
 span-requires-2 : tie.Need-span-requires-2
-span-requires-2 c κs = let a = c .before .before .before .before in in-width-y (a .args .field) (a .args .edge) (a .args .grid) (a .args .coords .now) (a .pre .0) (a .args .shot) (a .pre .1)
+span-requires-2 c κs = let a = c .before .before .before .before .before in span-in (a .pre .0) (c .y-of .result) (c .before .before .before .edge-of .result) (omega (arith, c .y-of .ensures, c .before .before .before .edge-of .ensures, stay-at (a .args .field) (a .args .edge) (a .args .coords .now) (a .pre .0 .inside) (a .args .shot) (a .pre .1) .y-in))
 
-mul-span-5 : tie.Need-mul-span-5
-mul-span-5 c = search needs
-
-add-span-2 : tie.Need-add-span-2
-add-span-2 c = search needs
-
-mul-span-6 : tie.Need-mul-span-6
-mul-span-6 c = search needs
-
-shared-slice-read-span-3 : tie.Need-shared-slice-read-span-3
-shared-slice-read-span-3 c = search needs
+z-of-requires : tie.Need-z-of-requires
+z-of-requires c κs = search needs
 
 span-requires-3 : tie.Need-span-requires-3
-span-requires-3 c κs = let a = c .before .before .before .before .before .before in in-width-z (a .args .field) (a .args .edge) (a .args .grid) (a .args .coords .now) (a .pre .0) (a .args .shot) (a .pre .1)
+span-requires-3 c κs = let a = c .before .before .before .before .before .before .before in span-in (a .pre .0) (c .z-of .result) (c .before .before .before .before .before .edge-of .result) (omega (arith, c .z-of .ensures, c .before .before .before .before .before .edge-of .ensures, stay-at (a .args .field) (a .args .edge) (a .args .coords .now) (a .pre .0 .inside) (a .args .shot) (a .pre .1) .z-in))
 
-mul-result : tie.Need-mul-result
-mul-result c = let a = c .before .before .before .before .before .before .before in omega (arith, square-of-most (c .before .before .before .before .span .result) (c .before .before .span2 .result) (a .args .grid) (a .pre .0 .grid-most) (rw (c .before .before .before .before .span .ensures) (span-most (a .args .grid) (a .args .field / a .args .grid) (getD (a .args .coords .now) (3 * a .args .shot) 0) (a .args .edge))) (rw (c .before .before .span2 .ensures) (span-most (a .args .grid) (a .args .field / a .args .grid) (getD (a .args .coords .now) (3 * a .args .shot + 1) 0) (a .args .edge))))
-
-mul-result-2 : tie.Need-mul-result-2
-mul-result-2 c = let a = c .before .before .before .before .before .before .before in omega (arith, product-most (c .before .before .before .before .span .result) (c .before .before .span2 .result) (c .span3 .result) (a .args .grid) (a .pre .0 .grid-most) (rw (c .before .before .before .before .span .ensures) (span-most (a .args .grid) (a .args .field / a .args .grid) (getD (a .args .coords .now) (3 * a .args .shot) 0) (a .args .edge))) (rw (c .before .before .span2 .ensures) (span-most (a .args .grid) (a .args .field / a .args .grid) (getD (a .args .coords .now) (3 * a .args .shot + 1) 0) (a .args .edge))) (rw (c .span3 .ensures) (span-most (a .args .grid) (a .args .field / a .args .grid) (getD (a .args .coords .now) (3 * a .args .shot + 2) 0) (a .args .edge))))
+product-requires : tie.Need-product-requires
+product-requires c κs =
+    let a = c .before .before .before .before .before .before .before .before in
+    let edge = c .before .before .before .before .before .before .edge-of .result in
+    let x = span-few (a .args .grid) (a .args .field / a .args .grid) (c .before .before .before .before .before .x-of .result) edge (a .pre .0 .grid-most) (c .before .before .before .before .span .ensures) in
+    let y = span-few (a .args .grid) (a .args .field / a .args .grid) (c .before .before .before .y-of .result) edge (a .pre .0 .grid-most) (c .before .before .span2 .ensures) in
+    let z = span-few (a .args .grid) (a .args .field / a .args .grid) (c .before .z-of .result) edge (a .pre .0 .grid-most) (c .span3 .ensures) in
+    (omega (arith, x, y, z), (omega (arith, x, y, z), omega (arith, x, y, z)))
 
 returns : tie.Need-returns
-returns c = let a = c .before .before .before .before .before .before .before in rw (c .before .before .before .before .span .ensures, c .before .before .span2 .ensures, c .span3 .ensures) (pairs-product (a .args .field) (a .args .edge) (a .args .grid) (a .args .coords .now) (a .args .shot))
+returns c =
+    let a = c .before .before .before .before .before .before .before .before .before in
+    let edge = c .before .before .before .before .before .before .before .edge-of .ensures in
+    let x = span-alike (a .args .grid) (a .args .field / a .args .grid) (c .before .before .before .before .before .span .ensures) (c .before .before .before .before .before .before .x-of .ensures) edge in
+    let y = span-alike (a .args .grid) (a .args .field / a .args .grid) (c .before .before .before .span2 .ensures) (c .before .before .before .before .y-of .ensures) edge in
+    let z = span-alike (a .args .grid) (a .args .field / a .args .grid) (c .before .span3 .ensures) (c .before .before .z-of .ensures) edge in
+    c .product .ensures ∙ pairs-of-spans (a .args .field) (a .args .grid) (shotAt (a .args .edge) (a .args .coords .now) (a .args .shot)) x y z
 
 pub pairs-of-spec : {M : Type 1} → statement M
 pairs-of-spec =
     tie.close
     (tie.spec
     div-width
-    mul-span
-    mul-span-2
-    shared-slice-read-span
+    edge-of-requires
+    x-of-requires
     span-requires
-    mul-span-3
-    add-span
-    mul-span-4
-    shared-slice-read-span-2
+    y-of-requires
     span-requires-2
-    mul-span-5
-    add-span-2
-    mul-span-6
-    shared-slice-read-span-3
+    z-of-requires
     span-requires-3
-    mul-result
-    mul-result-2
+    product-requires
     returns)

@@ -31,10 +31,22 @@ weight-ez-requires : tie.Need-weight-ez-requires
 weight-ez-requires c κs = search needs
 
 three-requires : tie.Need-three-requires
-three-requires c κs = let s = c .before .before .before in (omega (arith, s .pre), omega (arith, s .pre), omega (arith, s .pre), rw (weight-x (c .before .before)) (weight-small 4 (ofByte (s .args .p))), rw (weight-y (c .before)) (weight-small 5 (ofByte (s .args .p))), rw (weight-z c) (weight-small 6 (ofByte (s .args .p))))
+three-requires c κs =
+    let s = c .before .before .before in (
+      omega (arith, s .pre),
+      omega (arith, s .pre),
+      omega (arith, s .pre),
+      rw (weight-x (c .before .before)) (weight-small 4 (ofByte (s .args .p))),
+      rw (weight-y (c .before)) (weight-small 5 (ofByte (s .args .p))),
+      rw (weight-z c) (weight-small 6 (ofByte (s .args .p))),
+    )
 
 returns : tie.Need-returns
-returns c = let s = c .before .before .before .before in let e = told64 {v = edgeTerm (s .args .x) (s .args .y) (s .args .z) (ofByte (s .args .p))} (c .three .ok) (c .three .ensures .0 ∙ rw (weight-x (c .before .before .before), weight-y (c .before .before), weight-z (c .before))) in (e, rw e (term-small EdgeLength (s .args .x) (s .args .y) (s .args .z) (ofByte (s .args .p)) (s .pre .0) (s .pre .1) (s .pre .2)))
+returns c =
+    let s = c .before .before .before .before in
+    let e = told64 {v = edgeTerm (s .args .x) (s .args .y) (s .args .z) (ofByte (s .args .p))} (c .three .ok)
+    (c .three .ensures .0 ∙ rw (weight-x (c .before .before .before), weight-y (c .before .before), weight-z (c .before))) in
+    (e, rw e (term-small EdgeLength (s .args .x) (s .args .y) (s .args .z) (ofByte (s .args .p)) (s .pre .0) (s .pre .1) (s .pre .2)))
 
 pub edge-term-spec : {M : Type 1} → statement M
 edge-term-spec =

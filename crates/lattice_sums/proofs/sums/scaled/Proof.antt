@@ -12,10 +12,16 @@ cast-result-2 : tie.Need-cast-result-2
 cast-result-2 c = rw (toZ-ofZ (c .fits .w)) (v-fits (c .args .n) (c .args .w) (c .pre .0) (c .pre .1))
 
 mul-result : tie.Need-mul-result
-mul-result c = let k = v-fits (c .args .n) (c .args .w) (c .pre .0) (c .pre .1) in rw (n-is (c .args .n) (c .args .w) (c .pre .0) (c .pre .1), toZ-ofZ (c .fits .w), toZ-ofZ k) (product-fits (c .args .n) (c .args .w) (c .pre .0) (c .pre .1))
+mul-result c =
+    let n = n-is (c .args .n) (c .args .w) (c .pre .0) (c .pre .1) in
+    let v = v-fits (c .args .n) (c .args .w) (c .pre .0) (c .pre .1) in
+    rw (n, toZ-ofZ (c .fits .w), toZ-ofZ v) (product-fits (c .args .n) (c .args .w) (c .pre .0) (c .pre .1))
 
 returns : tie.Need-returns
-returns c = let k = v-fits (c .args .n) (c .args .w) (c .pre .0) (c .pre .1) in rw (n-is (c .args .n) (c .args .w) (c .pre .0) (c .pre .1), toZ-ofZ (c .fits .w), toZ-ofZ k) (toZ-ofZ (product-fits (c .args .n) (c .args .w) (c .pre .0) (c .pre .1)))
+returns c =
+    let n = n-is (c .args .n) (c .args .w) (c .pre .0) (c .pre .1) in
+    let v = v-fits (c .args .n) (c .args .w) (c .pre .0) (c .pre .1) in
+    rw (n, toZ-ofZ (c .fits .w), toZ-ofZ v) (toZ-ofZ (product-fits (c .args .n) (c .args .w) (c .pre .0) (c .pre .1)))
 
 pub scaled-spec : {M : Type 1} → statement M
 scaled-spec = tie.close (tie.spec cast-result cast-result-2 mul-result returns)

@@ -27,10 +27,15 @@ weight-w-requires : tie.Need-weight-w-requires
 weight-w-requires c κs = search needs
 
 scaled-requires : tie.Need-scaled-requires
-scaled-requires c κs = (three-small (c .before .args .x) (c .before .args .y) (c .before .args .z) (c .before .pre .0) (c .before .pre .1) (c .before .pre .2), rw (weight c) (weight-small 0 (ofByte (c .before .args .p))))
+scaled-requires c κs =
+    let s = c .before in
+    (three-small (s .args .x) (s .args .y) (s .args .z) (s .pre .0) (s .pre .1) (s .pre .2), rw (weight c) (weight-small 0 (ofByte (s .args .p))))
 
 returns : tie.Need-returns
-returns c = let e = told64 (c .scaled .ok) (c .scaled .ensures ∙ ap (λ v. pos (c .before .before .args .x * c .before .before .args .y * c .before .before .args .z) *ℤ v) (weight (c .before))) in (e, rw e (term-small Volume (c .before .before .args .x) (c .before .before .args .y) (c .before .before .args .z) (ofByte (c .before .before .args .p)) (c .before .before .pre .0) (c .before .before .pre .1) (c .before .before .pre .2)))
+returns c =
+    let s = c .before .before in
+    let e = told64 (c .scaled .ok) (c .scaled .ensures ∙ ap (λ v. pos (s .args .x * s .args .y * s .args .z) *ℤ v) (weight (c .before))) in
+    (e, rw e (term-small Volume (s .args .x) (s .args .y) (s .args .z) (ofByte (s .args .p)) (s .pre .0) (s .pre .1) (s .pre .2)))
 
 pub volume-term-spec : {M : Type 1} → statement M
 volume-term-spec =

@@ -11,19 +11,28 @@ volume-term-requires : tie.Need-volume-term-requires
 volume-term-requires c κs = search needs
 
 plus-requires : tie.Need-plus-requires
-plus-requires c κs = let s = c .before .before in let t = c .before .volume-term in sum-asked (s .args .self .volume) (t .result) (sum-bound Volume (s .args .self) (s .pre .3)) (t .ensures .1) (t .ok)
+plus-requires c κs =
+    let s = c .before .before in
+    let t = c .before .volume-term in
+    sum-asked (s .args .self .volume) (t .result) (sum-bound Volume (s .args .self) (s .pre .3)) (t .ensures .1) (t .ok)
 
 area-term-requires : tie.Need-area-term-requires
 area-term-requires c κs = search needs
 
 plus-requires-2 : tie.Need-plus-requires-2
-plus-requires-2 c κs = let s = c .before .before .before .before .before in let t = c .before .area-term in sum-asked (s .args .self .area) (t .result) (sum-bound Area (s .args .self) (s .pre .3)) (t .ensures .1) (t .ok)
+plus-requires-2 c κs =
+    let s = c .before .before .before .before .before in
+    let t = c .before .area-term in
+    sum-asked (s .args .self .area) (t .result) (sum-bound Area (s .args .self) (s .pre .3)) (t .ensures .1) (t .ok)
 
 edge-term-requires : tie.Need-edge-term-requires
 edge-term-requires c κs = search needs
 
 plus-requires-3 : tie.Need-plus-requires-3
-plus-requires-3 c κs = let s = c .before .before .before .before .before .before .before .before in let t = c .before .edge-term in sum-asked (s .args .self .edge) (t .result) (sum-bound EdgeLength (s .args .self) (s .pre .3)) (t .ensures .1) (t .ok)
+plus-requires-3 c κs =
+    let s = c .before .before .before .before .before .before .before .before in
+    let t = c .before .edge-term in
+    sum-asked (s .args .self .edge) (t .result) (sum-bound EdgeLength (s .args .self) (s .pre .3)) (t .ensures .1) (t .ok)
 
 add-t12 : tie.Need-add-t12
 add-t12 c = search needs
@@ -32,14 +41,18 @@ returns : tie.Need-returns
 unfolding added
 returns c =
     let s = c .before .before .before .before .before .before .before .before .before .before in
+    let self = s .args .self in
     let v = c .before .before .before .before .before .before .before .before .before .volume-term in
+    let v' = c .before .before .before .before .before .before .before .plus in
     let a = c .before .before .before .before .before .before .area-term in
+    let a' = c .before .before .before .before .plus2 in
     let e = c .before .before .before .edge-term in
+    let e' = c .before .plus3 in
     λ i. record {
-      volume = sum-told (s .args .self .volume) (v .result) (sum-bound Volume (s .args .self) (s .pre .3)) (v .ensures .1) (v .ok) (c .before .before .before .before .before .before .before .plus .ok) (c .before .before .before .before .before .before .before .plus .ensures) (v .ensures .0) i;
-      area = sum-told (s .args .self .area) (a .result) (sum-bound Area (s .args .self) (s .pre .3)) (a .ensures .1) (a .ok) (c .before .before .before .before .plus2 .ok) (c .before .before .before .before .plus2 .ensures) (a .ensures .0) i;
-      edge = sum-told (s .args .self .edge) (e .result) (sum-bound EdgeLength (s .args .self) (s .pre .3)) (e .ensures .1) (e .ok) (c .before .plus3 .ok) (c .before .plus3 .ensures) (e .ensures .0) i;
-      corners = s .args .self .corners + 1;
+      volume = sum-told (self .volume) (v .result) (sum-bound Volume self (s .pre .3)) (v .ensures .1) (v .ok) (v' .ok) (v' .ensures) (v .ensures .0) i;
+      area = sum-told (self .area) (a .result) (sum-bound Area self (s .pre .3)) (a .ensures .1) (a .ok) (a' .ok) (a' .ensures) (a .ensures .0) i;
+      edge = sum-told (self .edge) (e .result) (sum-bound EdgeLength self (s .pre .3)) (e .ensures .1) (e .ok) (e' .ok) (e' .ensures) (e .ensures .0) i;
+      corners = self .corners + 1;
     }
 
 pub add-spec : {M : Type 1} → statement M

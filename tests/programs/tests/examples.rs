@@ -1,0 +1,66 @@
+//! The files in examples/: what each is made of, and the quote that README gives it. An accepted one is what
+//! `write_shots` makes of the text here, as in
+//! `printf 'field 8\nedge 2\ngrid 2\nshot 1 1 1\n' | ./write_shots >examples/one_cube.shots`.
+
+use programs::run::on;
+use std::collections::BTreeSet;
+use std::fs;
+use std::path::PathBuf;
+
+/// Name, the typed list, and volume, area, edge length, corners.
+const ACCEPTED: [(&str, &str, [u64; 4]); 7] = [
+    ("one_cube", "field 8\nedge 2\ngrid 2\nshot 1 1 1", [8, 24, 24, 8]),
+    ("face_to_face", "field 8\nedge 2\ngrid 2\nshot 0 0 0\nshot 2 0 0", [16, 40, 32, 8]),
+    ("edge_to_edge", "field 8\nedge 2\ngrid 2\nshot 0 0 0\nshot 2 2 0", [16, 48, 48, 14]),
+    ("corner_to_corner", "field 8\nedge 2\ngrid 2\nshot 0 0 0\nshot 2 2 2", [16, 48, 48, 15]),
+    ("overlap", "field 8\nedge 2\ngrid 2\nshot 0 0 0\nshot 1 1 1", [15, 42, 48, 20]),
+    ("overlap_again", "field 16\nedge 2\ngrid 4\nshot 1 1 1\nshot 0 0 0", [15, 42, 48, 20]),
+    ("whole_field", "edge 1024\nshot 0 0 0", [1_073_741_824, 6_291_456, 12_288, 8]),
+];
+
+fn example(name: &str) -> Vec<u8> {
+    fs::read(folder().join(format!("{name}.shots"))).unwrap_or_else(|error| panic!("{name}: {error}"))
+}
+
+fn folder() -> PathBuf {
+    PathBuf::from(concat!(env!("CARGO_MANIFEST_DIR"), "/../../examples"))
+}
+
+/// That a file is what is written for the text, and has this quote.
+fn holds(name: &str, text: &str, [volume, area, edge, corners]: [u64; 4]) {
+    let file = example(name);
+    assert_eq!(on("write_shots", text.as_bytes()).good(), file, "{name}");
+    let quote = format!("volume {volume}\narea {area}\nedge {edge}\ncorners {corners}\n");
+    assert_eq!(on("quote", &file).text(), quote, "{name}");
+}
+
+#[test]
+fn accepted_examples() {
+    for (name, text, figures) in ACCEPTED {
+        holds(name, text, figures);
+    }
+    let mut text = String::from("field 8\nedge 1\ngrid 2\n");
+    for cell in (0..27).filter(|cell| *cell != 13) {
+        text += &format!("shot {} {} {}\n", cell / 9, cell / 3 % 3, cell % 3);
+    }
+    holds("shell", &text, [26, 60, 48, 16]);
+}
+
+#[test]
+fn refused_examples() {
+    let overlap = example("overlap");
+    assert_eq!(example("cut_off"), overlap[..overlap.len() - 1]);
+    assert_eq!(on("quote", &example("cut_off")).text(), "refused 5 8\n");
+    assert_eq!(example("outside"), [7, 8, 0, 2, 0, 2, 0, 0, 7, 7, 0, 6, 0, 6, 0]);
+    assert_eq!(on("quote", &example("outside")).text(), "refused 9 1\n");
+}
+
+#[test]
+fn no_other_file_is_there() {
+    let there: BTreeSet<String> = fs::read_dir(folder())
+        .expect("the examples are there")
+        .map(|entry| entry.expect("an example").file_name().to_string_lossy().into_owned())
+        .collect();
+    let known = ACCEPTED.iter().map(|(name, ..)| *name).chain(["shell", "cut_off", "outside"]);
+    assert_eq!(there, known.map(|name| format!("{name}.shots")).collect());
+}

@@ -1,0 +1,218 @@
+//! The scripts at the root: their words are looked at before anything is built, files are answered as `head` does, and
+//! the status says how it went.
+
+use programs::run;
+use programs::tree::{Ended, Tree, NEVER, PROGRAMS, SCRIPTS};
+use std::os::unix::fs::symlink;
+
+const OVERLAP: [u8; 15] = [7, 8, 0, 2, 0, 2, 0, 0, 7, 1, 0, 1, 0, 1, 0];
+const OVERLAP_QUOTE: &str = "volume 15\narea 42\nedge 48\ncorners 20\n";
+const CUBE: [u8; 8] = [7, 8, 0, 2, 0, 2, 0, 0];
+const CUBE_QUOTE: &str = "volume 8\narea 24\nedge 24\ncorners 8\n";
+
+/// That a script ended as a wrong use: a line and the usage on standard error, nothing printed, status 2.
+fn misused(ended: &Ended, script: &str) {
+    assert_eq!((ended.text().as_str(), ended.status), ("", 2), "{script}");
+    let mut lines = ended.complaint.lines();
+    assert!(lines.next().is_some_and(|line| line.starts_with(&format!("{script}: "))), "{}", ended.complaint);
+    assert!(lines.next().is_some_and(|line| line.starts_with(&format!("usage: {script} "))), "{}", ended.complaint);
+}
+
+#[test]
+fn help_builds_nothing() {
+    let tree = Tree::bare(NEVER);
+    for script in SCRIPTS {
+        for words in [&["--help"][..], &["-h"], &["missing", "--help"]] {
+            let ended = tree.run(script, words);
+            assert_eq!((ended.complaint.as_str(), ended.status), ("", 0), "{script} {words:?}");
+            assert!(ended.text().starts_with(&format!("usage: {script} ")), "{}", ended.text());
+            assert!(ended.text().contains("\nExit status: 0 "), "{}", ended.text());
+        }
+    }
+    assert_eq!(tree.calls(), "");
+    assert!(!tree.root().join("target").exists());
+}
+
+#[test]
+fn a_wrong_use_builds_nothing() {
+    let tree = Tree::bare(NEVER);
+    tree.file("part", &CUBE);
+    for script in SCRIPTS {
+        for word in ["-x", "--hepl", "--help=all"] {
+            misused(&tree.run(script, &["part", word]), script);
+        }
+    }
+    for (script, words) in [
+        ("write_shots", &["part", "part"][..]),
+        ("listing", &["part", "part"]),
+        ("same", &[]),
+        ("same", &["part"]),
+        ("same", &["part", "part", "part"]),
+        ("same", &["-", "-"]),
+    ] {
+        misused(&tree.run(script, words), script);
+    }
+    assert_eq!(tree.calls(), "");
+}
+
+#[test]
+fn files_that_cannot_be_read_build_nothing() {
+    let tree = Tree::bare(NEVER);
+    tree.file("part", &CUBE);
+    symlink("nowhere", tree.root().join("../elsewhere/dangling")).expect("a link is made");
+    for script in PROGRAMS {
+        for (file, words) in
+            [("missing", "no such file"), ("dangling", "no such file"), ("", "no such file"), ("..", "is a directory")]
+        {
+            tree.run(script, &[file]).is("", &format!("{script}: {file}: {words}\n"), 2);
+        }
+    }
+    tree.run("quote", &["one", "two"]).is("", "quote: one: no such file\nquote: two: no such file\n", 2);
+    tree.run("same", &["part", "missing"]).is("", "same: missing: no such file\n", 2);
+    tree.run("same", &["..", "missing"]).is("", "same: ..: is a directory\nsame: missing: no such file\n", 2);
+    assert_eq!(tree.calls(), "");
+}
+
+#[test]
+fn a_file_that_is_not_ours_to_read() {
+    let tree = Tree::bare(NEVER);
+    tree.file("part", &CUBE);
+    // The superuser may read everything, so another user asks.
+    let nobody = "setpriv --reuid=65534 --regid=65534 --clear-groups";
+    let line = format!("chmod 0 part; user=; [ $(id -u) != 0 ] || user='{nobody}'; $user \"$TREE/quote\" part");
+    tree.shell(&line, &[]).is("", "quote: part: cannot be read\n", 2);
+}
+
+#[test]
+fn one_status_for_each_outcome() {
+    let tree = Tree::built();
+    tree.file("good", &OVERLAP);
+    tree.file("cut", &OVERLAP[..14]);
+    for script in ["quote", "recount"] {
+        // A recount may say on standard error how far it is.
+        let ended = tree.run(script, &["good"]);
+        assert_eq!((ended.text().as_str(), ended.status), (OVERLAP_QUOTE, 0), "{script}: {}", ended.complaint);
+        tree.run(script, &["cut"]).is("refused 5 8\n", "", 1);
+        let complaint = format!("{script}: standard input cannot be read\n");
+        tree.shell(&format!("\"$TREE/{script}\" </"), &[]).is("", &complaint, 2);
+    }
+    tree.run("quote", &["good"]).is(OVERLAP_QUOTE, "", 0);
+    for (file, status) in [("good", 0), ("cut", 1)] {
+        let told = run::on("shots", if status == 0 { &OVERLAP } else { &OVERLAP[..14] });
+        tree.run("shots", &[file]).is(&told.text(), "", status);
+    }
+    tree.shell("\"$TREE/shots\" <&-", &[]).is("", "shots: standard input cannot be read\n", 2);
+    for (text, status) in
+        [("field 8\nedge 2\n", 0), ("field 8\nedge 2\ngrid 2\nshot 7 0 0\n", 1), ("field 8\nfield 8\n", 2)]
+    {
+        let told = run::on("write_shots", text.as_bytes());
+        let ended = tree.shell("\"$TREE/write_shots\"", text.as_bytes());
+        assert_eq!(ended, Ended { output: told.output, complaint: told.complaint, status });
+    }
+}
+
+#[test]
+fn listings_have_a_status_too() {
+    let tree = Tree::built();
+    for (name, file, status) in [("good", &OVERLAP[..], 0), ("cut", &OVERLAP[..14], 1), ("nothing", &OVERLAP[..7], 0)] {
+        let told = run::on("listing", file);
+        let ended = tree.run("listing", &[tree.file(name, file)]);
+        assert_eq!(ended, Ended { output: told.output, complaint: told.complaint, status });
+    }
+}
+
+#[test]
+fn several_files_as_head_has_them() {
+    let tree = Tree::built();
+    tree.file("one", &OVERLAP);
+    tree.file("a part", &CUBE);
+    tree.file("cut", &[]);
+    let headed = format!("==> one <==\n{OVERLAP_QUOTE}\n==> a part <==\n{CUBE_QUOTE}");
+    tree.run("quote", &["one", "a part"]).is(&headed, "", 0);
+    tree.run("quote", &["one", "a part", "cut"]).is(&format!("{headed}\n==> cut <==\nrefused 5 0\n"), "", 1);
+    tree.run("quote", &["missing", "one", "a part"]).is(&headed, "quote: missing: no such file\n", 2);
+    tree.run("quote", &["one", "missing"]).is(
+        &format!("==> one <==\n{OVERLAP_QUOTE}"),
+        "quote: missing: no such file\n",
+        2,
+    );
+    tree.shell("\"$TREE/quote\" one - cut", &CUBE).is(
+        &format!("==> one <==\n{OVERLAP_QUOTE}\n==> standard input <==\n{CUBE_QUOTE}\n==> cut <==\nrefused 5 0\n"),
+        "",
+        1,
+    );
+    let head = tree.shell("head -n 9 one 'a part'", &[]);
+    let titles = |text: &[u8]| text.split(|byte| *byte == b'\n').filter(|line| line.starts_with(b"==>")).count();
+    assert_eq!(titles(&head.output), titles(headed.as_bytes()));
+}
+
+#[test]
+fn standard_input_and_odd_names() {
+    let tree = Tree::built();
+    tree.shell("\"$TREE/quote\"", &CUBE).is(CUBE_QUOTE, "", 0);
+    tree.shell("\"$TREE/quote\" -", &CUBE).is(CUBE_QUOTE, "", 0);
+    tree.shell("\"$TREE/quote\" -- -", &CUBE).is(CUBE_QUOTE, "", 0);
+    for name in ["--help", "-", "a b", "*", "%s\\n", "$HOME"] {
+        tree.file(name, &OVERLAP);
+    }
+    for words in ["-- --help", "./-", "'a b'", "'*'", "'%s\\n'", "'$HOME'"] {
+        tree.shell(&format!("\"$TREE/quote\" {words}"), &[]).is(OVERLAP_QUOTE, "", 0);
+    }
+    tree.shell("\"$TREE/quote\" '%s\\n' '*'", &[]).is(
+        &format!("==> %s\\n <==\n{OVERLAP_QUOTE}\n==> * <==\n{OVERLAP_QUOTE}"),
+        "",
+        0,
+    );
+}
+
+#[test]
+fn by_a_link_and_from_the_root() {
+    let tree = Tree::built();
+    tree.file("part", &CUBE);
+    tree.shell("ln -s \"$TREE/quote\" link && ln -s link again && ./again part", &[]).is(CUBE_QUOTE, "", 0);
+    tree.shell("there=$PWD/part; cd \"$TREE\" && ./quote \"$there\" && bash quote \"$there\"", &[]).is(
+        &CUBE_QUOTE.repeat(2),
+        "",
+        0,
+    );
+    tree.shell("PATH=\"$TREE:$PATH\"; quote part", &[]).is(CUBE_QUOTE, "", 0);
+}
+
+#[test]
+fn an_output_that_takes_nothing() {
+    let tree = Tree::built();
+    tree.file("part", &CUBE);
+    tree.file("text", b"shot 1 2 3\n");
+    for script in PROGRAMS {
+        let file = if script == "write_shots" { "text" } else { "part" };
+        for output in [">&-", ">/dev/full"] {
+            let complaint = format!("{script}: standard output cannot be written\n");
+            tree.shell(&format!("\"$TREE/{script}\" {file} {output}"), &[]).is("", &complaint, 2);
+        }
+        // A reader that leaves a pipe early is nobody's fault.
+        let ended = tree.shell(&format!("(sleep 0.3; \"$TREE/{script}\" {file}) | true"), &[]);
+        assert_eq!(ended.complaint, "", "{script}");
+    }
+    tree.shell("\"$TREE/quote\" part part >/dev/full", &[]).is("", "quote: standard output cannot be written\n", 2);
+    tree.shell("\"$TREE/same\" part part >/dev/full", &[]).is("", "same: standard output cannot be written\n", 2);
+    tree.shell("\"$TREE/quote\" --help >&-", &[]).is("", "quote: standard output cannot be written\n", 2);
+    tree.shell("\"$TREE/quote\" part >&- 2>&-", &[]).is("", "", 2);
+}
+
+#[test]
+fn what_programs_say_passes_through() {
+    let bytes = "printf 'a\\0b\\n\\n\\377'";
+    let tree = Tree::standing_in(bytes);
+    for script in ["write_shots", "listing"] {
+        let ended = tree.shell(&format!("\"$TREE/{script}\""), &[]);
+        assert_eq!((&ended.output[..], ended.status), (&b"a\0b\n\n\xff"[..], 0), "{script}");
+    }
+    // The recount says how far it is, and that is no complaint.
+    let tree = Tree::standing_in("echo 'plane 1 of 8' >&2; echo volume 8");
+    tree.shell("\"$TREE/recount\"", &[]).is("volume 8\n", "plane 1 of 8\n", 0);
+    tree.shell("\"$TREE/quote\"", &[]).is("volume 8\n", "plane 1 of 8\n", 2);
+    Tree::standing_in("echo volume 8; exit 3").shell("\"$TREE/quote\"", &[]).is("volume 8\n", "", 2);
+    let tree = Tree::standing_in("echo half; kill -9 $$");
+    let ended = tree.shell("\"$TREE/quote\"", &[]);
+    assert_eq!((ended.text().as_str(), ended.status), ("half\n", 2));
+}
