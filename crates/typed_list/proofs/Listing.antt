@@ -207,17 +207,19 @@ typed-start places text e = rw e
 pub typed-places : (text : List ℕ) {m n : ℕ} {t : Typed} → t ≡ typedList m text → m ≡ n → t ≡ typedList n text
 typed-places text e k = e ∙ ap (λ (i : ℕ). typedList i text) k
 
+module _ (places : ℕ) (text : List ℕ) {field edge grid shots : ℕ} (e : typedList places text ≡ Listed field edge grid shots) where
+  list-counts : Counted places (shotsIn (linesOf text)) 0 shots
+  unfolding typedList nothingYet
+  list-counts = typed-counts places nothingYet 1 (linesOf text) (omega arith) e
+
+  -- the shots of a list have places
+  pub list-shots : shots ≤ places
+  list-shots = list-counts .room
+
 module _ (text before : List ℕ) where
   module _ {field edge grid shots : ℕ} (e : typedList (shotCount before) text ≡ Listed field edge grid shots) where
-    list-counts : Counted (shotCount before) (shotsIn (linesOf text)) 0 shots
-    unfolding typedList nothingYet
-    list-counts = typed-counts (shotCount before) nothingYet 1 (linesOf text) (omega arith) e
-
     pub list-room : length (shotsIn (linesOf text)) ≤ length before
-    list-room = omega (arith, list-counts .room, list-counts .count)
-
-    pub list-shots : shots ≤ shotCount before
-    list-shots = list-counts .room
+    list-room = let k = list-counts (shotCount before) text e in omega (arith, k .room, k .count)
 
     pub list-stored : typedCoords text before ≡ inFront (shotsIn (linesOf text)) before
     unfolding stored
