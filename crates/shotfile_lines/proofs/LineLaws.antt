@@ -49,7 +49,7 @@ unfolding settingLine
 setting-length name value bit =
     omega (arith, length-append (labelled name value) (note bit ++ text "\n"), length-append (note bit) (text "\n"), labelled-length name value, note-length bit)
 
-pub settings-length : (m : ℕ) (f : Fields) → length (settings m f) ≤ 128
+settings-length : (m : ℕ) (f : Fields) → length (settings m f) ≤ 128
 unfolding settings
 settings-length m f =
     let one = settingLine (text "field ") (f .first) (m % 2) in
@@ -63,6 +63,9 @@ settings-length m f =
       setting-length (text "edge ") (f .second) (m / 2 % 2),
       setting-length (text "grid ") (f .third) (m / 4),
     )
+
+pub settings-few : (m : ℕ) (f : Fields) {w w' : List ℕ} {at r : ℕ} → Wrote w w' at r (settings m f) → Wrote w w' at r (settings m f) × (r ≤ at + 128)
+settings-few m f t = (t, omega (arith, t .next, settings-length m f))
 
 -- ---- where a refusal is met
 module _ (detail : ℕ) where

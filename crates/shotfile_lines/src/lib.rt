@@ -47,6 +47,7 @@ pub fn put_setting(out: &mut [u8], at: usize, name: &[u8], value: u16, bit: u8) 
 pub fn put_settings(out: &mut [u8], at: usize, map: u8, header: Fields) -> usize
     requires { ⌜ at + 128 ≤ length (now out) ⌝ }
     ensures { λ r. ⌜ Wrote (now (out .entry)) (now (out .exit)) at r (settings map header) ⌝ }
+    ensures few { λ r. ⌜ r ≤ at + 128 ⌝ }
 {
     let field = put_setting(out, at, b"field ", header.first, map % 2);
     let edge = put_setting(out, field, b"edge ", header.second, map / 2 % 2);
