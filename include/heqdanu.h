@@ -57,13 +57,43 @@ enum {
     HEQDANU_SHORT_FILE = 12       /* the byte buffer is shorter than the file; the bytes needed */
 };
 
-/* Places of `answer` that the calls need: heqdanu_index, heqdanu_write, and all others. */
+/* Places of `answer`, call by call, and how many a call needs. HEQDANU_ANSWER places are enough for every call. */
+enum {
+    /* every call: 0 if accepted, else the number of the refusal; and its detail */
+    HEQDANU_NUMBER = 0,
+    HEQDANU_DETAIL = 1,
+    /* heqdanu_measure, heqdanu_list, heqdanu_recount */
+    HEQDANU_VOLUME = 2,
+    HEQDANU_AREA = 3,
+    HEQDANU_EDGE_LENGTH = 4,
+    HEQDANU_CORNERS = 5,
+    HEQDANU_MEASURE_ANSWER = 6,
+    /* heqdanu_index */
+    HEQDANU_INDEX_ANSWER = 2,
+    /* heqdanu_read */
+    HEQDANU_READ_FIELD = 2,
+    HEQDANU_READ_EDGE = 3,
+    HEQDANU_READ_GRID = 4,
+    HEQDANU_READ_SHOTS = 5,
+    HEQDANU_READ_ANSWER = 6,
+    /* heqdanu_write */
+    HEQDANU_WRITE_BYTES = 2
+};
 #define HEQDANU_ANSWER 6
-#define HEQDANU_INDEX_ANSWER 2
 #define HEQDANU_WRITE_ANSWER 3
 
 /* Bytes of a listing's record: x, y, z in 16 bits each, least byte first, then the pattern byte. */
 #define HEQDANU_RECORD 7
+
+/* Checks a list and makes its grid index, without measuring.
+ *
+ * answer: number, detail (HEQDANU_INDEX_ANSWER places).
+ *
+ * `work` takes the grid index, as in heqdanu_measure. Refusals: 1, 2, 6, 7, 8, 9, 10. After success `work` is as after
+ * heqdanu_measure; after a refusal it is as it was.
+ */
+uint8_t heqdanu_index(uint16_t field, uint16_t edge, uint16_t grid, const uint16_t *coords, size_t ncoords,
+                      uint32_t *work, size_t nwork, uint64_t *answer, size_t nanswer);
 
 /* Measures a list.
  *

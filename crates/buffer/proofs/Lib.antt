@@ -1,1 +1,2 @@
 pub mod WroteLaws
+pub mod Underway

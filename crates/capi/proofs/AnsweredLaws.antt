@@ -1,42 +1,153 @@
--- Numbers put to the front of a lent slice.
+-- Numbers put to the front of a lent slice, and what each call promises then.
 use mathlib.Core.Path.{_≡_, refl, sym, _∙_, ap}
-use mathlib.Core.List.{List, [], _∷_, _++_}
-use Prim.Native.Nat.{ℕ, _≤_}
-use lib.ListN.{length, drop, set}
+use mathlib.Core.Bool.{Bool, true, false, cond}
+use mathlib.Core.List.{List, [], _∷_}
+use Prim.Native.Nat.{ℕ, _≤_, _<_}
+use lib.Dec.{leb}
+use lib.ListN.{length, set}
 use lib.Seq.{sets-eq}
-use Rattle.measure_intake.specs.Intake.{numbersOf}
+use borrow.Author.Tests.{lt-leb, le-leb}
+use Rattle.job.specs.Job.{shotCount}
+use Rattle.job.specs.Refusals.{numberOf, detailOf, checkedNumbers}
+use Rattle.job.specs.Checking.{firstOf, firstNumbers}
+use Rattle.job.specs.declared.Checked.{Checked}
+use Rattle.job.specs.declared.Checked.the-variants.{Accepted, Refused as Turned}
+use Rattle.measure_intake.specs.Intake.{measuredNumbers, measureTests, measureNumbers, workAfter, IndexCall, MeasureCall}
 use Rattle.measure_intake.specs.declared.Measured.{Measured}
-use Rattle.measure_intake.specs.declared.Measured.the-variants.{Quote, Refused}
+use Rattle.measure.specs.Answers.{listNumbers, listingAfter, ListCall}
+use Rattle.shotfile.specs.Files.{File, file, refused, fileIn, fileOf}
+use Rattle.buffer.specs.Wrote.{inFront}
+use Rattle.shotfile.specs.Calls.{readNumbers, readValues, readCoords, writtenNumbers, writeTests, ifWritten, writeValues, writeBytes, ReadCall, WriteCall}
 use Rattle.shotfile.specs.declared.reader.ReadAnswer.{ReadAnswer}
-use Rattle.shotfile.specs.declared.reader.ReadAnswer.the-variants.{Read, Refused as Unread}
 use Rattle.shotfile.specs.declared.writer.WriteAnswer.{WriteAnswer}
-use Rattle.shotfile.specs.declared.writer.WriteAnswer.the-variants.{Written, Refused as Unwritten}
-use Rattle.capi.specs.Answered.{measuredNumbers, readNumbers, writtenNumbers}
+use Rattle.capi.specs.Answered.{indexPlaces, measurePlaces, fits, Told, ifTold, IndexTold, MeasureTold, ListTold, ReadTold, WriteTold}
 
-pub three-stored : (l : List ℕ) (a b c : ℕ) → 3 ≤ length l → set (set (set l 0 a) 1 b) 2 c ≡ (a ∷ b ∷ c ∷ []) ++ drop 3 l
+-- ---- stores
+pub two-stored : (l : List ℕ) (a b : ℕ) → 2 ≤ length l → set (set l 0 a) 1 b ≡ inFront (a ∷ b ∷ []) l
+two-stored l a b h = sets-eq (a ∷ b ∷ []) l 0 h
+
+pub three-stored : (l : List ℕ) (a b c : ℕ) → 3 ≤ length l → set (set (set l 0 a) 1 b) 2 c ≡ inFront (a ∷ b ∷ c ∷ []) l
 three-stored l a b c h = sets-eq (a ∷ b ∷ c ∷ []) l 0 h
 
 pub six-stored : (l : List ℕ) (a b c d e f : ℕ) → 6 ≤ length l
-    → set (set (set (set (set (set l 0 a) 1 b) 2 c) 3 d) 4 e) 5 f ≡ (a ∷ b ∷ c ∷ d ∷ e ∷ f ∷ []) ++ drop 6 l
+    → set (set (set (set (set (set l 0 a) 1 b) 2 c) 3 d) 4 e) 5 f ≡ inFront (a ∷ b ∷ c ∷ d ∷ e ∷ f ∷ []) l
 six-stored l a b c d e f h = sets-eq (a ∷ b ∷ c ∷ d ∷ e ∷ f ∷ []) l 0 h
 
--- the answers have six numbers, or three
-pub measured-six : (m : Measured) → length (measuredNumbers m) ≡ 6
-unfolding measuredNumbers
-measured-six m = refl
+-- the numbers of an answer that is known
+pub put-as : {A : Type 0} (numbers : A → List ℕ) (answer : List ℕ) {answer' : List ℕ} {a b : A} → answer' ≡ inFront (numbers b) answer → a ≡ b → answer' ≡ inFront (numbers a) answer
+put-as numbers answer e k = e ∙ ap (λ m. inFront (numbers m) answer) (sym k)
 
-pub read-six : (m : ReadAnswer) → length (readNumbers m) ≡ 6
-unfolding readNumbers
-read-six (Read field edge grid shots) = refl
-read-six (Unread r) = refl
+-- ---- numbers, n of them
+module _ (numbers : List ℕ) {n : ℕ} (size : length numbers ≡ n) (answer : List ℕ) where
+  fit-is : {b : Bool} → leb n (length answer) ≡ b → fits numbers answer ≡ b
+  fit-is e = ap (λ m. leb m (length answer)) size ∙ e
 
-pub written-three : (m : WriteAnswer) → length (writtenNumbers m) ≡ 3
-unfolding writtenNumbers
-written-three (Written n) = refl
-written-three (Unwritten r) = refl
+  -- where they do not fit
+  module _ (h : length answer < n) where
+    no-fit : fits numbers answer ≡ false
+    no-fit = fit-is (lt-leb n (length answer) h)
 
--- what was put is the numbers of the answer
-pub told-numbers : {A : Type 0} (numbers : A → List ℕ) (n : ℕ) → ((a : A) → length (numbers a) ≡ n) → (before : List ℕ) {after : List ℕ} {a b : A}
-    → after ≡ numbers a ++ drop n before → a ≡ b → after ≡ numbers b ++ drop (length (numbers b)) before
-told-numbers numbers n size before {after} {a} {b} e k =
-    e ∙ ap (λ a. numbers a ++ drop n before) k ∙ ap (λ m. numbers b ++ drop m before) (sym (size b))
+    pub untold : Told numbers answer 0 answer
+    untold = record { gives = ap (λ b. cond b 1 0) (sym no-fit); answered = ap (λ b. cond b (inFront numbers answer) answer) (sym no-fit) }
+
+    pub kept : (done slice : List ℕ) → slice ≡ ifTold numbers answer done slice
+    kept done slice = ap (λ b. cond b done slice) (sym no-fit)
+
+  -- and where they do
+  module _ (h : n ≤ length answer) where
+    fit : fits numbers answer ≡ true
+    fit = fit-is (le-leb n (length answer) h)
+
+    pub told : {put answer' : List ℕ} → answer' ≡ inFront put answer → put ≡ numbers → Told numbers answer 1 answer'
+    told e k = record {
+      gives = ap (λ b. cond b 1 0) (sym fit);
+      answered = e ∙ ap (λ p. inFront p answer) k ∙ ap (λ b. cond b (inFront numbers answer) answer) (sym fit);
+    }
+
+    pub done-is : {slice' : List ℕ} (done slice : List ℕ) → slice' ≡ done → slice' ≡ ifTold numbers answer done slice
+    done-is done slice e = e ∙ ap (λ b. cond b done slice) (sym fit)
+
+-- how many numbers a file has
+read-six : (f : File) → length (readValues f) ≡ 6
+unfolding readValues
+read-six (file f coords) = refl
+read-six (refused r) = refl
+
+write-three : (F E G : ℕ) (coords : List ℕ) (room : ℕ) → length (writeValues F E G coords room) ≡ 3
+unfolding writeValues
+write-three F E G coords room = by (firstOf (writeTests F E G coords room))
+  where
+    by : (c : Checked) → length (ifWritten c (λ r. numberOf r ∷ detailOf r ∷ 0 ∷ []) (0 ∷ 0 ∷ length (fileOf F E G coords) ∷ [])) ≡ 3
+    by Accepted = refl
+    by (Turned r) = refl
+
+-- ---- the calls
+module _ {F E G : ℕ} {coords work : List ℕ} (answer : List ℕ) where
+  pub index-untold : length answer < 2 → IndexTold F E G coords work answer 0 work answer
+  index-untold h =
+      let n = indexPlaces (firstNumbers (measureTests F E G coords (length work))) in
+      record { told = untold n refl answer h; index = kept n refl answer h (workAfter F E G coords work) work }
+
+  pub index-told : {c : Checked} {work' answer' : List ℕ} → 2 ≤ length answer → IndexCall F E G coords work c work' → answer' ≡ inFront (indexPlaces (checkedNumbers c)) answer
+      → IndexTold F E G coords work answer 1 work' answer'
+  index-told h call e =
+      let n = indexPlaces (firstNumbers (measureTests F E G coords (length work))) in
+      record { told = told n refl answer h e (ap indexPlaces (call .numbers)); index = done-is n refl answer h (workAfter F E G coords work) work (call .index) }
+
+  pub measure-untold : length answer < 6 → MeasureTold F E G coords work answer 0 work answer
+  measure-untold h =
+      let n = measurePlaces (measureNumbers F E G coords (length work)) in
+      record { told = untold n refl answer h; index = kept n refl answer h (workAfter F E G coords work) work }
+
+  pub measure-told : {m : Measured} {work' answer' : List ℕ} → 6 ≤ length answer → MeasureCall F E G coords work m work' → answer' ≡ inFront (measurePlaces (measuredNumbers m)) answer
+      → MeasureTold F E G coords work answer 1 work' answer'
+  measure-told h call e =
+      let n = measurePlaces (measureNumbers F E G coords (length work)) in
+      record { told = told n refl answer h e (ap measurePlaces (call .numbers)); index = done-is n refl answer h (workAfter F E G coords work) work (call .index) }
+
+  pub list-untold : {buffer : List ℕ} → length answer < 6 → ListTold F E G coords work buffer answer 0 work buffer answer
+  list-untold {buffer} h =
+      let n = measurePlaces (listNumbers F E G coords (length work) (length buffer)) in
+      record {
+        told = untold n refl answer h;
+        index = kept n refl answer h (workAfter F E G coords work) work;
+        listing = kept n refl answer h (listingAfter F E G coords (length work) buffer) buffer;
+      }
+
+  pub list-told : {m : Measured} {buffer work' buffer' answer' : List ℕ} → 6 ≤ length answer → ListCall F E G coords work buffer m work' buffer'
+      → answer' ≡ inFront (measurePlaces (measuredNumbers m)) answer → ListTold F E G coords work buffer answer 1 work' buffer' answer'
+  list-told {m} {buffer} h call e =
+      let n = measurePlaces (listNumbers F E G coords (length work) (length buffer)) in
+      record {
+        told = told n refl answer h e (ap measurePlaces (call .numbers));
+        index = done-is n refl answer h (workAfter F E G coords work) work (call .index);
+        listing = done-is n refl answer h (listingAfter F E G coords (length work) buffer) buffer (call .listing);
+      }
+
+module _ {bytes coords : List ℕ} (answer : List ℕ) where
+  pub read-untold : length answer < 6 → ReadTold bytes coords answer 0 coords answer
+  read-untold h =
+      let f = fileIn (shotCount coords) bytes in
+      record { told = untold (readValues f) (read-six f) answer h; coordinates = kept (readValues f) (read-six f) answer h (readCoords f coords) coords }
+
+  pub read-told : {a : ReadAnswer} {coords' answer' : List ℕ} → 6 ≤ length answer → ReadCall bytes coords a coords' → answer' ≡ inFront (readNumbers a) answer → ReadTold bytes coords answer 1 coords' answer'
+  read-told h call e =
+      let f = fileIn (shotCount coords) bytes in
+      record {
+        told = told (readValues f) (read-six f) answer h e (call .numbers);
+        coordinates = done-is (readValues f) (read-six f) answer h (readCoords f coords) coords (call .coordinates);
+      }
+
+module _ {F E G : ℕ} {coords bytes : List ℕ} (answer : List ℕ) where
+  pub write-untold : length answer < 3 → WriteTold F E G coords bytes answer 0 bytes answer
+  write-untold h =
+      let n = writeValues F E G coords (length bytes) in
+      let size = write-three F E G coords (length bytes) in
+      record { told = untold n size answer h; file = kept n size answer h (writeBytes F E G coords bytes) bytes }
+
+  pub write-told : {w : WriteAnswer} {bytes' answer' : List ℕ} → 3 ≤ length answer → WriteCall F E G coords bytes w bytes' → answer' ≡ inFront (writtenNumbers w) answer
+      → WriteTold F E G coords bytes answer 1 bytes' answer'
+  write-told h call e =
+      let n = writeValues F E G coords (length bytes) in
+      let size = write-three F E G coords (length bytes) in
+      record { told = told n size answer h e (call .numbers); file = done-is n size answer h (writeBytes F E G coords bytes) bytes (call .file) }

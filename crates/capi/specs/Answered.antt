@@ -1,44 +1,66 @@
--- What a call from another language leaves: its numbers in a lent slice of 64-bit places, if that has room for them; and 1 or 0 back.
-use mathlib.Core.Bool.{Bool, true, false, cond}
-use mathlib.Core.List.{List, [], _∷_, _++_}
+-- What a call from another language leaves: its numbers in a lent slice of 64-bit places, if that has a place for each; and 1 or 0 back. A call whose
+-- numbers do not fit changes nothing. Each record is the promise of the calls that it names.
+use mathlib.Core.Path.{_≡_}
+use mathlib.Core.Bool.{Bool, cond}
+use mathlib.Core.List.{List, [], _∷_}
 use Prim.Native.Nat.{ℕ}
 use lib.Dec.{leb}
-use lib.ListN.{length, drop}
-use Rattle.job.specs.Refusals.{numberOf, detailOf}
-use Rattle.measure_intake.specs.Intake.{Numbers, numbersOf}
-use Rattle.measure_intake.specs.declared.Measured.{Measured}
-use Rattle.shotfile.specs.declared.reader.ReadAnswer.{ReadAnswer}
-use Rattle.shotfile.specs.declared.reader.ReadAnswer.the-variants.{Read, Refused as Unread}
-use Rattle.shotfile.specs.declared.writer.WriteAnswer.{WriteAnswer}
-use Rattle.shotfile.specs.declared.writer.WriteAnswer.the-variants.{Written, Refused as Unwritten}
+use lib.ListN.{length}
+use Rattle.job.specs.Job.{shotCount}
+use Rattle.job.specs.Refusals.{Numbers}
+use Rattle.job.specs.Checking.{firstNumbers}
+use Rattle.measure_intake.specs.Intake.{MeasuredNumbers, measureTests, measureNumbers, workAfter}
+use Rattle.measure.specs.Answers.{listNumbers, listingAfter}
+use Rattle.shotfile.specs.Files.{fileIn}
+use Rattle.buffer.specs.Wrote.{inFront}
+use Rattle.shotfile.specs.Calls.{readValues, readCoords, writeValues, writeBytes}
 
--- the refusal's number and detail, then the call's numbers, all 0 if refused
-abbrev pub listOf : Numbers → List ℕ
-listOf n = n .number ∷ n .detail ∷ n .volume ∷ n .area ∷ n .edge ∷ n .corners ∷ []
+-- ---- numbers in the order of their places
+-- of the index: the refusal's number and detail, 0 and 0 where there is none
+abbrev pub indexPlaces : Numbers → List ℕ
+indexPlaces n = n .number ∷ n .detail ∷ []
 
-unfoldable pub measuredNumbers : Measured → List ℕ
-measuredNumbers m = listOf (numbersOf m)
+-- of measuring: then the totals and the corner count, all 0 if refused
+abbrev pub measurePlaces : MeasuredNumbers → List ℕ
+measurePlaces n = n .number ∷ n .detail ∷ n .totals .volume ∷ n .totals .area ∷ n .totals .edge ∷ n .totals .corners ∷ []
 
-unfoldable pub readNumbers : ReadAnswer → List ℕ
-readNumbers (Read field edge grid shots) = 0 ∷ 0 ∷ field ∷ edge ∷ grid ∷ shots ∷ []
-readNumbers (Unread r) = numberOf r ∷ detailOf r ∷ 0 ∷ 0 ∷ 0 ∷ 0 ∷ []
+-- ---- told where they fit
+-- a lent slice has a place for each number
+abbrev pub fits : List ℕ → List ℕ → Bool
+fits numbers answer = leb (length numbers) (length answer)
 
-unfoldable pub writtenNumbers : WriteAnswer → List ℕ
-writtenNumbers (Written n) = 0 ∷ 0 ∷ n ∷ []
-writtenNumbers (Unwritten r) = numberOf r ∷ detailOf r ∷ 0 ∷ []
+-- 1 back, and the numbers in the first places; otherwise 0 back, and the slice as it was
+pub record Told (numbers answer : List ℕ) (r : ℕ) (answer' : List ℕ) : Type 0 where
+  pub gives : r ≡ cond (fits numbers answer) 1 0
+  pub answered : answer' ≡ cond (fits numbers answer) (inFront numbers answer) answer
 
--- whether a lent slice has so many places
-abbrev pub hasRoom : ℕ → List ℕ → Bool
-hasRoom n answer = leb n (length answer)
+-- another lent slice after the call
+abbrev pub ifTold : List ℕ → List ℕ → List ℕ → List ℕ → List ℕ
+ifTold numbers answer done kept = cond (fits numbers answer) done kept
 
--- 1 where the numbers are told, else 0
-abbrev pub told : Bool → ℕ
-told room = cond room 1 0
+-- ---- the promises
+-- `heqdanu_index`
+pub record IndexTold (F E G : ℕ) (coords work answer : List ℕ) (r : ℕ) (work' answer' : List ℕ) : Type 0 where
+  pub told : Told (indexPlaces (firstNumbers (measureTests F E G coords (length work)))) answer r answer'
+  pub index : work' ≡ ifTold (indexPlaces (firstNumbers (measureTests F E G coords (length work)))) answer (workAfter F E G coords work) work
 
--- the first places are the numbers, and the others keep their values; nothing changes where there is no room
-abbrev pub answered : Bool → List ℕ → List ℕ → List ℕ
-answered room numbers answer = cond room (numbers ++ drop (length numbers) answer) answer
+-- `heqdanu_measure` and `heqdanu_recount`
+pub record MeasureTold (F E G : ℕ) (coords work answer : List ℕ) (r : ℕ) (work' answer' : List ℕ) : Type 0 where
+  pub told : Told (measurePlaces (measureNumbers F E G coords (length work))) answer r answer'
+  pub index : work' ≡ ifTold (measurePlaces (measureNumbers F E G coords (length work))) answer (workAfter F E G coords work) work
 
--- a buffer after the call, or as it was where there is no room for the numbers
-abbrev pub after : Bool → List ℕ → List ℕ → List ℕ
-after room done kept = cond room done kept
+-- `heqdanu_list`
+pub record ListTold (F E G : ℕ) (coords work buffer answer : List ℕ) (r : ℕ) (work' buffer' answer' : List ℕ) : Type 0 where
+  pub told : Told (measurePlaces (listNumbers F E G coords (length work) (length buffer))) answer r answer'
+  pub index : work' ≡ ifTold (measurePlaces (listNumbers F E G coords (length work) (length buffer))) answer (workAfter F E G coords work) work
+  pub listing : buffer' ≡ ifTold (measurePlaces (listNumbers F E G coords (length work) (length buffer))) answer (listingAfter F E G coords (length work) buffer) buffer
+
+-- `heqdanu_read`
+pub record ReadTold (bytes coords answer : List ℕ) (r : ℕ) (coords' answer' : List ℕ) : Type 0 where
+  pub told : Told (readValues (fileIn (shotCount coords) bytes)) answer r answer'
+  pub coordinates : coords' ≡ ifTold (readValues (fileIn (shotCount coords) bytes)) answer (readCoords (fileIn (shotCount coords) bytes) coords) coords
+
+-- `heqdanu_write`
+pub record WriteTold (F E G : ℕ) (coords bytes answer : List ℕ) (r : ℕ) (bytes' answer' : List ℕ) : Type 0 where
+  pub told : Told (writeValues F E G coords (length bytes)) answer r answer'
+  pub file : bytes' ≡ ifTold (writeValues F E G coords (length bytes)) answer (writeBytes F E G coords bytes) bytes

@@ -1,65 +1,120 @@
 // The calls for C and Rust: numbers and slices only. include/heqdanu.h describes them for their users.
 // Each answer goes, as numbers, into a lent slice whose length is checked: specs/Answered.antt. Stands on `measure`,
 // `measure_cells` and `shotfile`.
+pub mod places;
+
 ghost use mathlib.Core.Path.{_≡_};
-ghost use mathlib.Core.List.{[], _∷_, _++_};
+ghost use mathlib.Core.List.{[], _∷_};
 ghost use Prim.Native.Nat.{_≤_};
-ghost use lib.ListN.{length, drop};
-ghost use Rattle.measure_intake.specs.Intake.{measureAnswer, workAfter};
-ghost use Rattle.measure.specs.Answers.{listAnswer, listingAfter};
-ghost use Rattle.shotfile.specs.Files.{fileIn};
-ghost use Rattle.shotfile.specs.Calls.{readAnswer, readCoords, writeAnswer, writeBytes};
-ghost use Rattle.capi.specs.Answered.{hasRoom, told, answered, after, measuredNumbers, readNumbers, writtenNumbers};
+ghost use lib.ListN.{length};
+ghost use Rattle.job.specs.Refusals.{checkedNumbers};
+ghost use Rattle.measure_intake.specs.Intake.{measuredNumbers};
+ghost use Rattle.buffer.specs.Wrote.{inFront};
+ghost use Rattle.shotfile.specs.Calls.{readNumbers, writtenNumbers};
+ghost use Rattle.capi.specs.Answered.{indexPlaces, measurePlaces, IndexTold, MeasureTold, ListTold, ReadTold, WriteTold};
+use crate::places::AREA;
+use crate::places::CORNERS;
+use crate::places::DETAIL;
+use crate::places::EDGE_LENGTH;
+use crate::places::INDEX_ANSWER;
+use crate::places::MEASURE_ANSWER;
+use crate::places::NUMBER;
+use crate::places::READ_ANSWER;
+use crate::places::READ_EDGE;
+use crate::places::READ_FIELD;
+use crate::places::READ_GRID;
+use crate::places::READ_SHOTS;
+use crate::places::VOLUME;
+use crate::places::WRITE_ANSWER;
+use crate::places::WRITE_BYTES;
+use job::Checked;
+use lattice_sums::sums::Totals;
 use measure_intake::Measured;
 use shotfile::reader::ReadAnswer;
 use shotfile::writer::WriteAnswer;
 
-// Puts three numbers to the front.
-fn put_three(answer: &mut [u64], a: u64, b: u64, c: u64)
+// ---- the numbers of an answer, put to the front
+
+fn put_index(answer: &mut [u64], number: u8, detail: usize)
+    requires { ⌜ 2 ≤ length (now answer) ⌝ }
+    ensures { λ _. ⌜ now (answer .exit) ≡ inFront (number ∷ detail ∷ []) (now (answer .entry)) ⌝ }
+{
+    answer[NUMBER] = number as u64;
+    answer[DETAIL] = detail as u64;
+}
+
+fn put_totals(answer: &mut [u64], number: u8, detail: usize, t: Totals)
+    requires { ⌜ 6 ≤ length (now answer) ⌝ }
+    ensures { λ _. ⌜ now (answer .exit) ≡ inFront (number ∷ detail ∷ t .volume ∷ t .area ∷ t .edge ∷ t .corners ∷ []) (now (answer .entry)) ⌝ }
+{
+    answer[NUMBER] = number as u64;
+    answer[DETAIL] = detail as u64;
+    answer[VOLUME] = t.volume;
+    answer[AREA] = t.area;
+    answer[EDGE_LENGTH] = t.edge;
+    answer[CORNERS] = t.corners as u64;
+}
+
+fn put_list(
+    answer: &mut [u64],
+    number: u8,
+    detail: usize,
+    field: u16,
+    edge: u16,
+    grid: u16,
+    shots: usize,
+)
+    requires { ⌜ 6 ≤ length (now answer) ⌝ }
+    ensures { λ _. ⌜ now (answer .exit) ≡ inFront (number ∷ detail ∷ field ∷ edge ∷ grid ∷ shots ∷ []) (now (answer .entry)) ⌝ }
+{
+    answer[NUMBER] = number as u64;
+    answer[DETAIL] = detail as u64;
+    answer[READ_FIELD] = field as u64;
+    answer[READ_EDGE] = edge as u64;
+    answer[READ_GRID] = grid as u64;
+    answer[READ_SHOTS] = shots as u64;
+}
+
+fn put_length(answer: &mut [u64], number: u8, detail: usize, bytes: usize)
     requires { ⌜ 3 ≤ length (now answer) ⌝ }
-    ensures { λ _. ⌜ now (answer .exit) ≡ (a ∷ b ∷ c ∷ []) ++ drop 3 (now (answer .entry)) ⌝ }
+    ensures { λ _. ⌜ now (answer .exit) ≡ inFront (number ∷ detail ∷ bytes ∷ []) (now (answer .entry)) ⌝ }
 {
-    answer[0] = a;
-    answer[1] = b;
-    answer[2] = c;
+    answer[NUMBER] = number as u64;
+    answer[DETAIL] = detail as u64;
+    answer[WRITE_BYTES] = bytes as u64;
 }
 
-// Puts six numbers to the front.
-fn put_six(answer: &mut [u64], a: u64, b: u64, c: u64, d: u64, e: u64, f: u64)
-    requires { ⌜ 6 ≤ length (now answer) ⌝ }
-    ensures { λ _. ⌜ now (answer .exit) ≡ (a ∷ b ∷ c ∷ d ∷ e ∷ f ∷ []) ++ drop 6 (now (answer .entry)) ⌝ }
-{
-    answer[0] = a;
-    answer[1] = b;
-    answer[2] = c;
-    answer[3] = d;
-    answer[4] = e;
-    answer[5] = f;
-}
+// ---- by the answer: a refusal has its number and detail, with all others 0
 
-// Puts the numbers of a measured list to the front.
-fn put_measured(answer: &mut [u64], measured: Measured)
-    requires { ⌜ 6 ≤ length (now answer) ⌝ }
-    ensures { λ _. ⌜ now (answer .exit) ≡ measuredNumbers measured ++ drop 6 (now (answer .entry)) ⌝ }
+fn put_checked(answer: &mut [u64], checked: Checked)
+    requires { ⌜ 2 ≤ length (now answer) ⌝ }
+    ensures { λ _. ⌜ now (answer .exit) ≡ inFront (indexPlaces (checkedNumbers checked)) (now (answer .entry)) ⌝ }
 {
-    match measured {
-        Measured::Quote(t) => put_six(answer, 0, 0, t.volume, t.area, t.edge, t.corners as u64),
-        Measured::Refused(r) => put_six(
-            answer,
-            job::number(r) as u64,
-            job::detail(r) as u64,
-            0,
-            0,
-            0,
-            0,
-        ),
+    match checked {
+        Checked::Accepted => put_index(answer, 0, 0),
+        Checked::Refused(r) => put_index(answer, job::number(r), job::detail(r)),
     }
 }
 
-// Puts the numbers of a read file to the front.
+fn put_measured(answer: &mut [u64], measured: Measured)
+    requires { ⌜ 6 ≤ length (now answer) ⌝ }
+    ensures { λ _. ⌜ now (answer .exit) ≡ inFront (measurePlaces (measuredNumbers measured)) (now (answer .entry)) ⌝ }
+{
+    let none = Totals {
+        volume: 0,
+        area: 0,
+        edge: 0,
+        corners: 0,
+    };
+    match measured {
+        Measured::Quote(t) => put_totals(answer, 0, 0, t),
+        Measured::Refused(r) => put_totals(answer, job::number(r), job::detail(r), none),
+    }
+}
+
 fn put_read(answer: &mut [u64], read: ReadAnswer)
     requires { ⌜ 6 ≤ length (now answer) ⌝ }
-    ensures { λ _. ⌜ now (answer .exit) ≡ readNumbers read ++ drop 6 (now (answer .entry)) ⌝ }
+    ensures { λ _. ⌜ now (answer .exit) ≡ inFront (readNumbers read) (now (answer .entry)) ⌝ }
 {
     match read {
         ReadAnswer::Read {
@@ -67,44 +122,45 @@ fn put_read(answer: &mut [u64], read: ReadAnswer)
             edge,
             grid,
             shots,
-        } => put_six(
-            answer,
-            0,
-            0,
-            field as u64,
-            edge as u64,
-            grid as u64,
-            shots as u64,
-        ),
-        ReadAnswer::Refused(r) => put_six(
-            answer,
-            job::number(r) as u64,
-            job::detail(r) as u64,
-            0,
-            0,
-            0,
-            0,
-        ),
+        } => put_list(answer, 0, 0, field, edge, grid, shots),
+        ReadAnswer::Refused(r) => put_list(answer, job::number(r), job::detail(r), 0, 0, 0, 0),
     }
 }
 
-// Puts the numbers of a written file to the front.
 fn put_written(answer: &mut [u64], written: WriteAnswer)
     requires { ⌜ 3 ≤ length (now answer) ⌝ }
-    ensures { λ _. ⌜ now (answer .exit) ≡ writtenNumbers written ++ drop 3 (now (answer .entry)) ⌝ }
+    ensures { λ _. ⌜ now (answer .exit) ≡ inFront (writtenNumbers written) (now (answer .entry)) ⌝ }
 {
     match written {
-        WriteAnswer::Written { bytes } => put_three(answer, 0, 0, bytes as u64),
-        WriteAnswer::Refused(r) => put_three(
-            answer,
-            job::number(r) as u64,
-            job::detail(r) as u64,
-            0,
-        ),
+        WriteAnswer::Written { bytes } => put_length(answer, 0, 0, bytes),
+        WriteAnswer::Refused(r) => put_length(answer, job::number(r), job::detail(r), 0),
     }
 }
 
-// Measures a list: see `measure::measure`. The numbers: refusal, detail, volume, area, edge length, corners.
+// ---- the calls
+
+// Checks a list and puts its index into the work slice: see `measure_intake::indexed`.
+#[no_mangle]
+pub extern "C" fn heqdanu_index(
+    field: u16,
+    edge: u16,
+    grid: u16,
+    coords: &[u16],
+    work: &mut [u32],
+    answer: &mut [u64],
+) -> u8
+    ensures { λ r. ⌜ IndexTold field edge grid (now (coords .entry)) (now (work .entry)) (now (answer .entry))
+        r (now (work .exit)) (now (answer .exit)) ⌝ }
+{
+    if answer.len() < INDEX_ANSWER {
+        return 0;
+    }
+    let checked = measure_intake::indexed(field, edge, grid, coords, work);
+    put_checked(answer, checked);
+    1
+}
+
+// Measures a list: see `measure::measure`.
 #[no_mangle]
 pub extern "C" fn heqdanu_measure(
     field: u16,
@@ -114,11 +170,10 @@ pub extern "C" fn heqdanu_measure(
     work: &mut [u32],
     answer: &mut [u64],
 ) -> u8
-    ensures { λ r. ⌜ r ≡ told (hasRoom 6 (now (answer .entry))) ⌝ }
-    ensures { λ _. ⌜ now (work .exit) ≡ after (hasRoom 6 (now (answer .entry))) (workAfter field edge grid (now (coords .entry)) (now (work .entry))) (now (work .entry)) ⌝ }
-    ensures { λ _. ⌜ now (answer .exit) ≡ answered (hasRoom 6 (now (answer .entry))) (measuredNumbers (measureAnswer field edge grid (now (coords .entry)) (length (now (work .entry))))) (now (answer .entry)) ⌝ }
+    ensures { λ r. ⌜ MeasureTold field edge grid (now (coords .entry)) (now (work .entry)) (now (answer .entry))
+        r (now (work .exit)) (now (answer .exit)) ⌝ }
 {
-    if answer.len() < 6 {
+    if answer.len() < MEASURE_ANSWER {
         return 0;
     }
     let measured = measure::measure(field, edge, grid, coords, work);
@@ -137,12 +192,10 @@ pub extern "C" fn heqdanu_list(
     listing: &mut [u8],
     answer: &mut [u64],
 ) -> u8
-    ensures { λ r. ⌜ r ≡ told (hasRoom 6 (now (answer .entry))) ⌝ }
-    ensures { λ _. ⌜ now (work .exit) ≡ after (hasRoom 6 (now (answer .entry))) (workAfter field edge grid (now (coords .entry)) (now (work .entry))) (now (work .entry)) ⌝ }
-    ensures { λ _. ⌜ now (listing .exit) ≡ after (hasRoom 6 (now (answer .entry))) (listingAfter field edge grid (now (coords .entry)) (length (now (work .entry))) (now (listing .entry))) (now (listing .entry)) ⌝ }
-    ensures { λ _. ⌜ now (answer .exit) ≡ answered (hasRoom 6 (now (answer .entry))) (measuredNumbers (listAnswer field edge grid (now (coords .entry)) (length (now (work .entry))) (length (now (listing .entry))))) (now (answer .entry)) ⌝ }
+    ensures { λ r. ⌜ ListTold field edge grid (now (coords .entry)) (now (work .entry)) (now (listing .entry)) (now (answer .entry))
+        r (now (work .exit)) (now (listing .exit)) (now (answer .exit)) ⌝ }
 {
-    if answer.len() < 6 {
+    if answer.len() < MEASURE_ANSWER {
         return 0;
     }
     let measured = measure::list(field, edge, grid, coords, work, listing);
@@ -160,11 +213,10 @@ pub extern "C" fn heqdanu_recount(
     work: &mut [u32],
     answer: &mut [u64],
 ) -> u8
-    ensures { λ r. ⌜ r ≡ told (hasRoom 6 (now (answer .entry))) ⌝ }
-    ensures { λ _. ⌜ now (work .exit) ≡ after (hasRoom 6 (now (answer .entry))) (workAfter field edge grid (now (coords .entry)) (now (work .entry))) (now (work .entry)) ⌝ }
-    ensures { λ _. ⌜ now (answer .exit) ≡ answered (hasRoom 6 (now (answer .entry))) (measuredNumbers (measureAnswer field edge grid (now (coords .entry)) (length (now (work .entry))))) (now (answer .entry)) ⌝ }
+    ensures { λ r. ⌜ MeasureTold field edge grid (now (coords .entry)) (now (work .entry)) (now (answer .entry))
+        r (now (work .exit)) (now (answer .exit)) ⌝ }
 {
-    if answer.len() < 6 {
+    if answer.len() < MEASURE_ANSWER {
         return 0;
     }
     let again = measure_cells::recount(field, edge, grid, coords, work);
@@ -172,14 +224,12 @@ pub extern "C" fn heqdanu_recount(
     1
 }
 
-// Reads a shot file: see `shotfile::reader::read`. The numbers: refusal, detail, field, edge, grid, shots.
+// Reads a shot file: see `shotfile::reader::read`.
 #[no_mangle]
 pub extern "C" fn heqdanu_read(bytes: &[u8], coords: &mut [u16], answer: &mut [u64]) -> u8
-    ensures { λ r. ⌜ r ≡ told (hasRoom 6 (now (answer .entry))) ⌝ }
-    ensures { λ _. ⌜ now (coords .exit) ≡ after (hasRoom 6 (now (answer .entry))) (readCoords (fileIn (length (now (coords .entry))) (now (bytes .entry))) (now (coords .entry))) (now (coords .entry)) ⌝ }
-    ensures { λ _. ⌜ now (answer .exit) ≡ answered (hasRoom 6 (now (answer .entry))) (readNumbers (readAnswer (fileIn (length (now (coords .entry))) (now (bytes .entry))))) (now (answer .entry)) ⌝ }
+    ensures { λ r. ⌜ ReadTold (now (bytes .entry)) (now (coords .entry)) (now (answer .entry)) r (now (coords .exit)) (now (answer .exit)) ⌝ }
 {
-    if answer.len() < 6 {
+    if answer.len() < READ_ANSWER {
         return 0;
     }
     let read = shotfile::reader::read(bytes, coords);
@@ -187,7 +237,7 @@ pub extern "C" fn heqdanu_read(bytes: &[u8], coords: &mut [u16], answer: &mut [u
     1
 }
 
-// Writes a list as a shot file: see `shotfile::writer::write`. The numbers: refusal, detail, length.
+// Writes a list as a shot file: see `shotfile::writer::write`.
 #[no_mangle]
 pub extern "C" fn heqdanu_write(
     field: u16,
@@ -197,11 +247,10 @@ pub extern "C" fn heqdanu_write(
     bytes: &mut [u8],
     answer: &mut [u64],
 ) -> u8
-    ensures { λ r. ⌜ r ≡ told (hasRoom 3 (now (answer .entry))) ⌝ }
-    ensures { λ _. ⌜ now (bytes .exit) ≡ after (hasRoom 3 (now (answer .entry))) (writeBytes field edge grid (now (coords .entry)) (now (bytes .entry))) (now (bytes .entry)) ⌝ }
-    ensures { λ _. ⌜ now (answer .exit) ≡ answered (hasRoom 3 (now (answer .entry))) (writtenNumbers (writeAnswer field edge grid (now (coords .entry)) (length (now (bytes .entry))))) (now (answer .entry)) ⌝ }
+    ensures { λ r. ⌜ WriteTold field edge grid (now (coords .entry)) (now (bytes .entry)) (now (answer .entry))
+        r (now (bytes .exit)) (now (answer .exit)) ⌝ }
 {
-    if answer.len() < 3 {
+    if answer.len() < WRITE_ANSWER {
         return 0;
     }
     let written = shotfile::writer::write(field, edge, grid, coords, bytes);

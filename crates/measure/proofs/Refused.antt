@@ -1,20 +1,21 @@
 -- When listing accepts a list and when it refuses it, each exactly: document 01, 'When a job is refused'. The statements speak of a call by what it
 -- promises. Assumes nothing.
-use mathlib.Core.Path.{_≡_, sym, ap, _∙_}
+use mathlib.Core.Path.{_≡_, sym, ap, _∙_, subst}
 use mathlib.Core.List.{List, _++_}
 use mathlib.Core.Logic.{_↔_, _⊎_, inl, inr}
-use Prim.Native.Nat.{ℕ, _*_, _<_}
+use Prim.Native.Nat.{ℕ, _*_, _≤_, _<_}
 use lib.ListN.{length, drop}
 use Rattle.lattice.specs.Listing.{cornerCount}
+use Rattle.lattice_sums.specs.CornerSums.{totalsOf}
 use Rattle.lattice_sums.specs.declared.sums.Totals.{Totals}
 use Rattle.job.specs.declared.Refusal.{Refusal}
 use Rattle.job.specs.declared.Refusal.the-variants.{ShortListing}
 use Rattle.job.specs.declared.Checked.the-variants.{Accepted, Refused}
 use Rattle.grid.specs.Grid.{indexOf, need}
-use Rattle.measure_intake.specs.Intake.{solid, measureTests, measureChecked, sliceAfter, workAfter, MeasureAccepts, MeasureRefuses}
+use Rattle.measure_intake.specs.Intake.{solid, measureTests, measureChecked, answerOf, sliceAfter, workAfter, MeasureAccepts, MeasureRefuses}
 use Rattle.measure_intake.specs.declared.Measured.{Measured}
 use Rattle.measure_intake.specs.declared.Measured.the-variants.{Quote, Refused as Unmeasured}
-use Rattle.measure_intake.proofs.OneMore.{more-accepted, more-refused}
+use Rattle.job.proofs.OneMore.{more-accepted, more-refused}
 use Rattle.measure_intake.proofs.Refused.{answer-refused, answer-accepted, checks-accepted, checks-refused}
 use Rattle.measure.specs.Answers.{listTests, listChecked, listAnswer, listingOver, listingAfter, ListCall, ListAccepts, ListRefuses}
 
@@ -47,6 +48,15 @@ module _ (F E G : ℕ) (coords : List ℕ) (entries room : ℕ) where
       from : ListRefuses F E G coords entries room r → Given
       from (inl f) = inl (checks-refused F E G coords entries r .1 f)
       from (inr (v, h, g)) = inr (checks-accepted F E G coords entries .1 v, h, g)
+
+  -- the listing of an accepted list fits the buffer
+  pub listing-fits : {t : Totals} → Quote t ≡ listAnswer F E G coords entries room → 7 * t .corners ≤ room
+  unfolding listAnswer totalsOf
+  listing-fits {t} e =
+      let k = answer-accepted (listChecked F E G coords entries room) F (solid E coords) .0 (t, sym e) in
+      let same : Quote t ≡ Quote (totalsOf F (solid E coords)) = e ∙ ap (λ c. answerOf c F (solid E coords)) k in
+      let u : t ≡ totalsOf F (solid E coords) = cc in
+      subst (λ (n : ℕ). 7 * n ≤ room) (sym (ap (λ (t : Totals). t .corners) u)) (list-checks-accepted .0 k .1)
 
 -- ---- a listing call
 module _ {F E G : ℕ} {coords work buffer work' buffer' : List ℕ} {m : Measured} (call : ListCall F E G coords work buffer m work' buffer') where

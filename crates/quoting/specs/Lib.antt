@@ -1,1 +1,2 @@
 pub mod Quoting
+pub mod Listing

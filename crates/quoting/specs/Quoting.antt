@@ -4,6 +4,7 @@ use mathlib.Core.List.{List}
 use Prim.Native.Nat.{ℕ}
 use lib.ListN.{length}
 use Rattle.buffer.specs.Wrote.{Wrote}
+use Rattle.job.specs.Job.{shotCount}
 use Rattle.job.specs.Refusals.{numberOf, detailOf}
 use Rattle.job.specs.declared.Refusal.{Refusal}
 use Rattle.shotfile.specs.Files.{File, file, refused, fileIn}
@@ -26,7 +27,7 @@ abbrev pub quotedText : File → ℕ → List ℕ
 quotedText (file f coords) entries = answerText (measureAnswer (f .first) (f .second) (f .third) coords entries)
 quotedText (refused r) entries = refusalText r
 
--- with so many coordinate places and work entries
+-- with places for so many shots, and so many work entries
 unfoldable pub quoteText : List ℕ → ℕ → ℕ → List ℕ
 quoteText bytes places entries = quotedText (fileIn places bytes) entries
 
@@ -43,6 +44,6 @@ pub record ListQuoted (F E G : ℕ) (coords work out : List ℕ) (r : ℕ) (work
 
 -- quoting a file: also its coordinates. A refused file leaves both slices as they were.
 pub record FileQuoted (bytes coords work out : List ℕ) (r : ℕ) (coords' work' out' : List ℕ) : Type 0 where
-  pub text : Wrote out out' 0 r (quoteText bytes (length coords) (length work))
-  pub coordinates : coords' ≡ readCoords (fileIn (length coords) bytes) coords
-  pub index : work' ≡ indexAfter (fileIn (length coords) bytes) work
+  pub text : Wrote out out' 0 r (quoteText bytes (shotCount coords) (length work))
+  pub coordinates : coords' ≡ readCoords (fileIn (shotCount coords) bytes) coords
+  pub index : work' ≡ indexAfter (fileIn (shotCount coords) bytes) work

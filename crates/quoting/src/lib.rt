@@ -1,10 +1,12 @@
-// From the bytes of a shot file to the bytes that the quoting program prints: specs/Quoting.antt says which.
-// The programs `quote` and `recount` only move these bytes in and out. Stands on `shotfile`, `measure`, `measure_shown` and `text_report`.
+// From the bytes of a shot file to the bytes that a program prints: its quote, by specs/Quoting.antt, or its corner listing, by specs/Listing.antt.
+// The programs `quote`, `recount` and `listing` only move these bytes in and out. Stands on `shotfile`, `measure`, `measure_shown` and
+// `text_report`.
 ghost use Prim.Native.Nat.{_≤_};
 ghost use lib.ListN.{length};
 ghost use Rattle.buffer.specs.Wrote.{Wrote};
 ghost use Rattle.measure_intake.specs.Intake.{MeasureCall};
 ghost use Rattle.quoting.specs.Quoting.{refusalText, ListQuoted, FileQuoted};
+ghost use Rattle.quoting.specs.Listing.{FileListed};
 use job::Refusal;
 use measure_intake::Measured;
 use shotfile::reader::ReadAnswer;
@@ -74,8 +76,8 @@ fn quote_file(
             grid,
             shots,
         } => {
-            let n = 3 * shots;
-            quote_list(again, field, edge, grid, &coords[..n], work, out)
+            let list = job::shot::first(coords, shots);
+            quote_list(again, field, edge, grid, list, work, out)
         }
         ReadAnswer::Refused(refusal) => refuse(out, refusal),
     }
@@ -98,4 +100,24 @@ pub fn recount(bytes: &[u8], coords: &mut [u16], work: &mut [u32], out: &mut [u8
         r (now (coords .exit)) (now (work .exit)) (now (out .exit)) ⌝ }
 {
     quote_file(true, bytes, coords, work, out)
+}
+
+// Reads a shot file, measures the list that it holds, and fills the front of the buffer with its corner listing, 7 bytes a corner.
+pub fn list_file(bytes: &[u8], coords: &mut [u16], work: &mut [u32], buffer: &mut [u8]) -> Measured
+    ensures { λ r. ⌜ FileListed (now (bytes .entry)) (now (coords .entry)) (now (work .entry)) (now (buffer .entry))
+        r (now (coords .exit)) (now (work .exit)) (now (buffer .exit)) ⌝ }
+{
+    let read = shotfile::reader::read(bytes, coords);
+    match read {
+        ReadAnswer::Read {
+            field,
+            edge,
+            grid,
+            shots,
+        } => {
+            let list = job::shot::first(coords, shots);
+            measure::list(field, edge, grid, list, work, buffer)
+        }
+        ReadAnswer::Refused(refusal) => Measured::Refused(refusal),
+    }
 }

@@ -1,4 +1,4 @@
-pub mod Fill
+pub mod Coords
 pub mod Steps
 pub mod Storing
 pub mod ShotsRead
@@ -7,5 +7,9 @@ pub mod Writing
 pub mod ReadBack
 pub mod WriteBack
 pub mod Shortest
-pub mod RoundTrip
 pub mod Tight
+pub mod Fewest
+pub mod Accepted
+pub mod Faults
+pub mod Conditions
+pub mod RoundTrip

@@ -2,30 +2,37 @@
 use mathlib.Core.Path.{_≡_, refl, sym, ap, _∙_}
 use mathlib.Core.Bool.{Bool, true, false}
 use mathlib.Core.List.{List, [], _∷_, _++_, append-assoc}
-use Prim.Native.Nat.{ℕ, zero, suc, _+_, _-_, _*_, _/_, _%_, _≤_, _<_}
+use Prim.Native.Nat.{ℕ, zero, suc, _+_, _*_, _/_, _%_, _≤_, _<_}
 use native.Mathlib.Omega.{arith}
 use lib.Dec.{eqb}
 use lib.ListN.{length, getD, length-append}
 use lib.Seq.{getD-append-seam, getD-append-add}
 use borrow.Author.Tests.{eqb-true, eqb-false}
+use Rattle.lattice.specs.Shots.{Shot}
+use Rattle.job.specs.Job.{shotsOf, shotCount, placeOf}
+use Rattle.job.proofs.Shots.{shots-count}
 use Rattle.shotfile_records.specs.declared.Fields.{Fields}
 use Rattle.shotfile_records.specs.declared.Taken.the-variants.{Whole}
-use Rattle.shotfile.specs.declared.reader.Step.the-variants.{Shot}
+use Rattle.shotfile.specs.declared.reader.Step.the-variants.{Shot as Stepped}
 use Rattle.shotfile_records.specs.Records.{headerAbsent, firstAbsent, fieldAt, recordAt, bitOf, fieldOf, mapOf, recordOf}
-use Rattle.shotfile.specs.Files.{stepAt, shots, withShot, onStep, shotsFrom, file, withSettings, firstShot, onHeader, fileIn, shotRecords, fileOf}
+use Rattle.shotfile.specs.Files.{settingFields, shotFields, shotNumbers, stepAt, shots, withShot, onStep, shotsFrom, file, withSettings, firstShot, onHeader, fileIn, shotRecords, fileOf}
 use Rattle.shotfile_records.proofs.Taking.{field-absent, field-there, taken-whole}
+use Rattle.shotfile.proofs.Coords.{shots-more, allNumbers, all-numbers}
 use Rattle.shotfile.proofs.Steps.{step-on, shots-end, shots-on}
 use Rattle.shotfile_records.proofs.Putting.{bit-absent, bit-there, bit-small, field-some, field-size, record-size}
 
 -- the numbers are of 16 bits
-abbrev pub Small : List ℕ → Type 0
-Small [] = Unit {0}
-Small (v ∷ vs) = (v < 65536) × Small vs
-
 pub record SmallFields (f : Fields) : Type 0 where
   pub first-small : f .first < 65536
   pub second-small : f .second < 65536
   pub third-small : f .third < 65536
+
+abbrev pub SmallShots : List Shot → Type 0
+SmallShots [] = Unit {0}
+SmallShots (t ∷ ts) = SmallFields (shotFields t) × SmallShots ts
+
+pub small-more : (e : ℕ) (f : Fields) (coords : List ℕ) → SmallShots (shotsOf e (shotNumbers f ++ coords)) → SmallFields f × SmallShots (shotsOf e coords)
+small-more e f coords h = rw (shots-more e f coords) at h
 
 -- a field
 field-read : (pre post : List ℕ) (absent v : ℕ) → v < 65536 → v ≡ fieldAt (pre ++ (fieldOf absent v ++ post)) (length pre) (bitOf absent v) absent
@@ -161,51 +168,51 @@ module _ (s : List ℕ) where
 
   -- a shot's record is one step
   pub one-step : (pre rest : List ℕ) (p f : Fields) → s ≡ pre ++ (recordOf p f ++ rest) → SmallFields f
-      → stepAt s (record { at = length pre; previous = p }) ≡ Shot (record { at = length (pre ++ recordOf p f); previous = f })
-  one-step pre rest p f e small = sym (step-on s (record { at = length pre; previous = p }) (at-shot pre rest p f e) (Whole f (length (pre ++ recordOf p f))) (sym taken))
+      → stepAt s (record { at = length pre; last = p }) ≡ Stepped (record { at = length (pre ++ recordOf p f); last = f })
+  one-step pre rest p f e small = sym (step-on s (record { at = length pre; last = p }) (at-shot pre rest p f e) (Whole f (length (pre ++ recordOf p f))) (sym taken))
     where
       taken : recordAt s (length pre) p ≡ Whole f (length (pre ++ recordOf p f))
       taken = ap (λ (l : List ℕ). recordAt l (length pre) p) e ∙ (placed-read (placed pre rest p f small) ∙ ap (Whole f) (sym (length-append pre (recordOf p f))))
 
-  one-shot : (left places : ℕ) (pre rest : List ℕ) (p f : Fields) → s ≡ pre ++ (recordOf p f ++ rest) → SmallFields f → 3 ≤ places
-      → shotsFrom (suc left) places s (record { at = length pre; previous = p }) ≡ withShot f (shotsFrom left (places - 3) s (record { at = length (pre ++ recordOf p f); previous = f }))
-  one-shot left places pre rest p f e small h =
-      shots-on s (record { at = length pre; previous = p }) (at-shot pre rest p f e) left places h
-      ∙ ap (λ t. onStep t (shotsFrom left (places - 3) s)) (one-step pre rest p f e small)
+  one-shot : (left places : ℕ) (pre rest : List ℕ) (p f : Fields) → s ≡ pre ++ (recordOf p f ++ rest) → SmallFields f
+      → shotsFrom (suc left) (suc places) s (record { at = length pre; last = p }) ≡ withShot f (shotsFrom left places s (record { at = length (pre ++ recordOf p f); last = f }))
+  one-shot left places pre rest p f e small =
+      shots-on s (record { at = length pre; last = p }) left places
+      ∙ ap (λ t. onStep t (shotsFrom left places s)) (one-step pre rest p f e small)
 
-  pub shots-read : (left places : ℕ) (pre : List ℕ) (p : Fields) (coords : List ℕ)
-      → s ≡ pre ++ shotRecords p coords
-      → length coords % 3 ≡ 0
-      → length coords / 3 ≤ left
-      → length coords ≤ places
-      → Small coords
-      → shotsFrom left places s (record { at = length pre; previous = p }) ≡ shots coords
+  pub shots-read : (left places : ℕ) (pre : List ℕ) (p : Fields) (ts : List Shot)
+      → s ≡ pre ++ shotRecords p ts
+      → length ts ≤ left
+      → length ts ≤ places
+      → SmallShots ts
+      → shotsFrom left places s (record { at = length pre; last = p }) ≡ shots (allNumbers ts)
   unfolding shotRecords
-  shots-read left places pre p [] e t l r small = shots-end s (record { at = length pre; previous = p }) left places (omega (arith, ap length e, length-append pre []))
-  shots-read left places pre p (x ∷ []) e t l r small = absurd (omega arith)
-  shots-read left places pre p (x ∷ y ∷ []) e t l r small = absurd (omega arith)
-  shots-read zero places pre p (x ∷ y ∷ z ∷ rest) e t l r small = absurd (omega arith)
-  shots-read (suc left) places pre p (x ∷ y ∷ z ∷ rest) e t l r small =
-      let f : Fields = record { first = x; second = y; third = z } in
-      one-shot left places pre (shotRecords f rest) p f e (record { first-small = small .0; second-small = small .1 .0; third-small = small .1 .1 .0 }) (omega arith)
+  shots-read left places pre p [] e l r small = shots-end s (record { at = length pre; last = p }) left places (omega (arith, ap length e, length-append pre []))
+  shots-read zero places pre p (t ∷ ts) e l r small = absurd (omega arith)
+  shots-read (suc left) zero pre p (t ∷ ts) e l r small = absurd (omega arith)
+  shots-read (suc left) (suc places) pre p (t ∷ ts) e l r small =
+      let f : Fields = shotFields t in
+      one-shot left places pre (shotRecords f ts) p f e (small .0)
       ∙ ap (withShot f)
-      (shots-read left (places - 3) (pre ++ recordOf p f) f rest (e ∙ sym (append-assoc pre (recordOf p f) (shotRecords f rest))) (omega arith) (omega arith) (omega arith) (small .1 .1 .1))
+      (shots-read left places (pre ++ recordOf p f) f ts (e ∙ sym (append-assoc pre (recordOf p f) (shotRecords f ts))) (omega arith) (omega arith) (small .1))
 
 -- the whole file
-pub file-read : (F E G : ℕ) (coords : List ℕ) (places : ℕ) → SmallFields (record { first = F; second = E; third = G }) → Small coords
-    → length coords % 3 ≡ 0 → length coords / 3 ≤ 4096 → length coords ≤ places
-    → fileIn places (fileOf F E G coords) ≡ file (record { first = F; second = E; third = G }) coords
+pub file-read : (F E G : ℕ) (coords : List ℕ) (places : ℕ) → SmallFields (settingFields F E G) → SmallShots (shotsOf E coords)
+    → length coords ≡ placeOf (shotCount coords) → shotCount coords ≤ 4096 → shotCount coords ≤ places
+    → fileIn places (fileOf F E G coords) ≡ file (settingFields F E G) coords
 unfolding fileIn fileOf
-file-read F E G coords places settings small t l r = ap (λ t. onHeader t (λ end. shotsFrom 4096 places s (firstShot end))) header ∙ ap (withSettings f) rest
+file-read F E G coords places header-small small t l r = ap (λ t. onHeader t (λ end. shotsFrom 4096 places s (firstShot end))) header ∙ ap (withSettings f) rest
   where
     f : Fields
-    f = record { first = F; second = E; third = G }
+    f = settingFields F E G
 
     s : List ℕ
     s = fileOf F E G coords
 
     header : recordAt s 0 headerAbsent ≡ Whole f (length (recordOf headerAbsent f))
-    header = placed-read (placed [] (shotRecords firstAbsent coords) headerAbsent f settings) ∙ ap (Whole f) (omega arith)
+    header = placed-read (placed [] (shotRecords firstAbsent (shotsOf E coords)) headerAbsent f header-small) ∙ ap (Whole f) (omega arith)
 
-    rest : shotsFrom 4096 places s (record { at = length (recordOf headerAbsent f); previous = firstAbsent }) ≡ shots coords
-    rest = shots-read s 4096 places (recordOf headerAbsent f) firstAbsent coords refl t l r small
+    rest : shotsFrom 4096 places s (firstShot (length (recordOf headerAbsent f))) ≡ shots coords
+    rest =
+        shots-read s 4096 places (recordOf headerAbsent f) firstAbsent (shotsOf E coords) refl (omega (arith, shots-count E coords)) (omega (arith, shots-count E coords)) small
+        ∙ ap shots (all-numbers E coords t)

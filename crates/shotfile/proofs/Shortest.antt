@@ -1,87 +1,107 @@
 -- The shortest form is shortest, and a file in its shortest form is what its list is written as. Assumes nothing.
 use mathlib.Core.Path.{_≡_, refl, sym, ap, subst, _∙_}
 use mathlib.Core.Bool.{true}
-use mathlib.Core.List.{List, _++_}
-use Prim.Native.Nat.{ℕ, zero, suc, _+_, _-_, _/_, _≤_}
+use mathlib.Core.List.{List, [], _++_}
+use Prim.Native.Nat.{ℕ, zero, suc, _+_, _-_, _≤_}
 use native.Mathlib.Omega.{arith}
 use lib.Dec.{T}
 use lib.ListN.{length, drop, length-append, drop-of-length-le}
 use Rattle.lattice.proofs.Cases.{and-left, and-right}
 use Rattle.job.specs.declared.Refusal.{Refusal}
+use Rattle.job.specs.Job.{shotsOf, shotCount}
 use Rattle.shotfile_records.specs.declared.Fields.{Fields}
 use Rattle.shotfile_records.specs.declared.Taken.{Taken}
 use Rattle.shotfile_records.specs.declared.Taken.the-variants.{Whole, Refused}
 use Rattle.shotfile.specs.declared.reader.Cursor.{Cursor}
 use Rattle.shotfile.specs.declared.reader.Step.{Step}
 use Rattle.shotfile.specs.declared.reader.Step.the-variants.{Shot}
-use Rattle.shotfile_records.specs.Records.{headerAbsent, recordAt, recordOf, tight}
-use Rattle.shotfile.specs.Files.{stepAt, Rest, shots, faulty, shotsFrom, file, refused, withSettings, firstShot, onHeader, fileIn, onShot, shotRecords, fileOf, tightFrom, tightRest, shortest}
+use Rattle.shotfile_records.specs.Records.{headerAbsent, firstAbsent, recordAt, recordOf, tight}
+use Rattle.shotfile.specs.Files.{shotNumbers, stepAt, Rest, shots, faulty, shotsFrom, file, refused, withSettings, firstShot, onHeader, fileIn, onShot, shotRecords, fileOf, tightFrom, tightRest, shortest}
+use Rattle.shotfile.proofs.Coords.{shots-none, shots-more, count-none, count-more}
 use Rattle.shotfile.proofs.Steps.{step-on}
 use Rattle.shotfile.proofs.ShotsRead.{Reads, done, shot, reads}
 use Rattle.shotfile.proofs.WriteBack.{Bytes, parts, record-least, record-same}
 
 -- ---- a file that was read, taken apart
-pub record FileParts (s : List ℕ) (places : ℕ) (f : Fields) (cs : List ℕ) : Type 0 where
+pub record FileParts (s : List ℕ) (places : ℕ) (f : Fields) (coords : List ℕ) : Type 0 where
   pub end : ℕ
   pub header : recordAt s 0 headerAbsent ≡ Whole f end
-  pub rest : Reads s places (firstShot end) cs
+  pub rest : Reads s 4096 places (firstShot end) coords
 
-pub file-parts : (s : List ℕ) (places : ℕ) {f : Fields} {cs : List ℕ} → fileIn places s ≡ file f cs → FileParts s places f cs
+pub file-parts : (s : List ℕ) (places : ℕ) {f : Fields} {coords : List ℕ} → fileIn places s ≡ file f coords → FileParts s places f coords
 unfolding fileIn
-file-parts s places {f} {cs} e = header (recordAt s 0 headerAbsent) refl e
+file-parts s places {f} {coords} e = header (recordAt s 0 headerAbsent) refl e
   where
-    apart : {P : Type 0} {r : Refusal} → refused r ≡ file f cs → P
+    apart : {P : Type 0} {r : Refusal} → refused r ≡ file f coords → P
     apart e = let z : _≡_ {A = ℕ} 0 1 = cc in absurd (omega arith)
 
-    rest : (g : Fields) (end : ℕ) → recordAt s 0 headerAbsent ≡ Whole g end → (k : Rest) → shotsFrom 4096 places s (firstShot end) ≡ k → withSettings g k ≡ file f cs → FileParts s places f cs
+    rest : (g : Fields) (end : ℕ) → recordAt s 0 headerAbsent ≡ Whole g end → (k : Rest) → shotsFrom 4096 places s (firstShot end) ≡ k → withSettings g k ≡ file f coords → FileParts s places f coords
     rest g end h (faulty r) q e = apart e
-    rest g end h (shots cs') q e =
+    rest g end h (shots found) q e =
         let same : g ≡ f = cc in
-        let all : cs' ≡ cs = cc in
+        let all : found ≡ coords = cc in
         record { end = end; header = h ∙ ap (λ (x : Fields). Whole x end) same; rest = reads s 4096 places (firstShot end) (q ∙ ap shots all) }
 
-    header : (t : Taken) → recordAt s 0 headerAbsent ≡ t → onHeader t (λ end. shotsFrom 4096 places s (firstShot end)) ≡ file f cs → FileParts s places f cs
+    header : (t : Taken) → recordAt s 0 headerAbsent ≡ t → onHeader t (λ end. shotsFrom 4096 places s (firstShot end)) ≡ file f coords → FileParts s places f coords
     header (Refused r) h e = apart e
     header (Whole g end) h e = rest g end h (shotsFrom 4096 places s (firstShot end)) refl e
 
 -- ---- no file of the same list is shorter
-shots-least : {s : List ℕ} {places : ℕ} {c : Cursor} {cs : List ℕ} → Reads s places c cs → c .at ≤ length s → c .at + length (shotRecords (c .previous) cs) ≤ length s
-unfolding shotRecords
-shots-least (done h) l = omega arith
-shots-least {s} {places} {c} (shot {f = f} {end = end} {cs = cs} i h t r) l =
-    let p = parts s (c .at) (c .previous) t in
-    omega (arith, shots-least r (p .room), record-least s (c .at) (c .previous) f end p, length-append (recordOf (c .previous) f) (shotRecords f cs))
+module _ (e : ℕ) where
+  -- the records of the shots that were read, one after the other
+  records-none : (p : Fields) → shotRecords p (shotsOf e []) ≡ []
+  unfolding shotRecords
+  records-none p = ap (shotRecords p) (shots-none e)
 
-pub file-least : (s : List ℕ) (places : ℕ) {f : Fields} {cs : List ℕ} → fileIn places s ≡ file f cs → length (fileOf (f .first) (f .second) (f .third) cs) ≤ length s
+  records-more : (p f : Fields) (coords : List ℕ) → shotRecords p (shotsOf e (shotNumbers f ++ coords)) ≡ recordOf p f ++ shotRecords f (shotsOf e coords)
+  unfolding shotRecords
+  records-more p f coords = ap (shotRecords p) (shots-more e f coords)
+
+  pub more-length : (p f : Fields) (coords : List ℕ) → length (shotRecords p (shotsOf e (shotNumbers f ++ coords))) ≡ length (recordOf p f) + length (shotRecords f (shotsOf e coords))
+  more-length p f coords = ap length (records-more p f coords) ∙ length-append (recordOf p f) (shotRecords f (shotsOf e coords))
+
+  pub shots-least : {s : List ℕ} {left places : ℕ} {c : Cursor} {coords : List ℕ} → Reads s left places c coords → c .at ≤ length s
+      → c .at + length (shotRecords (c .last) (shotsOf e coords)) ≤ length s
+  shots-least {s} {left} {places} {c} (done h) l = omega (arith, ap length (records-none (c .last)))
+  shots-least {s} {left} {places} {c} (shot {f = f} {end = end} {coords = coords} i t r) l =
+      let p = parts s (c .at) (c .last) t in
+      omega (arith, shots-least r (p .room), record-least s (c .at) (c .last) f end p, more-length (c .last) f coords)
+
+-- a file is its header and its shots
+pub file-size : (f : Fields) (coords : List ℕ) → length (fileOf (f .first) (f .second) (f .third) coords) ≡ length (recordOf headerAbsent f) + length (shotRecords firstAbsent (shotsOf (f .second) coords))
 unfolding fileOf
-file-least s places {f} {cs} e =
+file-size f coords = length-append (recordOf headerAbsent f) (shotRecords firstAbsent (shotsOf (f .second) coords))
+
+pub file-least : (s : List ℕ) (places : ℕ) {f : Fields} {coords : List ℕ} → fileIn places s ≡ file f coords → length (fileOf (f .first) (f .second) (f .third) coords) ≤ length s
+file-least s places {f} {coords} e =
     let q = file-parts s places e in
     let p = parts s 0 headerAbsent (q .header) in
-    omega (arith, shots-least (q .rest) (p .room), record-least s 0 headerAbsent f (q .end) p, length-append (recordOf headerAbsent f) (shotRecords (firstShot (q .end) .previous) cs))
+    omega (arith, shots-least (f .second) (q .rest) (p .room), record-least s 0 headerAbsent f (q .end) p, file-size f coords)
 
 -- ---- a file in its shortest form
 -- a record is a byte or more
-reads-count : {s : List ℕ} {places : ℕ} {c : Cursor} {cs : List ℕ} → Reads s places c cs → length cs / 3 ≤ length s - c .at
-reads-count (done h) = omega arith
-reads-count {s} {places} {c} (shot {f = f} {end = end} {cs = cs} i h t r) =
-    let p = parts s (c .at) (c .previous) t in
-    omega (arith, reads-count r, p .end-is, p .room)
+reads-count : {s : List ℕ} {left places : ℕ} {c : Cursor} {coords : List ℕ} → Reads s left places c coords → shotCount coords ≤ length s - c .at
+reads-count (done h) = omega (arith, count-none)
+reads-count {s} {left} {places} {c} (shot {f = f} {end = end} {coords = coords} i t r) =
+    let p = parts s (c .at) (c .last) t in
+    omega (arith, reads-count r, p .end-is, p .room, count-more f coords)
 
-shots-same : {s : List ℕ} {places : ℕ} {c : Cursor} {cs : List ℕ} → Reads s places c cs → Bytes s → (n : ℕ) → length cs / 3 ≤ n → T (tightFrom n s c) → drop (c .at) s ≡ shotRecords (c .previous) cs
-unfolding shotRecords tightFrom
-shots-same {s} (done h) b n l t = drop-of-length-le s h
-shots-same {s} {places} {c} (shot {f = f} {end = end} {cs = cs} i h e r) b zero l t = absurd (omega arith)
-shots-same {s} {places} {c} (shot {f = f} {end = end} {cs = cs} i h e r) b (suc n) l t =
-    let step : stepAt s c ≡ Shot (record { at = end; previous = f }) = sym (step-on s c i (Whole f end) (sym e)) in
-    let later : T (tightFrom n s (record { at = end; previous = f })) = subst (λ (k : Step). T (onShot k true (tightFrom n s))) step (and-right (tight s (c .at) (c .previous)) (onShot (stepAt s c) true (tightFrom n s)) t) in
-    record-same s (c .at) (c .previous) f end (parts s (c .at) (c .previous) e) b (and-left (tight s (c .at) (c .previous)) (onShot (stepAt s c) true (tightFrom n s)) t)
-    ∙ ap (λ (k : List ℕ). recordOf (c .previous) f ++ k) (shots-same r b n (omega arith) later)
+shots-same : (e : ℕ) {s : List ℕ} {left places : ℕ} {c : Cursor} {coords : List ℕ} → Reads s left places c coords → Bytes s → (n : ℕ) → shotCount coords ≤ n → T (tightFrom n s c)
+    → drop (c .at) s ≡ shotRecords (c .last) (shotsOf e coords)
+unfolding tightFrom
+shots-same e {s} {left} {places} {c} (done h) b n l t = drop-of-length-le s h ∙ sym (records-none e (c .last))
+shots-same e {s} {left} {places} {c} (shot {f = f} {end = end} {coords = coords} i q r) b zero l t = absurd (omega (arith, count-more f coords))
+shots-same e {s} {left} {places} {c} (shot {f = f} {end = end} {coords = coords} i q r) b (suc n) l t =
+    let step : stepAt s c ≡ Shot (record { at = end; last = f }) = sym (step-on s c i (Whole f end) (sym q)) in
+    let later : T (tightFrom n s (record { at = end; last = f })) = subst (λ (k : Step). T (onShot k true (tightFrom n s))) step (and-right (tight s (c .at) (c .last)) (onShot (stepAt s c) true (tightFrom n s)) t) in
+    record-same s (c .at) (c .last) f end (parts s (c .at) (c .last) q) b (and-left (tight s (c .at) (c .last)) (onShot (stepAt s c) true (tightFrom n s)) t)
+    ∙ (ap (λ (k : List ℕ). recordOf (c .last) f ++ k) (shots-same e r b n (omega (arith, count-more f coords)) later) ∙ sym (records-more e (c .last) f coords))
 
-pub file-same : (s : List ℕ) (places : ℕ) {f : Fields} {cs : List ℕ} → fileIn places s ≡ file f cs → Bytes s → T (shortest s) → fileOf (f .first) (f .second) (f .third) cs ≡ s
+pub file-same : (s : List ℕ) (places : ℕ) {f : Fields} {coords : List ℕ} → fileIn places s ≡ file f coords → Bytes s → T (shortest s) → fileOf (f .first) (f .second) (f .third) coords ≡ s
 unfolding fileOf shortest
-file-same s places {f} {cs} e b t =
+file-same s places {f} {coords} e b t =
     let q = file-parts s places e in
     let later : T (tightFrom (length s) s (firstShot (q .end))) = subst (λ (k : Taken). T (tightRest s k)) (q .header) (and-right (tight s 0 headerAbsent) (tightRest s (recordAt s 0 headerAbsent)) t) in
     sym
     (record-same s 0 headerAbsent f (q .end) (parts s 0 headerAbsent (q .header)) b (and-left (tight s 0 headerAbsent) (tightRest s (recordAt s 0 headerAbsent)) t)
-    ∙ ap (λ (k : List ℕ). recordOf headerAbsent f ++ k) (shots-same (q .rest) b (length s) (omega (arith, reads-count (q .rest))) later))
+    ∙ ap (λ (k : List ℕ). recordOf headerAbsent f ++ k) (shots-same (f .second) (q .rest) b (length s) (omega (arith, reads-count (q .rest))) later))

@@ -1,75 +1,87 @@
 -- The shots that a file has from a cursor on, one record after the other. Assumes nothing.
 use mathlib.Core.Path.{_≡_, refl, sym, subst}
 use mathlib.Core.Bool.{Bool, true, false, cond}
-use mathlib.Core.List.{List, [], _∷_}
-use Prim.Native.Nat.{ℕ, zero, suc, _-_, _/_, _%_, _≤_, _<_}
+use mathlib.Core.List.{List, [], _++_}
+use Prim.Native.Nat.{ℕ, zero, suc, _≤_, _<_}
 use native.Mathlib.Omega.{arith}
 use lib.Dec.{ltb}
 use lib.ListN.{length}
 use borrow.Author.Tests.{ltb-true, ltb-false}
 use Rattle.job.specs.declared.Refusal.{Refusal}
-use Rattle.job.specs.declared.Refusal.the-variants.{TooManyShots, NoPlace}
+use Rattle.job.specs.Job.{shotCount, placeOf}
 use Rattle.shotfile_records.specs.declared.Fields.{Fields}
 use Rattle.shotfile_records.specs.declared.Taken.{Taken}
 use Rattle.shotfile_records.specs.declared.Taken.the-variants.{Whole, Refused}
 use Rattle.shotfile.specs.declared.reader.Cursor.{Cursor}
 use Rattle.shotfile.specs.declared.reader.Step.the-variants.{Shot, End}
 use Rattle.shotfile_records.specs.Records.{recordAt}
-use Rattle.shotfile.specs.Files.{stepOf, stepAt, Rest, shots, faulty, withShot, onStep, shotsFrom, nextShots}
+use Rattle.shotfile.specs.Files.{shotNumbers, stepOf, stepAt, Rest, shots, faulty, withShot, onStep, shotsFrom, nextShots}
+use Rattle.shotfile.proofs.Coords.{count-none, count-more, places-more}
 use Rattle.shotfile.proofs.Steps.{step-on}
 
--- the records from a cursor on are whole and say the coordinates, for which there are places enough
-pub data Reads (s : List ℕ) : ℕ → Cursor → List ℕ → Type 0 where
-  done : {places : ℕ} {c : Cursor} → length s ≤ c .at → Reads s places c []
-  shot : {places : ℕ} {c : Cursor} {f : Fields} {end : ℕ} {cs : List ℕ} → c .at < length s → 3 ≤ places → recordAt s (c .at) (c .previous) ≡ Whole f end → Reads s (places - 3) (record { at = end; previous = f }) cs → Reads s places c (f .first ∷ f .second ∷ f .third ∷ cs)
+-- the records from a cursor on are whole and say the coordinates; their shots are no more than are allowed and than there are places for
+pub data Reads (s : List ℕ) : ℕ → ℕ → Cursor → List ℕ → Type 0 where
+  done : {left places : ℕ} {c : Cursor} → length s ≤ c .at → Reads s left places c []
+  shot : {left places : ℕ} {c : Cursor} {f : Fields} {end : ℕ} {coords : List ℕ}
+      → c .at < length s
+      → recordAt s (c .at) (c .last) ≡ Whole f end
+      → Reads s left places (record { at = end; last = f }) coords
+      → Reads s (suc left) (suc places) c (shotNumbers f ++ coords)
 
-apart : {P : Type 0} {r : Refusal} {cs : List ℕ} → faulty r ≡ shots cs → P
+apart : {P : Type 0} {r : Refusal} {coords : List ℕ} → faulty r ≡ shots coords → P
 apart e = let z : _≡_ {A = ℕ} 0 1 = cc in absurd (omega arith)
 
 module _ (s : List ℕ) where
-  no-shots : (places : ℕ) (c : Cursor) {cs : List ℕ} → length s ≤ c .at → shots [] ≡ shots cs → Reads s places c cs
-  no-shots places c {cs} h e = subst (Reads s places c) (let z : [] ≡ cs = cc in z) (done h)
+  no-shots : (left places : ℕ) (c : Cursor) {coords : List ℕ} → length s ≤ c .at → shots [] ≡ shots coords → Reads s left places c coords
+  no-shots left places c {coords} h e = subst (Reads s left places c) (let z : [] ≡ coords = cc in z) (done h)
 
-  then : (places : ℕ) (c : Cursor) (f : Fields) (end : ℕ) (r : Rest) {cs : List ℕ}
-      → c .at < length s
-      → 3 ≤ places
-      → recordAt s (c .at) (c .previous) ≡ Whole f end
-      → ((cs' : List ℕ) → r ≡ shots cs' → Reads s (places - 3) (record { at = end; previous = f }) cs')
-      → withShot f r ≡ shots cs
-      → Reads s places c cs
-  then places c f end (faulty r) l h t k e = apart e
-  then places c f end (shots cs') {cs} l h t k e = subst (Reads s places c) (let z : (f .first ∷ f .second ∷ f .third ∷ cs') ≡ cs = cc in z) (shot l h t (k cs' refl))
-
-  pub reads : (left places : ℕ) (c : Cursor) {cs : List ℕ} → shotsFrom left places s c ≡ shots cs → Reads s places c cs
-  unfolding shotsFrom stepAt
-  reads zero places c {cs} e = go (ltb (c .at) (length s)) refl e
+  -- at the end, or a refusal for one shot more
+  last-shots : (left places : ℕ) (c : Cursor) (r : Refusal) {coords : List ℕ} → cond (ltb (c .at) (length s)) (faulty r) (shots []) ≡ shots coords → Reads s left places c coords
+  last-shots left places c r {coords} e = go (ltb (c .at) (length s)) refl e
     where
-      go : (b : Bool) → ltb (c .at) (length s) ≡ b → cond b (faulty (TooManyShots (c .at))) (shots []) ≡ shots cs → Reads s places c cs
+      go : (b : Bool) → ltb (c .at) (length s) ≡ b → cond b (faulty r) (shots []) ≡ shots coords → Reads s left places c coords
       go true l e = apart e
-      go false l e = no-shots places c (ltb-false (c .at) (length s) l) e
-  reads (suc left) places c {cs} e = go (ltb (c .at) (length s)) refl (ltb places 3) refl (recordAt s (c .at) (c .previous)) refl (λ c' cs' e'. reads left (places - 3) c' e') e
+      go false l e = no-shots left places c (ltb-false (c .at) (length s) l) e
+
+  then : (left places : ℕ) (c : Cursor) (f : Fields) (end : ℕ) (r : Rest) {coords : List ℕ}
+      → c .at < length s
+      → recordAt s (c .at) (c .last) ≡ Whole f end
+      → ((later : List ℕ) → r ≡ shots later → Reads s left places (record { at = end; last = f }) later)
+      → withShot f r ≡ shots coords
+      → Reads s (suc left) (suc places) c coords
+  then left places c f end (faulty r) l t k e = apart e
+  then left places c f end (shots later) {coords} l t k e = subst (Reads s (suc left) (suc places) c) (let z : shotNumbers f ++ later ≡ coords = cc in z) (shot l t (k later refl))
+
+  pub reads : (left places : ℕ) (c : Cursor) {coords : List ℕ} → shotsFrom left places s c ≡ shots coords → Reads s left places c coords
+  unfolding shotsFrom stepAt
+  reads zero places c e = last-shots 0 places c _ e
+  reads (suc left) zero c e = last-shots (suc left) 0 c _ e
+  reads (suc left) (suc places) c {coords} e = go (ltb (c .at) (length s)) refl (recordAt s (c .at) (c .last)) refl (λ c' later e'. reads left places c' e') e
     where
-      go : (b : Bool) → ltb (c .at) (length s) ≡ b → (p : Bool) → ltb places 3 ≡ p → (t : Taken) → recordAt s (c .at) (c .previous) ≡ t
-          → ((c' : Cursor) (cs' : List ℕ) → shotsFrom left (places - 3) s c' ≡ shots cs' → Reads s (places - 3) c' cs')
-          → cond b (cond p (faulty (NoPlace (c .at))) (onStep (cond b (stepOf t) End) (shotsFrom left (places - 3) s))) (shots []) ≡ shots cs → Reads s places c cs
-      go false l p h t q k e = no-shots places c (ltb-false (c .at) (length s) l) e
-      go true l true h t q k e = apart e
-      go true l false h (Whole f end) q k e = then places c f end (shotsFrom left (places - 3) s (record { at = end; previous = f })) (ltb-true (c .at) (length s) l) (ltb-false places 3 h) q (k (record { at = end; previous = f })) e
-      go true l false h (Refused r) q k e = apart e
+      go : (b : Bool) → ltb (c .at) (length s) ≡ b → (t : Taken) → recordAt s (c .at) (c .last) ≡ t
+          → ((c' : Cursor) (later : List ℕ) → shotsFrom left places s c' ≡ shots later → Reads s left places c' later)
+          → onStep (cond b (stepOf t) End) (shotsFrom left places s) ≡ shots coords → Reads s (suc left) (suc places) c coords
+      go false l t q k e = no-shots (suc left) (suc places) c (ltb-false (c .at) (length s) l) e
+      go true l (Whole f end) q k e = then left places c f end (shotsFrom left places s (record { at = end; last = f })) (ltb-true (c .at) (length s) l) q (k (record { at = end; last = f })) e
+      go true l (Refused r) q k e = apart e
 
 -- ---- what follows for the coordinates
-pub reads-threes : {s : List ℕ} {places : ℕ} {c : Cursor} {cs : List ℕ} → Reads s places c cs → length cs % 3 ≡ 0
-reads-threes (done h) = refl
-reads-threes (shot l h t r) = omega (arith, reads-threes r)
+-- they are whole shots
+pub reads-whole : {s : List ℕ} {left places : ℕ} {c : Cursor} {coords : List ℕ} → Reads s left places c coords → length coords ≡ placeOf (shotCount coords)
+reads-whole (done h) = refl
+reads-whole (shot {f = f} {coords = coords} l t r) = places-more f coords (reads-whole r)
 
-pub reads-room : {s : List ℕ} {places : ℕ} {c : Cursor} {cs : List ℕ} → Reads s places c cs → length cs ≤ places
-reads-room (done h) = omega arith
-reads-room (shot l h t r) = omega (arith, reads-room r)
+pub reads-room : {s : List ℕ} {left places : ℕ} {c : Cursor} {coords : List ℕ} → Reads s left places c coords → shotCount coords ≤ places
+reads-room (done h) = omega (arith, count-none)
+reads-room (shot {f = f} {coords = coords} l t r) = omega (arith, reads-room r, count-more f coords)
 
-pub reads-next : {s : List ℕ} {places : ℕ} {c : Cursor} {cs : List ℕ} → Reads s places c cs → nextShots (length cs / 3) s c ≡ cs
+pub reads-few : {s : List ℕ} {left places : ℕ} {c : Cursor} {coords : List ℕ} → Reads s left places c coords → shotCount coords ≤ left
+reads-few (done h) = omega (arith, count-none)
+reads-few (shot {f = f} {coords = coords} l t r) = omega (arith, reads-few r, count-more f coords)
+
+pub reads-next : {s : List ℕ} {left places : ℕ} {c : Cursor} {coords : List ℕ} → Reads s left places c coords → nextShots (shotCount coords) s c ≡ coords
 unfolding nextShots
 reads-next (done h) = refl
-reads-next {s} {places} {c} (shot {f = f} {end = end} {cs = cs} l h t r) =
-    let m : suc (suc (suc (length cs))) / 3 ≡ suc (length cs / 3) = omega arith in
-    let e : stepAt s c ≡ Shot (record { at = end; previous = f }) = sym (step-on s c l (Whole f end) (sym t)) in
-    rw (m, e, reads-next r)
+reads-next {s} {left} {places} {c} (shot {f = f} {end = end} {coords = coords} l t r) =
+    let e : stepAt s c ≡ Shot (record { at = end; last = f }) = sym (step-on s c l (Whole f end) (sym t)) in
+    rw (count-more f coords, e, reads-next r)

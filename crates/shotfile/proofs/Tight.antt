@@ -2,17 +2,19 @@
 use mathlib.Core.Path.{_≡_, refl, sym, ap, _∙_}
 use mathlib.Core.Bool.{Bool, true, false, cond, not, _&&_}
 use mathlib.Core.List.{List, [], _∷_, _++_, append-assoc}
-use Prim.Native.Nat.{ℕ, zero, suc, _+_, _*_, _%_, _≤_}
+use Prim.Native.Nat.{ℕ, zero, suc, _+_, _*_, _≤_}
 use native.Mathlib.Omega.{arith}
 use lib.Dec.{eqb}
 use lib.ListN.{length, length-append, List·getD-eq-default}
+use Rattle.lattice.specs.Shots.{Shot}
+use Rattle.job.specs.Job.{shotsOf}
 use Rattle.shotfile_records.specs.declared.Fields.{Fields}
 use Rattle.shotfile_records.specs.declared.Taken.the-variants.{Whole}
 use Rattle.shotfile.specs.declared.reader.Step.{Step}
 use Rattle.shotfile_records.specs.Records.{headerAbsent, firstAbsent, wordAt, fieldAt, recordAt, bitOf, recordOf, needless, tight}
-use Rattle.shotfile.specs.Files.{stepAt, onShot, shotRecords, fileOf, tightFrom, tightRest, shortest}
+use Rattle.shotfile.specs.Files.{settingFields, shotFields, stepAt, onShot, shotRecords, fileOf, tightFrom, tightRest, shortest}
 use Rattle.shotfile.proofs.Steps.{step-end}
-use Rattle.shotfile.proofs.ReadBack.{Small, SmallFields, Placed, placed, placed-first, placed-second, placed-third, placed-read, one-step}
+use Rattle.shotfile.proofs.ReadBack.{SmallFields, SmallShots, Placed, placed, placed-first, placed-second, placed-third, placed-read, one-step}
 
 -- a field that is written only where it must be is not needless
 field-tight : (s : List ℕ) (at absent v : ℕ) → v ≡ fieldAt s at (bitOf absent v) absent → needless s at (bitOf absent v) absent ≡ false
@@ -29,40 +31,36 @@ placed-tight {s} {at} {absent} {f} p =
     rw (← placed-first p, ← placed-second p, ← placed-third p, field-tight s (at + 1) (absent .first) (f .first) (p .first-at), field-tight s (at + 1 + 2 * bitOf (absent .first) (f .first)) (absent .second) (f .second) (p .second-at), field-tight s (at + 1 + 2 * bitOf (absent .first) (f .first) + 2 * bitOf (absent .second) (f .second)) (absent .third) (f .third) (p .third-at))
 
 -- past the end no field stands
-end-tight : (s : List ℕ) (at : ℕ) (absent : Fields) → length s ≤ at → tight s at absent ≡ true
+pub end-tight : (s : List ℕ) (at : ℕ) (absent : Fields) → length s ≤ at → tight s at absent ≡ true
 unfolding tight needless
 end-tight s at absent h = rw (List·getD-eq-default s 0 h)
 
 module _ (s : List ℕ) where
-  shots-tight : (n : ℕ) (pre : List ℕ) (p : Fields) (coords : List ℕ) → s ≡ pre ++ shotRecords p coords → length coords % 3 ≡ 0 → Small coords
-      → tightFrom n s (record { at = length pre; previous = p }) ≡ true
+  shots-tight : (n : ℕ) (pre : List ℕ) (p : Fields) (ts : List Shot) → s ≡ pre ++ shotRecords p ts → SmallShots ts → tightFrom n s (record { at = length pre; last = p }) ≡ true
   unfolding tightFrom shotRecords
-  shots-tight zero pre p coords e t small = refl
-  shots-tight (suc n) pre p [] e t small =
+  shots-tight zero pre p ts e small = refl
+  shots-tight (suc n) pre p [] e small =
       let past : length s ≤ length pre = omega (arith, ap length e, length-append pre []) in
-      rw (end-tight s (length pre) p past, ← step-end s (record { at = length pre; previous = p }) past)
-  shots-tight (suc n) pre p (x ∷ []) e t small = absurd (omega arith)
-  shots-tight (suc n) pre p (x ∷ y ∷ []) e t small = absurd (omega arith)
-  shots-tight (suc n) pre p (x ∷ y ∷ z ∷ rest) e t small =
-      let f : Fields = record { first = x; second = y; third = z } in
-      let sf : SmallFields f = record { first-small = small .0; second-small = small .1 .0; third-small = small .1 .1 .0 } in
-      let here : tight s (length pre) p ≡ true = ap (λ (l : List ℕ). tight l (length pre) p) e ∙ placed-tight (placed pre (shotRecords f rest) p f sf) in
-      let later : tightFrom n s (record { at = length (pre ++ recordOf p f); previous = f }) ≡ true = shots-tight n (pre ++ recordOf p f) f rest (e ∙ sym (append-assoc pre (recordOf p f) (shotRecords f rest))) (omega arith) (small .1 .1 .1) in
-      ap (λ (b : Bool). b && onShot (stepAt s (record { at = length pre; previous = p })) true (tightFrom n s)) here
-      ∙ (ap (λ (k : Step). onShot k true (tightFrom n s)) (one-step s pre (shotRecords f rest) p f e sf) ∙ later)
+      rw (end-tight s (length pre) p past, ← step-end s (record { at = length pre; last = p }) past)
+  shots-tight (suc n) pre p (t ∷ ts) e small =
+      let f : Fields = shotFields t in
+      let here : tight s (length pre) p ≡ true = ap (λ (l : List ℕ). tight l (length pre) p) e ∙ placed-tight (placed pre (shotRecords f ts) p f (small .0)) in
+      let later : tightFrom n s (record { at = length (pre ++ recordOf p f); last = f }) ≡ true = shots-tight n (pre ++ recordOf p f) f ts (e ∙ sym (append-assoc pre (recordOf p f) (shotRecords f ts))) (small .1) in
+      ap (λ (b : Bool). b && onShot (stepAt s (record { at = length pre; last = p })) true (tightFrom n s)) here
+      ∙ (ap (λ (k : Step). onShot k true (tightFrom n s)) (one-step s pre (shotRecords f ts) p f e (small .0)) ∙ later)
 
 -- the whole file
-pub file-tight : (F E G : ℕ) (coords : List ℕ) → SmallFields (record { first = F; second = E; third = G }) → Small coords → length coords % 3 ≡ 0 → shortest (fileOf F E G coords) ≡ true
+pub file-tight : (F E G : ℕ) (coords : List ℕ) → SmallFields (settingFields F E G) → SmallShots (shotsOf E coords) → shortest (fileOf F E G coords) ≡ true
 unfolding shortest fileOf
-file-tight F E G coords settings small t =
+file-tight F E G coords header-small small =
     ap (λ (b : Bool). b && tightRest s (recordAt s 0 headerAbsent)) (placed-tight header)
-    ∙ (ap (tightRest s) (placed-read header ∙ ap (Whole f) (omega arith)) ∙ shots-tight s (length s) (recordOf headerAbsent f) firstAbsent coords refl t small)
+    ∙ (ap (tightRest s) (placed-read header ∙ ap (Whole f) (omega arith)) ∙ shots-tight s (length s) (recordOf headerAbsent f) firstAbsent (shotsOf E coords) refl small)
   where
     f : Fields
-    f = record { first = F; second = E; third = G }
+    f = settingFields F E G
 
     s : List ℕ
     s = fileOf F E G coords
 
     header : Placed s 0 headerAbsent f
-    header = placed [] (shotRecords firstAbsent coords) headerAbsent f settings
+    header = placed [] (shotRecords firstAbsent (shotsOf E coords)) headerAbsent f header-small

@@ -1,51 +1,92 @@
 -- What the calls `read` and `write` answer, and what they leave in the lent slices. Document 01, 'When a job is refused'.
-use mathlib.Core.List.{List, _++_}
-use Prim.Native.Nat.{ℕ, _/_}
+use mathlib.Core.Path.{_≡_}
+use mathlib.Core.List.{List, [], _∷_, _++_}
+use Prim.Native.Nat.{ℕ}
 use lib.Dec.{ltb}
-use lib.ListN.{length, drop}
+use lib.ListN.{length}
+use Rattle.buffer.specs.Wrote.{inFront}
 use Rattle.job.specs.declared.Refusal.the-variants.{ShortFile}
 use Rattle.job.specs.declared.Checked.{Checked}
 use Rattle.job.specs.declared.Checked.the-variants.{Accepted, Refused as Turned}
 use Rattle.job.specs.declared.Refusal.{Refusal}
-use Rattle.job.specs.Checking.{checked, andThen}
+use Rattle.job.specs.Job.{shotCount}
+use Rattle.job.specs.Refusals.{numberOf, detailOf}
+use Rattle.job.specs.Checking.{Test, firstOf, tests}
 use Rattle.shotfile.specs.declared.writer.WriteAnswer.{WriteAnswer}
 use Rattle.shotfile.specs.declared.writer.WriteAnswer.the-variants.{Written, Refused as Unwritten}
 use Rattle.shotfile.specs.declared.reader.Counted.{Counted}
 use Rattle.shotfile.specs.declared.reader.Counted.the-variants.{Shots, Refused as Uncounted}
 use Rattle.shotfile.specs.declared.reader.ReadAnswer.{ReadAnswer}
 use Rattle.shotfile.specs.declared.reader.ReadAnswer.the-variants.{Read, Refused as Unread}
-use Rattle.shotfile.specs.Files.{Rest, shots, faulty, File, file, refused, fileOf}
+use Rattle.shotfile.specs.Files.{Rest, shots, faulty, File, file, refused, fileIn, fileOf}
 
+-- ---- reading
 -- how many shots the rest of a file has
 abbrev pub countOf : Rest → Counted
-countOf (shots cs) = Shots (length cs / 3)
+countOf (shots coords) = Shots (shotCount coords)
 countOf (faulty r) = Uncounted r
 
 -- a file's settings and its number of shots, or its refusal
 abbrev pub readAnswer : File → ReadAnswer
-readAnswer (file f cs) = Read (f .first) (f .second) (f .third) (length cs / 3)
+readAnswer (file f coords) = Read (f .first) (f .second) (f .third) (shotCount coords)
 readAnswer (refused r) = Unread r
+
+-- the numbers of an answer: the refusal's number and detail, 0 and 0 where there is none, then the field side, the shot edge, the grid
+-- size and the number of shots, all 0 if refused
+unfoldable pub readNumbers : ReadAnswer → List ℕ
+readNumbers (Read field edge grid n) = 0 ∷ 0 ∷ field ∷ edge ∷ grid ∷ n ∷ []
+readNumbers (Unread r) = numberOf r ∷ detailOf r ∷ 0 ∷ 0 ∷ 0 ∷ 0 ∷ []
+
+-- the same numbers, from what the file says
+unfoldable pub readValues : File → List ℕ
+readValues (file f coords) = 0 ∷ 0 ∷ f .first ∷ f .second ∷ f .third ∷ shotCount coords ∷ []
+readValues (refused r) = numberOf r ∷ detailOf r ∷ 0 ∷ 0 ∷ 0 ∷ 0 ∷ []
 
 -- the first places are the coordinates, and the others keep their values, as all do after a refusal
 abbrev pub readCoords : File → List ℕ → List ℕ
-readCoords (file f cs) before = cs ++ drop (length cs) before
+readCoords (file f coords) before = inFront coords before
 readCoords (refused r) before = before
 
--- the checks of a list, and then whether the file is longer than the byte buffer
-abbrev pub writeChecked : ℕ → ℕ → ℕ → List ℕ → ℕ → Checked
-writeChecked F E G coords room =
-    andThen (checked F E G coords)
-    (record { holds = ltb room (length (fileOf F E G coords)); gives = ShortFile (length (fileOf F E G coords)) })
+-- what `read` promises of its answer r and of the coordinate slice after it
+pub record ReadCall (bytes before : List ℕ) (r : ReadAnswer) (after : List ℕ) : Type 0 where
+  pub answer : r ≡ readAnswer (fileIn (shotCount before) bytes)
+  pub numbers : readNumbers r ≡ readValues (fileIn (shotCount before) bytes)
+  pub coordinates : after ≡ readCoords (fileIn (shotCount before) bytes) before
+
+-- ---- writing
+-- the file of a list is longer than the byte buffer
+abbrev pub longFile : ℕ → ℕ → ℕ → List ℕ → ℕ → Test
+longFile F E G coords room = record { holds = ltb room (length (fileOf F E G coords)); gives = ShortFile (length (fileOf F E G coords)) }
+
+-- the tests of a list, and then that of its file
+unfoldable pub writeTests : ℕ → ℕ → ℕ → List ℕ → ℕ → List Test
+writeTests F E G coords room = tests F E G coords ++ longFile F E G coords room ∷ []
+
+-- what is said of a refusal, or of an accepted list
+abbrev pub ifWritten : {A : Type 0} → Checked → (Refusal → A) → A → A
+ifWritten Accepted none done = done
+ifWritten (Turned r) none done = none r
 
 -- the file's length, or the refusal
-abbrev pub onChecked : {A : Type 0} → Checked → (Refusal → A) → A → A
-onChecked Accepted none done = done
-onChecked (Turned r) none done = none r
-
 unfoldable pub writeAnswer : ℕ → ℕ → ℕ → List ℕ → ℕ → WriteAnswer
-writeAnswer F E G coords room = onChecked (writeChecked F E G coords room) Unwritten (Written (length (fileOf F E G coords)))
+writeAnswer F E G coords room = ifWritten (firstOf (writeTests F E G coords room)) Unwritten (Written (length (fileOf F E G coords)))
+
+-- the numbers of an answer: the refusal's number and detail, 0 and 0 where there is none, then the file's length, 0 if refused
+unfoldable pub writtenNumbers : WriteAnswer → List ℕ
+writtenNumbers (Written n) = 0 ∷ 0 ∷ n ∷ []
+writtenNumbers (Unwritten r) = numberOf r ∷ detailOf r ∷ 0 ∷ []
+
+-- the same numbers, from what the tests say
+unfoldable pub writeValues : ℕ → ℕ → ℕ → List ℕ → ℕ → List ℕ
+writeValues F E G coords room =
+    ifWritten (firstOf (writeTests F E G coords room)) (λ r. numberOf r ∷ detailOf r ∷ 0 ∷ []) (0 ∷ 0 ∷ length (fileOf F E G coords) ∷ [])
 
 -- the first places are the file, and the others keep their values, as all do after a refusal
 unfoldable pub writeBytes : ℕ → ℕ → ℕ → List ℕ → List ℕ → List ℕ
-writeBytes F E G coords before =
-    onChecked (writeChecked F E G coords (length before)) (λ r. before) (fileOf F E G coords ++ drop (length (fileOf F E G coords)) before)
+writeBytes F E G coords before = ifWritten (firstOf (writeTests F E G coords (length before))) (λ r. before) (inFront (fileOf F E G coords) before)
+
+-- what `write` promises of its answer r and of the byte buffer after it
+pub record WriteCall (F E G : ℕ) (coords before : List ℕ) (r : WriteAnswer) (after : List ℕ) : Type 0 where
+  pub answer : r ≡ writeAnswer F E G coords (length before)
+  pub numbers : writtenNumbers r ≡ writeValues F E G coords (length before)
+  pub file : after ≡ writeBytes F E G coords before

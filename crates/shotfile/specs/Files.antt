@@ -1,27 +1,40 @@
 -- A shot file: the header's record, then a record a shot, up to the end of the bytes. Document 01, 'Shot file' and 'When a job is refused'.
 use mathlib.Core.Bool.{Bool, true, false, cond, _&&_}
 use mathlib.Core.List.{List, [], _∷_, _++_}
-use Prim.Native.Nat.{ℕ, zero, suc, _+_, _-_, _*_}
+use Prim.Native.Nat.{ℕ, zero, suc}
 use lib.Dec.{ltb}
-use lib.ListN.{length, getD}
+use lib.ListN.{length}
+use Rattle.lattice.specs.Shots.{Shot}
 use Rattle.job.specs.declared.Refusal.{Refusal}
 use Rattle.job.specs.declared.Refusal.the-variants.{TooManyShots, NoPlace}
+use Rattle.job.specs.Job.{shotsOf, xAt, yAt, zAt, numbersOf}
 use Rattle.shotfile_records.specs.declared.Fields.{Fields}
 use Rattle.shotfile_records.specs.declared.Taken.{Taken}
 use Rattle.shotfile_records.specs.declared.Taken.the-variants.{Whole, Refused}
 use Rattle.shotfile.specs.declared.reader.Cursor.{Cursor}
 use Rattle.shotfile.specs.declared.reader.Step.{Step}
-use Rattle.shotfile.specs.declared.reader.Step.the-variants.{Shot, Refused as Stopped, End}
+use Rattle.shotfile.specs.declared.reader.Step.the-variants.{Shot as Stepped, Refused as Stopped, End}
 use Rattle.shotfile_records.specs.Records.{headerAbsent, firstAbsent, recordAt, recordOf, tight}
+
+-- the numbers of a header's record, and those of a shot's
+abbrev pub settingFields : ℕ → ℕ → ℕ → Fields
+settingFields F E G = record { first = F; second = E; third = G }
+
+abbrev pub shotFields : Shot → Fields
+shotFields t = record { first = t .x; second = t .y; third = t .z }
+
+-- the fields of a shot's record as numbers of a coordinate list
+abbrev pub shotNumbers : Fields → List ℕ
+shotNumbers f = numbersOf (f .first) (f .second) (f .third)
 
 -- ---- reading
 -- a step takes one record: a shot, with the cursor after it, or a refusal; or there is no record left
 abbrev pub stepOf : Taken → Step
-stepOf (Whole fields end) = Shot (record { at = end; previous = fields })
+stepOf (Whole fields end) = Stepped (record { at = end; last = fields })
 stepOf (Refused r) = Stopped r
 
 unfoldable pub stepAt : List ℕ → Cursor → Step
-stepAt s c = cond (ltb (c .at) (length s)) (stepOf (recordAt s (c .at) (c .previous))) End
+stepAt s c = cond (ltb (c .at) (length s)) (stepOf (recordAt s (c .at) (c .last))) End
 
 -- what the rest of a file says: coordinates, or the refusal of its first faulty record
 pub data Rest : Type 0 where
@@ -30,22 +43,20 @@ pub data Rest : Type 0 where
 
 -- a shot and then the rest
 abbrev pub withShot : Fields → Rest → Rest
-withShot f (shots cs) = shots (f .first ∷ f .second ∷ f .third ∷ cs)
+withShot f (shots coords) = shots (shotNumbers f ++ coords)
 withShot f (faulty r) = faulty r
 
 abbrev pub onStep : Step → (Cursor → Rest) → Rest
-onStep (Shot c) next = withShot (c .previous) (next c)
+onStep (Stepped c) next = withShot (c .last) (next c)
 onStep (Stopped r) next = faulty r
 onStep End next = shots []
 
--- the shots from a cursor on, where `left` more are allowed and `places` of the coordinate slice are free:
+-- the shots from a cursor on, where `left` more are allowed and the coordinate slice has places for `places` more:
 -- refusals 2, 3, 4, 5 in this order on each record, and the first faulty record decides
 unfoldable pub shotsFrom : ℕ → ℕ → List ℕ → Cursor → Rest
 shotsFrom zero places s c = cond (ltb (c .at) (length s)) (faulty (TooManyShots (c .at))) (shots [])
-shotsFrom (suc left) places s c =
-    cond (ltb (c .at) (length s))
-    (cond (ltb places 3) (faulty (NoPlace (c .at))) (onStep (stepAt s c) (shotsFrom left (places - 3) s)))
-    (shots [])
+shotsFrom (suc left) zero s c = cond (ltb (c .at) (length s)) (faulty (NoPlace (c .at))) (shots [])
+shotsFrom (suc left) (suc places) s c = onStep (stepAt s c) (shotsFrom left places s)
 
 -- a file: the settings of its header and the coordinates of its shots, or its refusal
 pub data File : Type 0 where
@@ -53,51 +64,48 @@ pub data File : Type 0 where
   refused : Refusal → File
 
 abbrev pub withSettings : Fields → Rest → File
-withSettings f (shots cs) = file f cs
+withSettings f (shots coords) = file f coords
 withSettings f (faulty r) = refused r
 
 -- the cursor at the first shot
 abbrev pub firstShot : ℕ → Cursor
-firstShot at = record { at = at; previous = firstAbsent }
+firstShot at = record { at = at; last = firstAbsent }
 
 abbrev pub onHeader : Taken → (ℕ → Rest) → File
 onHeader (Whole f end) rest = withSettings f (rest end)
 onHeader (Refused r) rest = refused r
 
--- at most 4,096 shots
+-- what a file says where the coordinate slice has places for so many shots; at most 4,096 shots
 unfoldable pub fileIn : ℕ → List ℕ → File
 fileIn places s = onHeader (recordAt s 0 headerAbsent) (λ end. shotsFrom 4096 places s (firstShot end))
 
 -- the coordinates of the next n shots
 abbrev pub onShot : {A : Type 0} → Step → A → (Cursor → A) → A
-onShot (Shot c) none next = next c
+onShot (Stepped c) none next = next c
 onShot (Stopped r) none next = none
 onShot End none next = none
 
 unfoldable pub nextShots : ℕ → List ℕ → Cursor → List ℕ
 nextShots zero s c = []
-nextShots (suc n) s c = onShot (stepAt s c) [] (λ c'. c' .previous .first ∷ c' .previous .second ∷ c' .previous .third ∷ nextShots n s c')
+nextShots (suc n) s c = onShot (stepAt s c) [] (λ c'. shotNumbers (c' .last) ++ nextShots n s c')
 
 -- ---- writing: the shortest form
 -- the records of shots, after a shot with these coordinates
-unfoldable pub shotRecords : Fields → List ℕ → List ℕ
-shotRecords previous [] = []
-shotRecords previous (x ∷ []) = []
-shotRecords previous (x ∷ y ∷ []) = []
-shotRecords previous (x ∷ y ∷ z ∷ rest) =
-    recordOf previous (record { first = x; second = y; third = z }) ++ shotRecords (record { first = x; second = y; third = z }) rest
+unfoldable pub shotRecords : Fields → List Shot → List ℕ
+shotRecords last [] = []
+shotRecords last (t ∷ ts) = recordOf last (shotFields t) ++ shotRecords (shotFields t) ts
 
--- the coordinates of shot i, from 0
+-- the fields of shot i, from 0
 abbrev pub coordsAt : List ℕ → ℕ → Fields
-coordsAt coords i = record { first = getD coords (3 * i) 0; second = getD coords (3 * i + 1) 0; third = getD coords (3 * i + 2) 0 }
+coordsAt coords i = record { first = xAt coords i; second = yAt coords i; third = zAt coords i }
 
 unfoldable pub fileOf : ℕ → ℕ → ℕ → List ℕ → List ℕ
-fileOf F E G coords = recordOf headerAbsent (record { first = F; second = E; third = G }) ++ shotRecords firstAbsent coords
+fileOf F E G coords = recordOf headerAbsent (settingFields F E G) ++ shotRecords firstAbsent (shotsOf E coords)
 
 -- no field of the next n records says what its absence would mean
 unfoldable pub tightFrom : ℕ → List ℕ → Cursor → Bool
 tightFrom zero s c = true
-tightFrom (suc n) s c = tight s (c .at) (c .previous) && onShot (stepAt s c) true (tightFrom n s)
+tightFrom (suc n) s c = tight s (c .at) (c .last) && onShot (stepAt s c) true (tightFrom n s)
 
 -- a file is in its shortest form if no field of its header and of its shots says what its absence would mean
 abbrev pub tightRest : List ℕ → Taken → Bool

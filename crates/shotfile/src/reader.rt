@@ -7,16 +7,16 @@ use shotfile_records::first_absent;
 use shotfile_records::header_absent;
 use shotfile_records::take_record;
 ghost use mathlib.Core.Path.{_≡_};
-ghost use mathlib.Core.List.{[], _∷_, _++_};
-ghost use Prim.Native.Nat.{_≤_, _+_, _*_};
-ghost use lib.ListN.{length, take, drop};
-ghost use Rattle.shotfile.specs.Files.{stepAt, shotsFrom, nextShots, fileIn};
-ghost use Rattle.shotfile.specs.Calls.{countOf, readAnswer, readCoords};
+ghost use Prim.Native.Nat.{_≤_};
+ghost use Rattle.buffer.specs.Wrote.{inFront};
+ghost use Rattle.job.specs.Job.{shotCount};
+ghost use Rattle.shotfile.specs.Files.{stepAt, shotsFrom, nextShots};
+ghost use Rattle.shotfile.specs.Calls.{countOf, ReadCall};
 
-// A place of a shot file, and the previous shot's coordinates.
+// A place of a shot file, and the coordinates of the last shot taken: zeros before the first.
 pub struct Cursor {
     pub at: usize,
-    pub previous: Fields,
+    pub last: Fields,
 }
 
 // What a step of the cursor takes.
@@ -55,18 +55,18 @@ impl Cursor {
         if bytes.len() <= at {
             return Step::End;
         }
-        let previous = self.previous;
-        match take_record(bytes, at, previous) {
+        let last = self.last;
+        match take_record(bytes, at, last) {
             Taken::Whole { fields, end } => Step::Shot(Cursor {
                 at: end,
-                previous: fields,
+                last: fields,
             }),
             Taken::Refused(refusal) => Step::Refused(refusal),
         }
     }
 }
 
-// Checks the records from a cursor on against the free places, and counts them.
+// Checks the records from a cursor on, where so many shots have a place, and counts them.
 fn count_shots(bytes: &[u8], places: usize, start: Cursor) -> Counted
     ensures { λ r. ⌜ r ≡ countOf (shotsFrom 4096 places (now (bytes .entry)) start) ⌝ }
 {
@@ -80,7 +80,7 @@ fn count_shots(bytes: &[u8], places: usize, start: Cursor) -> Counted
         if n == 4096 {
             return Counted::Refused(Refusal::TooManyShots { at: at });
         }
-        if places - 3 * n < 3 {
+        if places <= n {
             return Counted::Refused(Refusal::NoPlace { at: at });
         }
         match c.step(bytes) {
@@ -98,28 +98,18 @@ fn count_shots(bytes: &[u8], places: usize, start: Cursor) -> Counted
     }
 }
 
-// Stores a shot's coordinates at a place.
-fn put_shot(coords: &mut [u16], at: usize, shot: Fields)
-    requires { ⌜ at + 3 ≤ length (now coords) ⌝ }
-    ensures { λ _. ⌜ now (coords .exit) ≡ take at (now (coords .entry)) ++ ((shot .first ∷ shot .second ∷ shot .third ∷ []) ++ drop (at + 3) (now (coords .entry))) ⌝ }
-{
-    coords[at] = shot.first;
-    coords[at + 1] = shot.second;
-    coords[at + 2] = shot.third;
-}
-
 // Stores the coordinates of the next n shots from a cursor on.
 fn store_shots(bytes: &[u8], coords: &mut [u16], start: Cursor, n: usize)
-    requires { ⌜ 3 * n ≤ length (now coords) ⌝ }
-    ensures { λ _. ⌜ now (coords .exit) ≡ nextShots n (now (bytes .entry)) start ++ drop (length (nextShots n (now (bytes .entry)) start)) (now (coords .entry)) ⌝ }
+    requires { ⌜ n ≤ shotCount (now coords) ⌝ }
+    ensures { λ _. ⌜ now (coords .exit) ≡ inFront (nextShots n (now (bytes .entry)) start) (now (coords .entry)) ⌝ }
 {
     let mut c = start;
     let mut i = 0;
     while i < n {
         match c.step(bytes) {
             Step::Shot(next) => {
-                let shot = next.previous;
-                put_shot(coords, 3 * i, shot);
+                let shot = next.last;
+                job::shot::put(coords, i, shot.first, shot.second, shot.third);
                 c = next;
             }
             Step::Refused(_) => {
@@ -135,18 +125,17 @@ fn store_shots(bytes: &[u8], coords: &mut [u16], start: Cursor, n: usize)
 
 // Reads a file into the coordinate slice, or says why not.
 pub fn read(bytes: &[u8], coords: &mut [u16]) -> ReadAnswer
-    ensures answer { λ r. ⌜ r ≡ readAnswer (fileIn (length (now (coords .entry))) (now (bytes .entry))) ⌝ }
-    ensures coordinates { λ _. ⌜ now (coords .exit) ≡ readCoords (fileIn (length (now (coords .entry))) (now (bytes .entry))) (now (coords .entry)) ⌝ }
+    ensures { λ r. ⌜ ReadCall (now (bytes .entry)) (now (coords .entry)) r (now (coords .exit)) ⌝ }
 {
     let absent = header_absent();
     match take_record(bytes, 0, absent) {
         Taken::Whole { fields, end } => {
-            let previous = first_absent();
+            let last = first_absent();
             let start = Cursor {
                 at: end,
-                previous: previous,
+                last: last,
             };
-            match count_shots(bytes, coords.len(), start) {
+            match count_shots(bytes, job::shot::count(coords), start) {
                 Counted::Shots(n) => {
                     store_shots(bytes, coords, start, n);
                     ReadAnswer::Read {

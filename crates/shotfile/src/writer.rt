@@ -7,12 +7,12 @@ use shotfile_records::header_absent;
 use shotfile_records::put_record;
 use shotfile_records::record_length;
 ghost use mathlib.Core.Path.{_≡_};
-ghost use mathlib.Core.List.{_++_};
-ghost use Prim.Native.Nat.{_≤_, _<_, _/_};
-ghost use lib.ListN.{length, drop};
-ghost use Rattle.shotfile_records.specs.Records.{firstAbsent};
-ghost use Rattle.shotfile.specs.Files.{coordsAt, shotRecords, fileOf};
-ghost use Rattle.shotfile.specs.Calls.{writeChecked, writeAnswer, writeBytes};
+ghost use Prim.Native.Nat.{_≤_, _<_};
+ghost use lib.ListN.{length};
+ghost use Rattle.buffer.specs.Wrote.{inFront};
+ghost use Rattle.job.specs.Job.{shotCount};
+ghost use Rattle.shotfile.specs.Files.{coordsAt, fileOf};
+ghost use Rattle.shotfile.specs.Calls.{WriteCall};
 
 // What `write` answers.
 pub enum WriteAnswer {
@@ -23,37 +23,19 @@ pub enum WriteAnswer {
 
 // The coordinates of a shot.
 fn shot_at(coords: &[u16], i: usize) -> Fields
-    requires { ⌜ i < length (now coords) / 3 ⌝ }
+    requires { ⌜ i < shotCount (now coords) ⌝ }
     ensures { λ r. ⌜ r ≡ coordsAt (now (coords .entry)) i ⌝ }
 {
     Fields {
-        first: coords[3 * i],
-        second: coords[3 * i + 1],
-        third: coords[3 * i + 2],
+        first: job::shot::x_of(coords, i),
+        second: job::shot::y_of(coords, i),
+        third: job::shot::z_of(coords, i),
     }
-}
-
-// How many bytes the records of the shots take.
-fn shots_length(coords: &[u16]) -> usize
-    requires { ⌜ length (now coords) / 3 ≤ 4096 ⌝ }
-    ensures { λ r. ⌜ r ≡ length (shotRecords firstAbsent (now (coords .entry))) ⌝ }
-{
-    let n = coords.len() / 3;
-    let mut previous = first_absent();
-    let mut total = 0;
-    let mut i = 0;
-    while i < n {
-        let shot = shot_at(coords, i);
-        total += record_length(previous, shot);
-        previous = shot;
-        i += 1;
-    }
-    total
 }
 
 // How many bytes the file of a list takes.
 fn file_length(field: u16, edge: u16, grid: u16, coords: &[u16]) -> usize
-    requires { ⌜ length (now coords) / 3 ≤ 4096 ⌝ }
+    requires { ⌜ shotCount (now coords) ≤ 4096 ⌝ }
     ensures { λ r. ⌜ r ≡ length (fileOf field edge grid (now (coords .entry))) ⌝ }
 {
     let absent = header_absent();
@@ -62,13 +44,23 @@ fn file_length(field: u16, edge: u16, grid: u16, coords: &[u16]) -> usize
         second: edge,
         third: grid,
     };
-    record_length(absent, settings) + shots_length(coords)
+    let mut total = record_length(absent, settings);
+    let n = job::shot::count(coords);
+    let mut last = first_absent();
+    let mut i = 0;
+    while i < n {
+        let shot = shot_at(coords, i);
+        total += record_length(last, shot);
+        last = shot;
+        i += 1;
+    }
+    total
 }
 
 // Writes the file of a list.
 fn put_file(bytes: &mut [u8], field: u16, edge: u16, grid: u16, coords: &[u16])
     requires { ⌜ length (fileOf field edge grid (now coords)) ≤ length (now bytes) ⌝ }
-    ensures { λ _. ⌜ now (bytes .exit) ≡ fileOf field edge grid (now (coords .entry)) ++ drop (length (fileOf field edge grid (now (coords .entry)))) (now (bytes .entry)) ⌝ }
+    ensures { λ _. ⌜ now (bytes .exit) ≡ inFront (fileOf field edge grid (now (coords .entry))) (now (bytes .entry)) ⌝ }
 {
     let absent = header_absent();
     let settings = Fields {
@@ -77,21 +69,20 @@ fn put_file(bytes: &mut [u8], field: u16, edge: u16, grid: u16, coords: &[u16])
         third: grid,
     };
     let mut at = put_record(bytes, 0, absent, settings);
-    let n = coords.len() / 3;
-    let mut previous = first_absent();
+    let n = job::shot::count(coords);
+    let mut last = first_absent();
     let mut i = 0;
     while i < n {
         let shot = shot_at(coords, i);
-        at = put_record(bytes, at, previous, shot);
-        previous = shot;
+        at = put_record(bytes, at, last, shot);
+        last = shot;
         i += 1;
     }
 }
 
 // Writes a list as the shortest file that says it, or says why not.
 pub fn write(field: u16, edge: u16, grid: u16, coords: &[u16], bytes: &mut [u8]) -> WriteAnswer
-    ensures answer { λ r. ⌜ r ≡ writeAnswer field edge grid (now (coords .entry)) (length (now (bytes .entry))) ⌝ }
-    ensures file { λ _. ⌜ now (bytes .exit) ≡ writeBytes field edge grid (now (coords .entry)) (now (bytes .entry)) ⌝ }
+    ensures { λ r. ⌜ WriteCall field edge grid (now (coords .entry)) (now (bytes .entry)) r (now (bytes .exit)) ⌝ }
 {
     match job::check(field, edge, grid, coords) {
         Checked::Refused(refusal) => WriteAnswer::Refused(refusal),

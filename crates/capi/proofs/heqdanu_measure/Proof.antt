@@ -1,15 +1,11 @@
 -- The slice for the numbers is looked at first.
-use mathlib.Core.Path.{refl}
-use lib.ListN.{length}
-use borrow.Author.Tests.{lt-leb, le-leb}
-use Rattle.capi.specs.Answered.{measuredNumbers}
-use Rattle.capi.proofs.AnsweredLaws.{told-numbers, measured-six}
+use Rattle.capi.proofs.AnsweredLaws.{measure-untold, measure-told}
 use borrow.Author.Needs.{needs}
 use Rattle.capi.proofs.heqdanu_measure.Statement.{statement}
 use Rattle.capi.proofs.heqdanu_measure.Tie as tie
 
 returns : tie.Need-returns
-returns c = let s = c .before .before .before .before in rw (lt-leb 6 (length (s .args .answer .now)) (c .if1 .taken)) (refl, (refl, refl))
+returns c = let s = c .before .before .before .before in measure-untold (s .args .answer .now) (c .if1 .taken)
 
 measure-requires : tie.Need-measure-requires
 measure-requires c κs = search needs
@@ -24,7 +20,7 @@ same-length-2 : tie.Need-same-length-2
 same-length-2 c = search needs
 
 returns-2 : tie.Need-returns-2
-returns-2 c = let s = c .before .before .before .before .before .before .before .before .before .before .before .before in rw (le-leb 6 (length (s .args .answer .now)) (c .before .before .before .before .before .before .before .before .if1 .left)) (refl, (c .before .before .before .before .before .before .measure .ensures .1, told-numbers measuredNumbers 6 measured-six (s .args .answer .now) (c .before .before .put-measured .ensures) (c .before .before .before .before .before .before .measure .ensures .0)))
+returns-2 c = let s = c .before .before .before .before .before .before .before .before .before .before .before .before in measure-told (s .args .answer .now) (c .before .before .before .before .before .before .before .before .if1 .left) (c .before .before .before .before .before .before .measure .ensures) (c .before .before .put-measured .ensures)
 
 pub heqdanu-measure-spec : {M : Type 1} → statement M
 heqdanu-measure-spec =

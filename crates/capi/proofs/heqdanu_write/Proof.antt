@@ -1,15 +1,11 @@
 -- The slice for the numbers is looked at first.
-use mathlib.Core.Path.{refl}
-use lib.ListN.{length}
-use borrow.Author.Tests.{lt-leb, le-leb}
-use Rattle.capi.specs.Answered.{writtenNumbers}
-use Rattle.capi.proofs.AnsweredLaws.{told-numbers, written-three}
+use Rattle.capi.proofs.AnsweredLaws.{write-untold, write-told}
 use borrow.Author.Needs.{needs}
 use Rattle.capi.proofs.heqdanu_write.Statement.{statement}
 use Rattle.capi.proofs.heqdanu_write.Tie as tie
 
 returns : tie.Need-returns
-returns c = let s = c .before .before .before .before in rw (lt-leb 3 (length (s .args .answer .now)) (c .if1 .taken)) (refl, (refl, refl))
+returns c = let s = c .before .before .before .before in write-untold (s .args .answer .now) (c .if1 .taken)
 
 write-requires : tie.Need-write-requires
 write-requires c κs = search needs
@@ -24,7 +20,7 @@ same-length-2 : tie.Need-same-length-2
 same-length-2 c = search needs
 
 returns-2 : tie.Need-returns-2
-returns-2 c = let s = c .before .before .before .before .before .before .before .before .before .before .before .before in rw (le-leb 3 (length (s .args .answer .now)) (c .before .before .before .before .before .before .before .before .if1 .left)) (refl, (c .before .before .before .before .before .before .write .ensures .1, told-numbers writtenNumbers 3 written-three (s .args .answer .now) (c .before .before .put-written .ensures) (c .before .before .before .before .before .before .write .ensures .0)))
+returns-2 c = let s = c .before .before .before .before .before .before .before .before .before .before .before .before in write-told (s .args .answer .now) (c .before .before .before .before .before .before .before .before .if1 .left) (c .before .before .before .before .before .before .write .ensures) (c .before .before .put-written .ensures)
 
 pub heqdanu-write-spec : {M : Type 1} → statement M
 heqdanu-write-spec =

@@ -1,6 +1,6 @@
 -- `count_shots` counts the shots. The invariant: the count of all shots is n and that of the rest. Assumes nothing.
 use mathlib.Core.Path.{sym, _∙_}
-use Prim.Native.Nat.{_≤_, _-_, _*_}
+use Prim.Native.Nat.{_≤_, _-_}
 use native.Mathlib.Omega.{arith}
 use Rattle.shotfile.specs.Files.{shotsFrom}
 use Rattle.shotfile.specs.Calls.{countOf}
@@ -10,28 +10,22 @@ use Rattle.shotfile.proofs.reader.count_shots.Statement.{statement}
 use Rattle.shotfile.proofs.reader.count_shots.Tie as tie
 
 abbrev Inv-loop : tie.InvT-loop
-Inv-loop bytes places c₀ n₀ c n = (n ≤ 4096) × (3 * n ≤ places) × Counting bytes places (countOf (shotsFrom 4096 places bytes c₀)) c n
+Inv-loop bytes places c₀ n₀ c n = (n ≤ 4096) × Counting bytes places (countOf (shotsFrom 4096 places bytes c₀)) c n
 
 abbrev μ-loop : tie.MeasureT-loop
 μ-loop bytes places c₀ n₀ c n = 4096 - n
 
 loop-holds : tie.Need-loop-holds Inv-loop μ-loop
-loop-holds c = (omega arith, omega arith, count-start _ _ _)
+loop-holds c = (omega arith, count-start _ _ _)
 
 returns : tie.Need-returns Inv-loop μ-loop
-returns c = count-end _ _ _ _ (c .before .loop .inv .2) (c .if1 .taken)
+returns c = count-end _ _ _ _ (c .before .loop .inv .1) (c .if1 .taken)
 
 returns-2 : tie.Need-returns-2 Inv-loop μ-loop
-returns-2 c = count-many _ _ _ _ (c .before .before .loop .inv .2) (c .before .if1 .left) (c .if2 .taken)
-
-mul-if3 : tie.Need-mul-if3 Inv-loop μ-loop
-mul-if3 c = omega arith
-
-sub-if3 : tie.Need-sub-if3 Inv-loop μ-loop
-sub-if3 c = omega arith
+returns-2 c = count-many _ _ _ _ (c .before .before .loop .inv .1) (c .before .if1 .left) (c .if2 .taken)
 
 returns-3 : tie.Need-returns-3 Inv-loop μ-loop
-returns-3 c = count-full _ _ _ _ (c .before .before .before .loop .inv .2) (c .before .before .if1 .left) (omega arith) (c .if3 .taken)
+returns-3 c = count-full _ _ _ _ (c .before .before .before .loop .inv .1) (c .before .before .if1 .left) (omega arith) (c .if3 .taken)
 
 step-requires : tie.Need-step-requires Inv-loop μ-loop
 step-requires c κs = search needs
@@ -46,19 +40,19 @@ loop-less : tie.Need-loop-less Inv-loop μ-loop
 loop-less c = omega arith
 
 loop-again : tie.Need-loop-again Inv-loop μ-loop
-loop-again c = (omega arith, omega arith, count-shot _ _ _ _ (c .before .before .before .before .before .before .before .loop .inv .2) (c .before .before .before .before .before .before .if1 .left) (omega arith) (c .before .before .before .before .if3 .left) (sym (c .before .next .given .1) ∙ c .before .before .before .step .ensures))
+loop-again c = (omega arith, count-shot _ _ _ _ (c .before .before .before .before .before .before .before .loop .inv .1) (c .before .before .before .before .before .before .if1 .left) (omega arith) (c .before .before .before .before .if3 .left) (sym (c .before .next .given .1) ∙ c .before .before .before .step .ensures))
 
 enum-known-refusal : tie.Need-enum-known-refusal Inv-loop μ-loop
 enum-known-refusal c = c .match .keys2
 
 returns-4 : tie.Need-returns-4 Inv-loop μ-loop
-returns-4 c = count-stopped _ _ _ _ (c .before .before .before .before .before .before .before .loop .inv .2) (c .before .before .before .before .before .before .if1 .left) (omega arith) (c .before .before .before .before .if3 .left) (sym (c .before .refusal .given .1) ∙ c .before .before .before .step .ensures)
+returns-4 c = count-stopped _ _ _ _ (c .before .before .before .before .before .before .before .loop .inv .1) (c .before .before .before .before .before .before .if1 .left) (omega arith) (c .before .before .before .before .if3 .left) (sym (c .before .refusal .given .1) ∙ c .before .before .before .step .ensures)
 
 enum-told : tie.Need-enum-told Inv-loop μ-loop
 enum-told c = c .match .keys3
 
 returns-5 : tie.Need-returns-5 Inv-loop μ-loop
-returns-5 c = count-ended _ _ _ _ (c .before .before .before .before .before .before .loop .inv .2) (c .before .before .before .before .before .if1 .left) (omega arith) (c .before .before .before .if3 .left) (sym (c .enum-told .given .1) ∙ c .before .before .step .ensures)
+returns-5 c = count-ended _ _ _ _ (c .before .before .before .before .before .before .loop .inv .1) (c .before .before .before .before .before .if1 .left) (omega arith) (c .before .before .before .if3 .left) (sym (c .enum-told .given .1) ∙ c .before .before .step .ensures)
 
 pub count-shots-spec : {M : Type 1} → statement M
 count-shots-spec =
@@ -69,8 +63,6 @@ count-shots-spec =
     loop-holds
     returns
     returns-2
-    mul-if3
-    sub-if3
     returns-3
     step-requires
     enum-known-next

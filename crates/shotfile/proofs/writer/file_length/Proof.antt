@@ -1,33 +1,71 @@
--- A file is its header and its shots. Assumes nothing.
+-- `file_length` adds up the records' lengths. The invariant: the sum so far and the rest make the whole. Assumes nothing.
+use Prim.Native.Nat.{_≤_, _-_}
 use native.Mathlib.Omega.{arith}
-use Rattle.shotfile_records.specs.Records.{firstAbsent}
-use Rattle.shotfile_records.proofs.Putting.{record-most}
-use Rattle.shotfile.proofs.Writing.{records-most, file-size}
+use lib.ListN.{length}
+use Rattle.job.specs.Job.{shotCount}
+use Rattle.shotfile.specs.Files.{fileOf}
+use Rattle.shotfile.proofs.Writing.{file-most, Measured, measured-none, measured-more, measured-all}
 use borrow.Author.Needs.{needs}
 use Rattle.shotfile.proofs.writer.file_length.Statement.{statement}
 use Rattle.shotfile.proofs.writer.file_length.Tie as tie
 
-header-absent-requires : tie.Need-header-absent-requires
+abbrev Inv-loop : tie.InvT-loop
+Inv-loop field edge grid coords total₀ n last₀ i₀ total last i = (i ≤ shotCount coords) × Measured edge coords last i total (length (fileOf field edge grid coords))
+
+abbrev μ-loop : tie.MeasureT-loop
+μ-loop field edge grid coords total₀ n last₀ i₀ total last i = shotCount coords - i
+
+header-absent-requires : tie.Need-header-absent-requires Inv-loop μ-loop
 header-absent-requires c κs = search needs
 
-record-length-requires : tie.Need-record-length-requires
+record-length-requires : tie.Need-record-length-requires Inv-loop μ-loop
 record-length-requires c κs = search needs
 
-shots-length-requires : tie.Need-shots-length-requires
-shots-length-requires c κs = search needs
+count-requires : tie.Need-count-requires Inv-loop μ-loop
+count-requires c κs = search needs
 
-add-result : tie.Need-add-result
-add-result c = omega (arith, record-most (c .before .before .header-absent .result) (record { first = c .before .before .before .before .args .field; second = c .before .before .before .before .args .edge; third = c .before .before .before .before .args .grid }), records-most firstAbsent (c .before .before .before .before .args .coords .now), c .before .record-length .ensures, c .shots-length .ensures, c .before .before .before .before .pre)
+first-absent-requires : tie.Need-first-absent-requires Inv-loop μ-loop
+first-absent-requires c κs = search needs
 
-returns : tie.Need-returns
-returns c = file-size _ _ _ _ (c .before .before .header-absent .ensures) (c .before .record-length .ensures) (c .shots-length .ensures)
+loop-holds : tie.Need-loop-holds Inv-loop μ-loop
+loop-holds c = (omega arith, measured-none (c .before .before .before .before .before .args .field) (c .before .before .before .before .before .args .edge) (c .before .before .before .before .before .args .grid) (c .before .before .before .before .before .args .coords .now) (c .before .before .before .header-absent .ensures) (c .first-absent .ensures) (c .before .before .record-length .ensures))
+
+shot-at-requires : tie.Need-shot-at-requires Inv-loop μ-loop
+shot-at-requires c κs = omega (arith, (c .loop-test .taken), (c .before .before .before .count .ensures))
+
+record-length-requires-2 : tie.Need-record-length-requires-2 Inv-loop μ-loop
+record-length-requires-2 c κs = search needs
+
+add-total : tie.Need-add-total Inv-loop μ-loop
+add-total c = omega (arith, measured-more (c .before .before .before .loop .inv .1) (omega (arith, (c .before .before .loop-test .taken), (c .before .before .before .before .before .count .ensures))) (c .before .shot-at .ensures) (c .record-length2 .ensures) .is, file-most (c .before .before .before .before .before .before .before .before .before .args .field) (c .before .before .before .before .before .before .before .before .before .args .edge) (c .before .before .before .before .before .before .before .before .before .args .grid) (c .before .before .before .before .before .before .before .before .before .args .coords .now) (c .before .before .before .before .before .before .before .before .before .pre))
+
+add-i : tie.Need-add-i Inv-loop μ-loop
+add-i c = search needs
+
+loop-less : tie.Need-loop-less Inv-loop μ-loop
+loop-less c = search needs
+
+loop-again : tie.Need-loop-again Inv-loop μ-loop
+loop-again c = (omega (arith, (c .before .before .loop-test .taken), (c .before .before .before .before .before .count .ensures)), measured-more (c .before .before .before .loop .inv .1) (omega (arith, (c .before .before .loop-test .taken), (c .before .before .before .before .before .count .ensures))) (c .before .shot-at .ensures) (c .record-length2 .ensures))
+
+returns : tie.Need-returns Inv-loop μ-loop
+returns c = measured-all (c .before .loop .inv .1) (omega (arith, (c .loop-test .left), (c .before .before .before .count .ensures)))
 
 pub file-length-spec : {M : Type 1} → statement M
 file-length-spec =
     tie.close
     (tie.spec
+    Inv-loop
+    μ-loop
     header-absent-requires
     record-length-requires
-    shots-length-requires
-    add-result
+    count-requires
+    first-absent-requires
+    loop-holds
+    shot-at-requires
+    record-length-requires-2
+    add-total
+    add-i
+    loop-less
+    loop-again
     returns)

@@ -1,6 +1,5 @@
 -- `write` answers and leaves what the checks say: each way out is one law of `Writing`. Assumes nothing.
-use mathlib.Core.Path.{refl, sym, _∙_}
-use mathlib.Core.List.{[]}
+use mathlib.Core.Path.{sym, _∙_}
 use native.Mathlib.Omega.{arith}
 use Rattle.shotfile.proofs.Writing.{few-shots, write-refused, write-short, write-done}
 use borrow.Author.Needs.{needs}
@@ -17,7 +16,7 @@ enum-told : tie.Need-enum-told
 enum-told c = c .match .keys2
 
 file-length-requires : tie.Need-file-length-requires
-file-length-requires c κs = few-shots (c .before .before .before .before .before .args .field) (c .before .before .before .before .before .args .edge) (c .before .before .before .before .before .args .grid) (c .before .before .before .before .before .args .coords .now) [] (sym (c .enum-told .given .1) ∙ c .before .before .check .ensures .answer) refl
+file-length-requires c κs = few-shots (c .before .before .before .before .before .args .field) (c .before .before .before .before .before .args .edge) (c .before .before .before .before .before .args .grid) (c .before .before .before .before .before .args .coords .now) (sym (c .enum-told .given .1) ∙ (c .before .before .check .ensures .answer))
 
 returns : tie.Need-returns
 returns c = write-short _ _ _ _ _ (sym (c .before .before .enum-told .given .1) ∙ c .before .before .before .before .check .ensures .answer) (c .before .file-length .ensures) (c .if1 .taken)

@@ -3,8 +3,8 @@ use native.Mathlib.Omega.{arith}
 use lib.ListN.{length-set}
 use Rattle.capi.proofs.AnsweredLaws.{six-stored}
 use borrow.Author.Needs.{needs}
-use Rattle.capi.proofs.put_six.Statement.{statement}
-use Rattle.capi.proofs.put_six.Tie as tie
+use Rattle.capi.proofs.put_totals.Statement.{statement}
+use Rattle.capi.proofs.put_totals.Tie as tie
 
 slice-write-answer : tie.Need-slice-write-answer
 slice-write-answer c = search needs
@@ -28,10 +28,10 @@ same-length : tie.Need-same-length
 same-length c = search needs
 
 returns : tie.Need-returns
-returns c = six-stored (c .args .answer .now) (c .args .a) (c .args .b) (c .args .c) (c .args .d) (c .args .e) (c .args .f) (c .pre)
+returns c = six-stored (c .args .answer .now) (c .args .number) (c .args .detail) (c .args .t .volume) (c .args .t .area) (c .args .t .edge) (c .args .t .corners) (c .pre)
 
-pub put-six-spec : {M : Type 1} → statement M
-put-six-spec =
+pub put-totals-spec : {M : Type 1} → statement M
+put-totals-spec =
     tie.close
     (tie.spec
     slice-write-answer

@@ -1,0 +1,36 @@
+// Where the numbers of an answer stand, call by call, and how many there are. include/heqdanu.h has the same names with HEQDANU_ before them.
+
+// Every call: the refusal's number, 0 if accepted, and its detail.
+pub const NUMBER: usize = 0;
+
+pub const DETAIL: usize = 1;
+
+// Measuring, listing and counting again.
+pub const VOLUME: usize = 2;
+
+pub const AREA: usize = 3;
+
+pub const EDGE_LENGTH: usize = 4;
+
+pub const CORNERS: usize = 5;
+
+pub const MEASURE_ANSWER: usize = 6;
+
+// The index alone.
+pub const INDEX_ANSWER: usize = 2;
+
+// Reading.
+pub const READ_FIELD: usize = 2;
+
+pub const READ_EDGE: usize = 3;
+
+pub const READ_GRID: usize = 4;
+
+pub const READ_SHOTS: usize = 5;
+
+pub const READ_ANSWER: usize = 6;
+
+// Writing.
+pub const WRITE_BYTES: usize = 2;
+
+pub const WRITE_ANSWER: usize = 3;
