@@ -42,7 +42,7 @@ fn show(terminal: bool, plane: u16, planes: u16) {
 // Takes the line of a terminal away.
 fn clear(terminal: bool) {
     if terminal {
-        io::write_all(STDERR_FILENO, b"                          \r");
+        io::write_all(STDERR_FILENO, b"                            \r");
     }
 }
 
