@@ -22,7 +22,7 @@ array-share-prefix-out : tie.Need-array-share-prefix-out
 array-share-prefix-out c = search needs
 
 slice-aggregate-write-all : tie.Need-slice-aggregate-write-all
-slice-aggregate-write-all c = let q = c .before .before .before .before .recount in sym (length-take-le (q .result) (q .last .1 .1 .1 .0) (omega (arith, q .ensures .room, q .kept .1 .1 .1 .0)))
+slice-aggregate-write-all c = let q = c .before .before .before .before .recount in sym (length-take-le (q .result) (q .last .1 .1 .1 .0) (omega (arith, q .ensures .text .room, q .kept .1 .1 .1 .0)))
 
 write-all-requires : tie.Need-write-all-requires
 write-all-requires c κs = search needs
