@@ -4,7 +4,7 @@ use mathlib.Core.List.{List, [], _++_, append-assoc, append-nil}
 use Prim.Native.Nat.{ℕ, _+_, _≤_}
 use native.Mathlib.Omega.{arith}
 use lib.ListN.{length, drop, length-append}
-use Rattle.buffer.specs.Wrote.{Wrote}
+use Rattle.buffer.specs.Wrote.{Wrote, inFront}
 use Rattle.buffer.proofs.WroteLaws.{wrote-none, wrote-as, wrote-length, wrote-then}
 
 -- of the list `all`, which goes in from place `at` on, the part up to place `next` is written, and `rest` is to come
@@ -32,8 +32,8 @@ module _ {all before now : List ℕ} {at next : ℕ} {rest : List ℕ} (u : Unde
     pub underway-more : {then : List ℕ} {after : ℕ} → Wrote now then next after part → Underway all before then at after later
     underway-more w = record { done = u .done ++ part; wrote = wrote-then (u .wrote) w; is = parts }
 
--- a list that is written at the front, and then what was there
-pub wrote-front : {before now : List ℕ} {next : ℕ} {xs : List ℕ} → Wrote before now 0 next xs → now ≡ xs ++ drop (length xs) before
+-- a list that is written at the front
+pub wrote-front : {before now : List ℕ} {next : ℕ} {xs : List ℕ} → Wrote before now 0 next xs → now ≡ inFront xs before
 wrote-front {before} {now} {next} {xs} w =
     let e : next ≡ length xs = omega (arith, w .next) in
     w .is ∙ ap (λ (n : ℕ). xs ++ drop n before) e

@@ -9,3 +9,7 @@ pub record Wrote (before after : List ℕ) (at r : ℕ) (xs : List ℕ) : Type 0
   pub next : r ≡ at + length xs
   pub room : r ≤ length before
   pub is : after ≡ take at before ++ (xs ++ drop r before)
+
+-- the slice with the list xs in its first places; the others keep their values
+abbrev pub inFront : List ℕ → List ℕ → List ℕ
+inFront xs before = xs ++ drop (length xs) before

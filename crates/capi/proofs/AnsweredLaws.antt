@@ -16,7 +16,8 @@ use Rattle.measure_intake.specs.Intake.{measuredNumbers, measureTests, measureN
 use Rattle.measure_intake.specs.declared.Measured.{Measured}
 use Rattle.measure.specs.Answers.{listNumbers, listingAfter, ListCall}
 use Rattle.shotfile.specs.Files.{File, file, refused, fileIn, fileOf}
-use Rattle.shotfile.specs.Calls.{inFront, readNumbers, readValues, readCoords, writtenNumbers, writeTests, ifWritten, writeValues, writeBytes, ReadCall, WriteCall}
+use Rattle.buffer.specs.Wrote.{inFront}
+use Rattle.shotfile.specs.Calls.{readNumbers, readValues, readCoords, writtenNumbers, writeTests, ifWritten, writeValues, writeBytes, ReadCall, WriteCall}
 use Rattle.shotfile.specs.declared.reader.ReadAnswer.{ReadAnswer}
 use Rattle.shotfile.specs.declared.writer.WriteAnswer.{WriteAnswer}
 use Rattle.capi.specs.Answered.{indexPlaces, measurePlaces, fits, Told, ifTold, IndexTold, MeasureTold, ListTold, ReadTold, WriteTold}

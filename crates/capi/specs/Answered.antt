@@ -12,7 +12,8 @@ use Rattle.job.specs.Checking.{firstNumbers}
 use Rattle.measure_intake.specs.Intake.{MeasuredNumbers, measureTests, measureNumbers, workAfter}
 use Rattle.measure.specs.Answers.{listNumbers, listingAfter}
 use Rattle.shotfile.specs.Files.{fileIn}
-use Rattle.shotfile.specs.Calls.{inFront, readValues, readCoords, writeValues, writeBytes}
+use Rattle.buffer.specs.Wrote.{inFront}
+use Rattle.shotfile.specs.Calls.{readValues, readCoords, writeValues, writeBytes}
 
 -- ---- numbers in the order of their places
 -- of the index: the refusal's number and detail, 0 and 0 where there is none

@@ -6,6 +6,7 @@ use Prim.Native.Nat.{ℕ, _≤_}
 use native.Mathlib.Omega.{arith}
 use lib.ListN.{length, drop, length-append, length-drop}
 use lib.Seq.{take-at}
+use Rattle.buffer.specs.Wrote.{inFront}
 use Rattle.job.specs.declared.Refusal.{Refusal}
 use Rattle.job.specs.declared.Checked.{Checked}
 use Rattle.job.specs.declared.Checked.the-variants.{Accepted, Refused as Turned}
@@ -16,7 +17,7 @@ use Rattle.shotfile.specs.declared.reader.ReadAnswer.the-variants.{Read,
 use Rattle.shotfile.specs.declared.writer.WriteAnswer.{WriteAnswer}
 use Rattle.shotfile.specs.declared.writer.WriteAnswer.the-variants.{Written, Refused as Unwritten}
 use Rattle.shotfile.specs.Files.{settingFields, File, file, refused, fileIn, fileOf}
-use Rattle.shotfile.specs.Calls.{inFront, readAnswer, readCoords, ReadCall, writeTests, ifWritten, writeAnswer, writeBytes, WriteCall}
+use Rattle.shotfile.specs.Calls.{readAnswer, readCoords, ReadCall, writeTests, ifWritten, writeAnswer, writeBytes, WriteCall}
 use Rattle.shotfile.proofs.Coords.{places-fit}
 use Rattle.shotfile.proofs.ShotsRead.{reads-whole, reads-room}
 use Rattle.shotfile.proofs.Shortest.{file-parts}

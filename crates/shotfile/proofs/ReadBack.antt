@@ -15,9 +15,9 @@ use Rattle.shotfile_records.specs.declared.Fields.{Fields}
 use Rattle.shotfile_records.specs.declared.Taken.the-variants.{Whole}
 use Rattle.shotfile.specs.declared.reader.Step.the-variants.{Shot as Stepped}
 use Rattle.shotfile_records.specs.Records.{headerAbsent, firstAbsent, fieldAt, recordAt, bitOf, fieldOf, mapOf, recordOf}
-use Rattle.shotfile.specs.Files.{settingFields, shotFields, stepAt, shots, withShot, onStep, shotsFrom, file, withSettings, firstShot, onHeader, fileIn, shotRecords, fileOf}
+use Rattle.shotfile.specs.Files.{settingFields, shotFields, shotNumbers, stepAt, shots, withShot, onStep, shotsFrom, file, withSettings, firstShot, onHeader, fileIn, shotRecords, fileOf}
 use Rattle.shotfile_records.proofs.Taking.{field-absent, field-there, taken-whole}
-use Rattle.shotfile.proofs.Coords.{allNumbers, all-numbers}
+use Rattle.shotfile.proofs.Coords.{shots-more, allNumbers, all-numbers}
 use Rattle.shotfile.proofs.Steps.{step-on, shots-end, shots-on}
 use Rattle.shotfile_records.proofs.Putting.{bit-absent, bit-there, bit-small, field-some, field-size, record-size}
 
@@ -30,6 +30,9 @@ pub record SmallFields (f : Fields) : Type 0 where
 abbrev pub SmallShots : List Shot → Type 0
 SmallShots [] = Unit {0}
 SmallShots (t ∷ ts) = SmallFields (shotFields t) × SmallShots ts
+
+pub small-more : (e : ℕ) (f : Fields) (coords : List ℕ) → SmallShots (shotsOf e (shotNumbers f ++ coords)) → SmallFields f × SmallShots (shotsOf e coords)
+small-more e f coords h = rw (shots-more e f coords) at h
 
 -- a field
 field-read : (pre post : List ℕ) (absent v : ℕ) → v < 65536 → v ≡ fieldAt (pre ++ (fieldOf absent v ++ post)) (length pre) (bitOf absent v) absent

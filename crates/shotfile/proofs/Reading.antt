@@ -3,6 +3,7 @@ use mathlib.Core.Path.{_≡_, refl, sym, ap, _∙_}
 use mathlib.Core.List.{List}
 use Prim.Native.Nat.{ℕ, _≤_}
 use native.Mathlib.Omega.{arith}
+use Rattle.buffer.specs.Wrote.{inFront}
 use Rattle.job.specs.declared.Refusal.{Refusal}
 use Rattle.job.specs.Job.{shotCount}
 use Rattle.shotfile_records.specs.declared.Fields.{Fields}
@@ -13,7 +14,7 @@ use Rattle.shotfile.specs.declared.reader.ReadAnswer.the-variants.{Read,
 use Rattle.shotfile_records.specs.Records.{headerAbsent, firstAbsent, recordAt}
 use Rattle.shotfile.specs.Files.{Rest, shots, faulty, shotsFrom, File, file, refused, withSettings, fileIn, nextShots}
 use Rattle.shotfile.proofs.ShotsRead.{reads, reads-room, reads-next}
-use Rattle.shotfile.specs.Calls.{inFront, countOf, readAnswer, readNumbers, readValues, readCoords, ReadCall}
+use Rattle.shotfile.specs.Calls.{countOf, readAnswer, readNumbers, readValues, readCoords, ReadCall}
 
 module _ (s : List ℕ) where
   -- what a count of the shots says

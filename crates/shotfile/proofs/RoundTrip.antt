@@ -12,6 +12,7 @@ use native.Mathlib.Omega.{arith}
 use lib.Dec.{T}
 use lib.ListN.{length, take, drop}
 use lib.Seq.{take-at}
+use Rattle.buffer.specs.Wrote.{inFront}
 use Rattle.lattice.specs.Shots.{Shot, AllInField}
 use Rattle.job.specs.Job.{shotsOf, shotCount, firstShots, Valid}
 use Rattle.job.proofs.Conditions.{accepted-valid}
@@ -20,7 +21,7 @@ use Rattle.shotfile.specs.declared.reader.ReadAnswer.the-variants.{Read}
 use Rattle.shotfile.specs.declared.writer.WriteAnswer.{WriteAnswer}
 use Rattle.shotfile.specs.declared.writer.WriteAnswer.the-variants.{Written}
 use Rattle.shotfile.specs.Files.{settingFields, File, file, fileIn, fileOf, shortest}
-use Rattle.shotfile.specs.Calls.{inFront, readNumbers, readAnswer, readValues, readCoords, ReadCall, writtenNumbers, WriteCall}
+use Rattle.shotfile.specs.Calls.{readNumbers, readAnswer, readValues, readCoords, ReadCall, writtenNumbers, WriteCall}
 use Rattle.shotfile.proofs.Coords.{threes-whole}
 use Rattle.shotfile.proofs.ReadBack.{SmallFields, SmallShots, file-read}
 use Rattle.shotfile.proofs.Tight.{file-tight}

@@ -3,7 +3,8 @@ use mathlib.Core.Path.{_≡_}
 use mathlib.Core.List.{List, [], _∷_, _++_}
 use Prim.Native.Nat.{ℕ}
 use lib.Dec.{ltb}
-use lib.ListN.{length, drop}
+use lib.ListN.{length}
+use Rattle.buffer.specs.Wrote.{inFront}
 use Rattle.job.specs.declared.Refusal.the-variants.{ShortFile}
 use Rattle.job.specs.declared.Checked.{Checked}
 use Rattle.job.specs.declared.Checked.the-variants.{Accepted, Refused as Turned}
@@ -18,10 +19,6 @@ use Rattle.shotfile.specs.declared.reader.Counted.the-variants.{Shots, R
 use Rattle.shotfile.specs.declared.reader.ReadAnswer.{ReadAnswer}
 use Rattle.shotfile.specs.declared.reader.ReadAnswer.the-variants.{Read, Refused as Unread}
 use Rattle.shotfile.specs.Files.{Rest, shots, faulty, File, file, refused, fileIn, fileOf}
-
--- a list in the first places of a lent slice; the others keep their values
-abbrev pub inFront : List ℕ → List ℕ → List ℕ
-inFront xs before = xs ++ drop (length xs) before
 
 -- ---- reading
 -- how many shots the rest of a file has

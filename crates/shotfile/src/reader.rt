@@ -8,9 +8,10 @@ use shotfile_records::header_absent;
 use shotfile_records::take_record;
 ghost use mathlib.Core.Path.{_≡_};
 ghost use Prim.Native.Nat.{_≤_};
+ghost use Rattle.buffer.specs.Wrote.{inFront};
 ghost use Rattle.job.specs.Job.{shotCount};
 ghost use Rattle.shotfile.specs.Files.{stepAt, shotsFrom, nextShots};
-ghost use Rattle.shotfile.specs.Calls.{countOf, inFront, ReadCall};
+ghost use Rattle.shotfile.specs.Calls.{countOf, ReadCall};
 
 // A place of a shot file, and the coordinates of the last shot taken: zeros before the first.
 pub struct Cursor {

@@ -9,9 +9,10 @@ use shotfile_records::record_length;
 ghost use mathlib.Core.Path.{_≡_};
 ghost use Prim.Native.Nat.{_≤_, _<_};
 ghost use lib.ListN.{length};
+ghost use Rattle.buffer.specs.Wrote.{inFront};
 ghost use Rattle.job.specs.Job.{shotCount};
 ghost use Rattle.shotfile.specs.Files.{coordsAt, fileOf};
-ghost use Rattle.shotfile.specs.Calls.{inFront, WriteCall};
+ghost use Rattle.shotfile.specs.Calls.{WriteCall};
 
 // What `write` answers.
 pub enum WriteAnswer {

@@ -1,23 +1,25 @@
 -- The lines of a shot file's text, by what stands in them; how long they are.
-use mathlib.Core.Path.{_≡_, sym}
+use mathlib.Core.Path.{_≡_, sym, ap}
 use mathlib.Core.Bool.{Bool, true, false, cond}
 use mathlib.Core.List.{List, [], _++_}
-use Prim.Native.Nat.{ℕ, _+_, _/_, _%_, _≤_, _<_}
+use Prim.Native.Nat.{ℕ, _+_, _/_, _%_, _≤_}
 use native.Mathlib.Omega.{arith}
-use lib.Dec.{ltb, eqb}
+use lib.Dec.{eqb}
 use lib.ListN.{length, length-append}
-use borrow.Author.Tests.{le-ltb, lt-ltb, eq-eqb, ne-eqb}
+use borrow.Author.Tests.{eq-eqb, ne-eqb}
 use Rattle.buffer.specs.Wrote.{Wrote}
 use Rattle.buffer.proofs.WroteLaws.{wrote-none, wrote-as}
+use Rattle.job.specs.declared.Place.{Place}
+use Rattle.job.specs.declared.Place.the-variants.{Byte, Shot, Nowhere}
 use Rattle.job.specs.declared.Refusal.{Refusal}
-use Rattle.job.specs.Refusals.{numberOf, detailOf}
+use Rattle.job.specs.Refusals.{numberOf, detailOf, metAt}
 use Rattle.shotfile_records.specs.declared.Fields.{Fields}
 use Rattle.text_report.specs.Text.{text}
 use Rattle.text_report.specs.Lines.{decimal}
 use Rattle.text_report.proofs.LineLaws.{digits-length}
 use Rattle.text_wording.specs.Sentences.{sentence}
 use Rattle.text_wording.proofs.SentenceLaws.{sentence-length}
-use Rattle.shotfile_lines.specs.Lines.{labelled, note, settingLine, settings, shotLine, place, refusedLine}
+use Rattle.shotfile_lines.specs.Lines.{labelled, note, settingLine, settings, shotLine, placeText, refusedLine}
 
 pub labelled-length : (label : List ℕ) (a : ℕ) → length (labelled label a) ≤ length label + 20
 labelled-length label a = omega (arith, length-append label (decimal a), digits-length 20 a)
@@ -47,7 +49,7 @@ unfolding settingLine
 setting-length name value bit =
     omega (arith, length-append (labelled name value) (note bit ++ text "\n"), length-append (note bit) (text "\n"), labelled-length name value, note-length bit)
 
-pub settings-length : (m : ℕ) (f : Fields) → length (settings m f) ≤ 128
+settings-length : (m : ℕ) (f : Fields) → length (settings m f) ≤ 128
 unfolding settings
 settings-length m f =
     let one = settingLine (text "field ") (f .first) (m % 2) in
@@ -62,43 +64,24 @@ settings-length m f =
       setting-length (text "grid ") (f .third) (m / 4),
     )
 
+pub settings-few : (m : ℕ) (f : Fields) {w w' : List ℕ} {at r : ℕ} → Wrote w w' at r (settings m f) → Wrote w w' at r (settings m f) × (r ≤ at + 128)
+settings-few m f t = (t, omega (arith, t .next, settings-length m f))
+
 -- ---- where a refusal is met
-module _ (number detail : ℕ) where
-  pub place-shot : number ≡ 9 → labelled (text " at shot ") detail ≡ place number detail
-  unfolding place
-  place-shot e = simp (eq-eqb number 9 e)
+module _ (detail : ℕ) where
+  pub at-byte : (place : Place) → place ≡ Byte → labelled (text " at byte ") detail ≡ placeText place detail
+  at-byte place e = sym (ap (λ (p : Place). placeText p detail) e)
 
-  module _ (h : number ≡ 9 → ⊥) where
-    no-place : {w : List ℕ} {at : ℕ} → place number detail ≡ [] → at + 29 ≤ length w → Wrote w w at at (place number detail)
-    no-place {w} {at} e r = wrote-as (sym e) (wrote-none w at (omega arith))
+  pub at-shot : (place : Place) → place ≡ Shot → labelled (text " at shot ") detail ≡ placeText place detail
+  at-shot place e = sym (ap (λ (p : Place). placeText p detail) e)
 
-    low : number < 2 → place number detail ≡ []
-    unfolding place
-    low l = simp (ne-eqb number 9 h, lt-ltb number 2 l)
+  pub nowhere : (place : Place) (w : List ℕ) (at : ℕ) → place ≡ Nowhere → at + 29 ≤ length w → Wrote w w at at (placeText place detail)
+  nowhere place w at e r = wrote-as (sym (ap (λ (p : Place). placeText p detail) e)) (wrote-none w at (omega arith))
 
-    high : 2 ≤ number → 5 < number → place number detail ≡ []
-    unfolding place
-    high l g = simp (ne-eqb number 9 h, le-ltb number 2 l, lt-ltb 5 number g)
-
-    pub place-byte : 2 ≤ number → number ≤ 5 → labelled (text " at byte ") detail ≡ place number detail
-    unfolding place
-    place-byte l g = simp (ne-eqb number 9 h, le-ltb number 2 l, le-ltb 5 number g)
-
-  pub no-place-low : (w : List ℕ) (at : ℕ) → (number ≡ 9 → ⊥) → number < 2 → at + 29 ≤ length w → Wrote w w at at (place number detail)
-  no-place-low w at h l r = no-place h (low h l) r
-
-  pub no-place-high : (w : List ℕ) (at : ℕ) → (number ≡ 9 → ⊥) → 2 ≤ number → 5 < number → at + 29 ≤ length w → Wrote w w at at (place number detail)
-  no-place-high w at h l g r = no-place h (high h l g) r
-
-  pub place-length : length (place number detail) ≤ 29
-  unfolding place
-  place-length = go (eqb number 9) (ltb number 2) (ltb 5 number)
-    where
-      go : (a b c : Bool) → length (cond a (labelled (text " at shot ") detail) (cond b [] (cond c [] (labelled (text " at byte ") detail)))) ≤ 29
-      go true b c = labelled-length (text " at shot ") detail
-      go false true c = omega arith
-      go false false true = omega arith
-      go false false false = labelled-length (text " at byte ") detail
+  pub place-length : (place : Place) → length (placeText place detail) ≤ 29
+  place-length Byte = labelled-length (text " at byte ") detail
+  place-length Shot = labelled-length (text " at shot ") detail
+  place-length Nowhere = omega arith
 
 -- ---- whole lines
 pub refused-length : (r : Refusal) → length (refusedLine r) ≤ 128
@@ -106,11 +89,11 @@ unfolding refusedLine
 refused-length r =
     omega (
       arith,
-      length-append (labelled (text "refused ") (numberOf r)) (place (numberOf r) (detailOf r) ++ (text ": " ++ (sentence r ++ text "\n"))),
-      length-append (place (numberOf r) (detailOf r)) (text ": " ++ (sentence r ++ text "\n")),
+      length-append (labelled (text "refused ") (numberOf r)) (placeText (metAt r) (detailOf r) ++ (text ": " ++ (sentence r ++ text "\n"))),
+      length-append (placeText (metAt r) (detailOf r)) (text ": " ++ (sentence r ++ text "\n")),
       length-append (sentence r) (text "\n"),
       labelled-length (text "refused ") (numberOf r),
-      place-length (numberOf r) (detailOf r),
+      place-length (detailOf r) (metAt r),
       sentence-length r,
     )
 

@@ -3,8 +3,10 @@
 use mathlib.Core.Bool.{cond}
 use mathlib.Core.List.{List, [], _++_}
 use Prim.Native.Nat.{ℕ, _/_, _%_}
-use lib.Dec.{ltb, eqb}
-use Rattle.job.specs.Refusals.{numberOf, detailOf}
+use lib.Dec.{eqb}
+use Rattle.job.specs.Refusals.{numberOf, detailOf, metAt}
+use Rattle.job.specs.declared.Place.{Place}
+use Rattle.job.specs.declared.Place.the-variants.{Byte, Shot, Nowhere}
 use Rattle.job.specs.declared.Refusal.{Refusal}
 use Rattle.shotfile_records.specs.declared.Fields.{Fields}
 use Rattle.text_report.specs.Text.{text}
@@ -40,19 +42,17 @@ shotLine f n at =
     ++ (labelled (text ", byte ") at
     ++ text "\n"))))
 
--- where a refusal is met: a shot for 9, the place of a map for 2 to 5, and nothing for the others
-unfoldable pub place : ℕ → ℕ → List ℕ
-place number detail =
-    cond (eqb number 9) (labelled (text " at shot ") detail)
-    (cond (ltb number 2) []
-    (cond (ltb 5 number) []
-    (labelled (text " at byte ") detail)))
+-- where a refusal with this detail is met: the byte of a map, a shot, or nothing
+abbrev pub placeText : Place → ℕ → List ℕ
+placeText Byte detail = labelled (text " at byte ") detail
+placeText Shot detail = labelled (text " at shot ") detail
+placeText Nowhere detail = []
 
 -- a refusal: its number, where it is met, and its sentence
 unfoldable pub refusedLine : Refusal → List ℕ
 refusedLine r =
     labelled (text "refused ") (numberOf r)
-    ++ (place (numberOf r) (detailOf r)
+    ++ (placeText (metAt r) (detailOf r)
     ++ (text ": "
     ++ (sentence r
     ++ text "\n")))

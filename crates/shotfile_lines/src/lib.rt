@@ -1,6 +1,7 @@
 // The lines of a shot file's text: a setting, a shot with its number and place, a refusal with its sentence. Each is put at a place of a lent
 // slice, and the answer is the place after the line; every other place keeps its value. specs/Lines.antt says what the lines are.
 // Stands on `shotfile_records` and `job`, whose fields and refusals it puts, and on `text_report`, `text_wording` and `buffer` for the bytes of a text.
+use job::Place;
 use job::Refusal;
 use shotfile_records::Fields;
 use text_report::put_byte;
@@ -10,7 +11,7 @@ use text_wording::put_sentence;
 ghost use Prim.Native.Nat.{_+_, _≤_};
 ghost use lib.ListN.{length};
 ghost use Rattle.buffer.specs.Wrote.{Wrote};
-ghost use Rattle.shotfile_lines.specs.Lines.{labelled, note, settingLine, settings, shotLine, place, refusedLine};
+ghost use Rattle.shotfile_lines.specs.Lines.{labelled, note, settingLine, settings, shotLine, placeText, refusedLine};
 
 // Puts a label and a decimal value.
 fn put_labelled(out: &mut [u8], at: usize, label: &[u8], a: u64) -> usize
@@ -46,6 +47,7 @@ pub fn put_setting(out: &mut [u8], at: usize, name: &[u8], value: u16, bit: u8) 
 pub fn put_settings(out: &mut [u8], at: usize, map: u8, header: Fields) -> usize
     requires { ⌜ at + 128 ≤ length (now out) ⌝ }
     ensures { λ r. ⌜ Wrote (now (out .entry)) (now (out .exit)) at r (settings map header) ⌝ }
+    ensures few { λ r. ⌜ r ≤ at + 128 ⌝ }
 {
     let field = put_setting(out, at, b"field ", header.first, map % 2);
     let edge = put_setting(out, field, b"edge ", header.second, map / 2 % 2);
@@ -65,21 +67,16 @@ pub fn put_shot(out: &mut [u8], at: usize, shot: Fields, n: usize, byte: usize) 
     put_byte(out, placed, 10)
 }
 
-// Puts where the refusal with this number is met: the byte of a map, a shot, or nothing.
-fn put_place(out: &mut [u8], at: usize, number: u8, detail: usize) -> usize
+// Puts where a refusal with this detail is met: the byte of a map, a shot, or nothing.
+fn put_place(out: &mut [u8], at: usize, place: Place, detail: usize) -> usize
     requires { ⌜ at + 29 ≤ length (now out) ⌝ }
-    ensures { λ r. ⌜ Wrote (now (out .entry)) (now (out .exit)) at r (place number detail) ⌝ }
+    ensures { λ r. ⌜ Wrote (now (out .entry)) (now (out .exit)) at r (placeText place detail) ⌝ }
 {
-    if number == 9 {
-        return put_labelled(out, at, b" at shot ", detail as u64);
+    match place {
+        Place::Byte => put_labelled(out, at, b" at byte ", detail as u64),
+        Place::Shot => put_labelled(out, at, b" at shot ", detail as u64),
+        Place::Nowhere => at,
     }
-    if number < 2 {
-        return at;
-    }
-    if 5 < number {
-        return at;
-    }
-    put_labelled(out, at, b" at byte ", detail as u64)
 }
 
 // Puts the line of a refusal, with its sentence.
@@ -89,7 +86,8 @@ pub fn put_refused(out: &mut [u8], at: usize, refusal: Refusal) -> usize
 {
     let number = job::number(refusal);
     let numbered = put_labelled(out, at, b"refused ", number as u64);
-    let placed = put_place(out, numbered, number, job::detail(refusal));
+    let place = job::met_at(refusal);
+    let placed = put_place(out, numbered, place, job::detail(refusal));
     let split = put_word(out, placed, b": ");
     let said = put_sentence(out, split, refusal);
     put_byte(out, said, 10)

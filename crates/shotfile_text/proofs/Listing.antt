@@ -3,14 +3,13 @@
 -- of a file that does not read, some lines and then its refusal. Assumes nothing.
 use mathlib.Core.Path.{_≡_, refl, sym, ap, _∙_, subst}
 use mathlib.Core.Bool.{Bool, true, false, cond}
-use mathlib.Core.List.{List, [], _∷_, _++_, append-assoc, append-nil}
-use Prim.Native.Nat.{ℕ, zero, suc, _+_, _-_, _*_, _≤_}
+use mathlib.Core.List.{List, [], _++_, append-assoc, append-nil}
+use Prim.Native.Nat.{ℕ, zero, suc, _+_, _-_, _≤_}
 use native.Mathlib.Omega.{arith}
 use lib.Dec.{ltb}
 use lib.ListN.{length, getD}
-use borrow.Author.Tests.{le-ltb}
 use Rattle.job.specs.declared.Refusal.{Refusal}
-use Rattle.job.specs.declared.Refusal.the-variants.{TooManyShots, NoPlace}
+use Rattle.job.specs.declared.Refusal.the-variants.{TooManyShots}
 use Rattle.job.specs.Checking.{checked}
 use Rattle.shotfile_records.specs.declared.Fields.{Fields}
 use Rattle.shotfile_records.specs.declared.Taken.{Taken}
@@ -18,23 +17,14 @@ use Rattle.shotfile_records.specs.declared.Taken.the-variants.{Whole, Refused}
 use Rattle.shotfile.specs.declared.reader.Cursor.{Cursor}
 use Rattle.shotfile.specs.declared.reader.Step.the-variants.{End}
 use Rattle.shotfile_records.specs.Records.{headerAbsent, recordAt}
-use Rattle.shotfile.specs.Files.{stepOf, stepAt, Rest, shots, faulty, withShot, onStep, shotsFrom, File, file, refused, firstShot, withSettings, onHeader, fileIn}
+use Rattle.shotfile.specs.Files.{shotNumbers, stepOf, stepAt, Rest, shots, faulty, withShot, onStep, shotsFrom, File, file, refused, firstShot, withSettings, onHeader, fileIn}
 use Rattle.shotfile_lines.specs.Lines.{settings, shotLine, refusedLine}
-use Rattle.shotfile_text.specs.Text.{stepLine, shotLines, listVerdict, verdict, recordsText, fileText}
+use Rattle.shotfile_text.specs.Text.{stepLine, shotLines, listVerdict, verdict, recordsText, plainText}
 
--- the lines of shots with these coordinates, the first of them shot n, whose maps are at these places
-abbrev pub linesOf : ℕ → List ℕ → List ℕ → List ℕ
-linesOf n [] coords = []
-linesOf n (at ∷ ats) [] = []
-linesOf n (at ∷ ats) (x ∷ []) = []
-linesOf n (at ∷ ats) (x ∷ y ∷ []) = []
-linesOf n (at ∷ ats) (x ∷ y ∷ z ∷ coords) = shotLine (record { first = x; second = y; third = z }) n at ++ linesOf (n + 1) ats coords
-
--- lines show coordinates, one line for every three
-pub record Shows (n : ℕ) (coords lines : List ℕ) : Type 0 where
-  pub places : List ℕ
-  pub one-each : 3 * length places ≡ length coords
-  pub is : lines ≡ linesOf n places coords
+-- lines show coordinates: a line for each shot, whose numbers it says, the first of them shot n
+pub data Shows : ℕ → List ℕ → List ℕ → Type 0 where
+  none : {n : ℕ} → Shows n [] []
+  more : {n : ℕ} {coords lines : List ℕ} (f : Fields) (at : ℕ) → Shows (n + 1) coords lines → Shows n (shotNumbers f ++ coords) (shotLine f n at ++ lines)
 
 -- lines show some shots, and then the refusal of a record
 pub record Breaks (n : ℕ) (r : Refusal) (lines : List ℕ) : Type 0 where
@@ -48,45 +38,36 @@ abbrev ShowsRest : ℕ → Rest → List ℕ → Type 0
 ShowsRest n (shots coords) lines = Shows n coords lines
 ShowsRest n (faulty r) lines = Breaks n r lines
 
-shows-none : (n : ℕ) → Shows n [] []
-shows-none n = record { places = []; one-each = refl; is = refl }
-
 breaks-here : (n : ℕ) (r : Refusal) → Breaks n r (refusedLine r)
-breaks-here n r = record { coords = []; whole = []; shown = shows-none n; is = refl }
-
-shows-more : (n at : ℕ) (f : Fields) {coords lines : List ℕ} → Shows (n + 1) coords lines → Shows n (f .first ∷ f .second ∷ f .third ∷ coords) (shotLine f n at ++ lines)
-shows-more n at f h = record { places = at ∷ h .places; one-each = omega (arith, h .one-each); is = ap (λ (x : List ℕ). shotLine f n at ++ x) (h .is) }
+breaks-here n r = record { coords = []; whole = []; shown = none; is = refl }
 
 rest-more : (n at : ℕ) (f : Fields) (rest : Rest) (lines : List ℕ) → ShowsRest (n + 1) rest lines → ShowsRest n (withShot f rest) (shotLine f n at ++ lines)
-rest-more n at f (shots coords) lines h = shows-more n at f h
+rest-more n at f (shots coords) lines h = more f at h
 rest-more n at f (faulty r) lines h =
     record {
-      coords = f .first ∷ f .second ∷ f .third ∷ h .coords;
+      coords = shotNumbers f ++ h .coords;
       whole = shotLine f n at ++ h .whole;
-      shown = shows-more n at f (h .shown);
+      shown = more f at (h .shown);
       is = ap (λ (x : List ℕ). shotLine f n at ++ x) (h .is) ∙ sym (append-assoc (shotLine f n at) (h .whole) (refusedLine r));
     }
 
-shows-rest : (left n places : ℕ) (s : List ℕ) (c : Cursor) → 3 * left ≤ places → ShowsRest n (shotsFrom left places s c) (shotLines left n s c)
+shows-rest : (left n places : ℕ) (s : List ℕ) (c : Cursor) → left ≤ places → ShowsRest n (shotsFrom left places s c) (shotLines left n s c)
 unfolding shotsFrom shotLines stepAt
 shows-rest zero n places s c h = go (ltb (c .at) (length s))
   where
     go : (b : Bool) → ShowsRest n (cond b (faulty (TooManyShots (c .at))) (shots [])) (cond b (refusedLine (TooManyShots (c .at))) [])
     go true = breaks-here n (TooManyShots (c .at))
-    go false = shows-none n
-shows-rest (suc left) n places s c h =
-    go (ltb (c .at) (length s)) (ltb places 3) (recordAt s (c .at) (c .previous)) (le-ltb places 3 (omega arith)) (λ after. shows-rest left (n + 1) (places - 3) s after (omega arith))
+    go false = none
+shows-rest (suc left) n zero s c h = absurd (omega arith)
+shows-rest (suc left) n (suc places) s c h = go (ltb (c .at) (length s)) (recordAt s (c .at) (c .last)) (λ after. shows-rest left (n + 1) places s after (omega arith))
   where
-    go : (b p : Bool) (t : Taken) → p ≡ false → ((after : Cursor) → ShowsRest (n + 1) (shotsFrom left (places - 3) s after) (shotLines left (n + 1) s after))
-        → ShowsRest n
-        (cond b (cond p (faulty (NoPlace (c .at))) (onStep (cond b (stepOf t) End) (shotsFrom left (places - 3) s))) (shots []))
-        (stepLine n (c .at) (cond b (stepOf t) End) (shotLines left (n + 1) s))
-    go false p t e k = shows-none n
-    go true true t e k = let z : _≡_ {A = ℕ} 0 1 = cc in absurd (omega arith)
-    go true false (Refused r) e k = breaks-here n r
-    go true false (Whole f end) e k =
-        let after : Cursor = record { at = end; previous = f } in
-        rest-more n (c .at) f (shotsFrom left (places - 3) s after) (shotLines left (n + 1) s after) (k after)
+    go : (b : Bool) (t : Taken) → ((after : Cursor) → ShowsRest (n + 1) (shotsFrom left places s after) (shotLines left (n + 1) s after))
+        → ShowsRest n (onStep (cond b (stepOf t) End) (shotsFrom left places s)) (stepLine n (c .at) (cond b (stepOf t) End) (shotLines left (n + 1) s))
+    go false t k = none
+    go true (Refused r) k = breaks-here n r
+    go true (Whole f end) k =
+        let after : Cursor = record { at = end; last = f } in
+        rest-more n (c .at) f (shotsFrom left places s after) (shotLines left (n + 1) s after) (k after)
 
 -- ---- the whole text
 -- the text of a file that reads: the settings, the shots, and the refusal of the list, if there is one
@@ -115,8 +96,8 @@ with-verdict s f (faulty r) lines h e =
           ∙ (ap (λ (x : List ℕ). settings (getD s 0 0) f ++ (x ++ [])) (h .is) ∙ simp (append-assoc, append-nil));
     }
 
-text-shows : (places : ℕ) (s : List ℕ) → 12288 ≤ places → TextShows s (fileIn places s) (fileText places s)
-unfolding fileIn fileText
+text-shows : (places : ℕ) (s : List ℕ) → 4096 ≤ places → TextShows s (fileIn places s) (plainText places s)
+unfolding fileIn plainText
 text-shows places s h = header (recordAt s 0 headerAbsent) refl
   where
     rest : ℕ → Rest
@@ -127,8 +108,8 @@ text-shows places s h = header (recordAt s 0 headerAbsent) refl
         with-verdict s f (rest end) (shotLines 4096 0 s (firstShot end)) (shows-rest 4096 0 places s (firstShot end) (omega arith)) (ap (λ (t : Taken). onHeader t rest) e)
     header (Refused r) e = record { lines = []; is = refl }
 
-pub text-of-file : (places : ℕ) (s : List ℕ) {f : Fields} {coords : List ℕ} → 12288 ≤ places → fileIn places s ≡ file f coords → TextOfFile s f coords (fileText places s)
-text-of-file places s h e = subst (λ (k : File). TextShows s k (fileText places s)) e (text-shows places s h)
+pub text-of-file : (places : ℕ) (s : List ℕ) {f : Fields} {coords : List ℕ} → 4096 ≤ places → fileIn places s ≡ file f coords → TextOfFile s f coords (plainText places s)
+text-of-file places s h e = subst (λ (k : File). TextShows s k (plainText places s)) e (text-shows places s h)
 
-pub text-of-refused : (places : ℕ) (s : List ℕ) {r : Refusal} → 12288 ≤ places → fileIn places s ≡ refused r → TextOfRefused r (fileText places s)
-text-of-refused places s h e = subst (λ (k : File). TextShows s k (fileText places s)) e (text-shows places s h)
+pub text-of-refused : (places : ℕ) (s : List ℕ) {r : Refusal} → 4096 ≤ places → fileIn places s ≡ refused r → TextOfRefused r (plainText places s)
+text-of-refused places s h e = subst (λ (k : File). TextShows s k (plainText places s)) e (text-shows places s h)

@@ -55,13 +55,13 @@ module _ {s all w w' : List ℕ} {at next : ℕ} {c : Cursor} {n : ℕ} (l : Lis
         let m : shotLines (4096 - n) n s c ≡ stepLine n (c .at) (stepAt s c) (shotLines (4096 - (n + 1)) (n + 1) s) = ap (λ (k : ℕ). shotLines k n s c) k ∙ lines-on s c n (4096 - (n + 1)) in
         ap (λ (t : Step). l .lines ++ stepLine n (c .at) t (shotLines (4096 - (n + 1)) (n + 1) s)) e ∙ (ap (λ (x : List ℕ). l .lines ++ x) (sym m) ∙ l .rest)
 
-    pub listed-shot : {w'' : List ℕ} {r : ℕ} {after : Cursor} → Shot after ≡ stepAt s c → Wrote w' w'' next r (shotLine (after .previous) n (c .at)) → Listed s all w w'' at r after (n + 1)
+    pub listed-shot : {w'' : List ℕ} {r : ℕ} {after : Cursor} → Shot after ≡ stepAt s c → Wrote w' w'' next r (shotLine (after .last) n (c .at)) → Listed s all w w'' at r after (n + 1)
     listed-shot {after = after} e x =
         record {
-          lines = l .lines ++ shotLine (after .previous) n (c .at);
+          lines = l .lines ++ shotLine (after .last) n (c .at);
           wrote = wrote-then (l .wrote) x;
-          rest = append-assoc (l .lines) (shotLine (after .previous) n (c .at)) (shotLines (4096 - (n + 1)) (n + 1) s after) ∙ on (Shot after) e;
-          few = omega (arith, l .few, x .next, shot-length (after .previous) n (c .at));
+          rest = append-assoc (l .lines) (shotLine (after .last) n (c .at)) (shotLines (4096 - (n + 1)) (n + 1) s after) ∙ on (Shot after) e;
+          few = omega (arith, l .few, x .next, shot-length (after .last) n (c .at));
         }
 
     pub listed-stopped : {w'' : List ℕ} {r : ℕ} {q : Refusal} → Stopped q ≡ stepAt s c → Wrote w' w'' next r (refusedLine q) → AllListed all w w'' at r

@@ -5,6 +5,7 @@ use mathlib.Core.List.{List, [], _++_}
 use Prim.Native.Nat.{ℕ, zero, suc, _+_}
 use lib.Dec.{ltb}
 use lib.ListN.{length, getD}
+use Rattle.job.specs.Job.{shotCount}
 use Rattle.job.specs.Checking.{checked}
 use Rattle.job.specs.declared.Checked.{Checked}
 use Rattle.job.specs.declared.Checked.the-variants.{Accepted, Refused as Turned}
@@ -16,11 +17,12 @@ use Rattle.shotfile.specs.declared.reader.Step.{Step}
 use Rattle.shotfile.specs.declared.reader.Step.the-variants.{Shot, Refused as Stopped, End}
 use Rattle.shotfile_records.specs.Records.{headerAbsent, recordAt}
 use Rattle.shotfile.specs.Files.{File, file, refused, stepAt, firstShot, fileIn}
+use Rattle.shotfile.specs.Calls.{readCoords}
 use Rattle.shotfile_lines.specs.Lines.{settings, shotLine, refusedLine}
 
 -- what a step gives for shot n with the map at a place, and then the rest
 abbrev pub stepLine : ℕ → ℕ → Step → (Cursor → List ℕ) → List ℕ
-stepLine n at (Shot c) rest = shotLine (c .previous) n at ++ rest c
+stepLine n at (Shot c) rest = shotLine (c .last) n at ++ rest c
 stepLine n at (Stopped r) rest = refusedLine r
 stepLine n at End rest = []
 
@@ -43,6 +45,10 @@ abbrev pub recordsText : ℕ → List ℕ → Taken → List ℕ
 recordsText places s (Whole f end) = settings (getD s 0 0) f ++ (shotLines 4096 0 s (firstShot end) ++ verdict (fileIn places s))
 recordsText places s (Refused r) = refusedLine r
 
--- the text of a file; the list is read into so many coordinate places
-unfoldable pub fileText : ℕ → List ℕ → List ℕ
-fileText places s = recordsText places s (recordAt s 0 headerAbsent)
+-- the text of a file, where the coordinate slice has places for so many shots
+unfoldable pub plainText : ℕ → List ℕ → List ℕ
+plainText places s = recordsText places s (recordAt s 0 headerAbsent)
+
+-- the coordinate slice then: what reading the file leaves in it
+abbrev pub coordsAfter : List ℕ → List ℕ → List ℕ
+coordsAfter s coords = readCoords (fileIn (shotCount coords) s) coords

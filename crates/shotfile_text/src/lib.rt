@@ -14,9 +14,10 @@ ghost use mathlib.Core.Path.{_≡_};
 ghost use Prim.Native.Nat.{_+_, _≤_};
 ghost use lib.ListN.{length};
 ghost use Rattle.buffer.specs.Wrote.{Wrote};
+ghost use Rattle.job.specs.Job.{shotCount};
 ghost use Rattle.job.specs.Checking.{checked};
 ghost use Rattle.shotfile.specs.Files.{fileIn};
-ghost use Rattle.shotfile_text.specs.Text.{shotLines, listVerdict, verdict, fileText};
+ghost use Rattle.shotfile_text.specs.Text.{shotLines, listVerdict, verdict, plainText, coordsAfter};
 
 // Puts the lines of the shots from a cursor on, and the line of the first faulty record.
 fn put_shots(bytes: &[u8], out: &mut [u8], at: usize, start: Cursor) -> usize
@@ -31,7 +32,7 @@ fn put_shots(bytes: &[u8], out: &mut [u8], at: usize, start: Cursor) -> usize
         let place = c.at;
         match c.step(bytes) {
             Step::Shot(after) => {
-                let shot = after.previous;
+                let shot = after.last;
                 next = put_shot(out, next, shot, n, place);
                 c = after;
             }
@@ -69,10 +70,11 @@ fn put_list_verdict(
     }
 }
 
-// Puts the line of the refusal that the list of a whole file gets, or nothing.
+// Reads the list of a whole file, and puts the line of the refusal that it gets, or nothing.
 fn put_verdict(bytes: &[u8], coords: &mut [u16], out: &mut [u8], at: usize) -> usize
     requires { ⌜ at + 128 ≤ length (now out) ⌝ }
-    ensures { λ r. ⌜ Wrote (now (out .entry)) (now (out .exit)) at r (verdict (fileIn (length (now (coords .entry))) (now (bytes .entry)))) ⌝ }
+    ensures { λ r. ⌜ Wrote (now (out .entry)) (now (out .exit)) at r (verdict (fileIn (shotCount (now (coords .entry))) (now (bytes .entry)))) ⌝ }
+    ensures coordinates { λ _. ⌜ now (coords .exit) ≡ coordsAfter (now (bytes .entry)) (now (coords .entry)) ⌝ }
 {
     let read = shotfile::read(bytes, coords);
     match read {
@@ -81,27 +83,25 @@ fn put_verdict(bytes: &[u8], coords: &mut [u16], out: &mut [u8], at: usize) -> u
             edge,
             grid,
             shots,
-        } => {
-            let n = 3 * shots;
-            put_list_verdict(field, edge, grid, &coords[..n], out, at)
-        }
+        } => put_list_verdict(field, edge, grid, job::shot::first(coords, shots), out, at),
         ReadAnswer::Refused(_) => at,
     }
 }
 
-// Puts the text of a file at the front, and gives its length. The coordinate places are room for reading the list.
+// Puts the text of a file at the front, and gives its length. The list of a file that reads well is in the coordinate slice then.
 pub fn put_text(bytes: &[u8], coords: &mut [u16], out: &mut [u8]) -> usize
     requires { ⌜ 524288 ≤ length (now out) ⌝ }
-    ensures { λ r. ⌜ Wrote (now (out .entry)) (now (out .exit)) 0 r (fileText (length (now (coords .entry))) (now (bytes .entry))) ⌝ }
+    ensures { λ r. ⌜ Wrote (now (out .entry)) (now (out .exit)) 0 r (plainText (shotCount (now (coords .entry))) (now (bytes .entry))) ⌝ }
+    ensures coordinates { λ _. ⌜ now (coords .exit) ≡ coordsAfter (now (bytes .entry)) (now (coords .entry)) ⌝ }
 {
     let absent = shotfile_records::header_absent();
     match shotfile_records::take_record(bytes, 0, absent) {
         Taken::Whole { fields, end } => {
             let set = put_settings(out, 0, bytes[0], fields);
-            let previous = shotfile_records::first_absent();
+            let last = shotfile_records::first_absent();
             let start = Cursor {
                 at: end,
-                previous: previous,
+                last: last,
             };
             let listed = put_shots(bytes, out, set, start);
             put_verdict(bytes, coords, out, listed)

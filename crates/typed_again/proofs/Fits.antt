@@ -8,7 +8,7 @@ use lib.Dec.{ltb, eqb}
 use lib.ListN.{length, getD, length-append}
 use borrow.Author.Tests.{lt-ltb}
 use Rattle.job.specs.declared.Checked.the-variants.{Accepted}
-use Rattle.job.specs.Job.{Valid}
+use Rattle.job.specs.Job.{shotsOf, shotCount, Valid}
 use Rattle.job.specs.Checking.{checked}
 use Rattle.job.proofs.Conditions.{accepted-valid}
 use Rattle.text_report.specs.Text.{text}
@@ -17,13 +17,14 @@ use Rattle.shotfile_records.specs.declared.Fields.{Fields}
 use Rattle.shotfile.specs.declared.reader.Cursor.{Cursor}
 use Rattle.shotfile_records.specs.Records.{headerAbsent}
 use Rattle.shotfile.specs.Files.{file, firstShot, fileIn}
+use Rattle.shotfile.proofs.Coords.{count-more}
 use Rattle.shotfile.proofs.ShotsRead.{Reads, done, shot}
 use Rattle.shotfile.proofs.Shortest.{file-parts}
 use Rattle.shotfile.proofs.WriteBack.{parts}
-use Rattle.shotfile.proofs.ReadBack.{Small}
-use Rattle.shotfile.proofs.RoundTrip.{small-coords}
+use Rattle.shotfile.proofs.ReadBack.{SmallShots, small-more}
+use Rattle.shotfile.proofs.RoundTrip.{small-shots}
 use Rattle.shotfile_lines.specs.Lines.{note, settingLine, settings, shotLine}
-use Rattle.shotfile_text.specs.Text.{shotLines, fileText}
+use Rattle.shotfile_text.specs.Text.{shotLines, plainText}
 use Rattle.typed_again.proofs.Retyped.{lines-end, lines-shot, file-text}
 
 -- ---- numbers with few digits
@@ -71,25 +72,28 @@ settings-length m f hf he hg =
     )
 
 -- ---- the shots: a record has at most 7 bytes
-shots-length : (s : List ℕ) {room : ℕ} {c : Cursor} {cs : List ℕ} → Reads s room c cs → Small cs → (left n : ℕ)
-    → length cs ≤ 3 * left
-    → n + length cs / 3 ≤ 4096
-    → c .at + 7 * (length cs / 3) ≤ 28679
-    → length (shotLines left n s c) ≤ 50 * (length cs / 3)
-shots-length s {room} {c} (done h) small left n l m p = omega (arith, ap length (lines-end s left n c h))
-shots-length s (shot h k q r) small zero n l m p = absurd (omega arith)
-shots-length s {room} {c} (shot {f = f} {end = end} {cs = cs} h k q r) small (suc left) n l m p =
-    let b = parts s (c .at) (c .previous) q in
+shots-length : (s : List ℕ) (e : ℕ) {allowed room : ℕ} {c : Cursor} {coords : List ℕ} → Reads s allowed room c coords → SmallShots (shotsOf e coords) → (left n : ℕ)
+    → shotCount coords ≤ left
+    → n + shotCount coords ≤ 4096
+    → c .at + 7 * shotCount coords ≤ 28679
+    → length (shotLines left n s c) ≤ 50 * shotCount coords
+shots-length s e {allowed} {room} {c} (done h) small left n l m p = omega (arith, ap length (lines-end s left n c h))
+shots-length s e (shot {f = f} {coords = coords} h q r) small zero n l m p = absurd (omega (arith, count-more f coords))
+shots-length s e {allowed} {room} {c} (shot {f = f} {end = end} {coords = coords} h q r) small (suc left) n l m p =
+    let b = parts s (c .at) (c .last) q in
+    let (here, later) = small-more e f coords small in
+    let more-shots = count-more f coords in
     omega (
       arith,
+      more-shots,
       ap length (lines-shot s left n c h q),
-      length-append (shotLine f n (c .at)) (shotLines left (n + 1) s (record { at = end; previous = f })),
-      shot-length f n (c .at) (small .0) (small .1 .0) (small .1 .1 .0) (omega arith) (omega arith),
-      shots-length s r (small .1 .1 .1) left (n + 1) (omega arith) (omega arith) (omega (arith, b .end-is, b .known)),
+      length-append (shotLine f n (c .at)) (shotLines left (n + 1) s (record { at = end; last = f })),
+      shot-length f n (c .at) (here .first-small) (here .second-small) (here .third-small) (omega (arith, more-shots)) (omega (arith, more-shots)),
+      shots-length s e r later left (n + 1) (omega (arith, more-shots)) (omega (arith, more-shots)) (omega (arith, more-shots, b .end-is, b .known)),
     )
 
 -- ---- the text
-pub text-fits : (s : List ℕ) (places : ℕ) (f : Fields) (coords : List ℕ) → fileIn places s ≡ file f coords → checked (f .first) (f .second) (f .third) coords ≡ Accepted → length (fileText places s) ≤ 262143
+pub text-fits : (s : List ℕ) (places : ℕ) (f : Fields) (coords : List ℕ) → fileIn places s ≡ file f coords → checked (f .first) (f .second) (f .third) coords ≡ Accepted → length (plainText places s) ≤ 262143
 text-fits s places f coords e a =
     let q = file-parts s places e in
     let v : Valid (f .first) (f .second) (f .third) coords = accepted-valid (f .first) (f .second) (f .third) coords .0 a in
@@ -99,6 +103,6 @@ text-fits s places f coords e a =
       ap length (file-text s places f coords e a),
       length-append (settings (getD s 0 0) f) (shotLines 4096 0 s (firstShot (q .end))),
       settings-length (getD s 0 0) f (omega (arith, v .field-most)) (omega (arith, v .field-most, v .edge-most)) (omega (arith, v .grid-most)),
-      shots-length s (q .rest) (small-coords (f .first) (f .second) coords (v .field-most) (v .threes) (v .inside)) 4096 0 (omega (arith, v .threes, v .few)) (omega (arith, v .few)) (omega (arith, v .few, b .end-is, b .known)),
+      shots-length s (f .second) (q .rest) (small-shots (f .first) (shotsOf (f .second) coords) (v .field-most) (v .inside)) 4096 0 (omega (arith, v .few)) (omega (arith, v .few)) (omega (arith, v .few, b .end-is, b .known)),
       v .few,
     )

@@ -2,16 +2,15 @@
 use mathlib.Core.Path.{_≡_, refl, sym, ap, subst, _∙_}
 use mathlib.Core.Bool.{Bool, true, false, cond}
 use mathlib.Core.List.{List, [], _∷_, _++_, append-assoc, append-nil}
-use Prim.Native.Nat.{ℕ, zero, suc, _+_, _-_, _*_, _/_, _%_, _≤_}
+use Prim.Native.Nat.{ℕ, zero, suc, _+_, _-_, _/_, _%_, _≤_}
 use native.Mathlib.Omega.{arith}
 use lib.Dec.{ltb}
 use lib.ListN.{length, getD}
-use borrow.Author.Tests.{ltb-true}
 use Rattle.job.specs.declared.Checked.the-variants.{Refused as Turned}
 use Rattle.job.specs.declared.Refusal.{Refusal}
-use Rattle.job.specs.declared.Refusal.the-variants.{TooManyShots, NoPlace}
+use Rattle.job.specs.declared.Refusal.the-variants.{TooManyShots}
 use Rattle.job.specs.Checking.{checked}
-use Rattle.job.specs.Refusals.{numberOf, detailOf}
+use Rattle.job.specs.Refusals.{numberOf, detailOf, metAt}
 use Rattle.text_report.specs.Text.{text}
 use Rattle.text_report.specs.Lines.{decimal}
 use Rattle.shotfile_records.specs.declared.Fields.{Fields}
@@ -23,8 +22,8 @@ use Rattle.shotfile.specs.declared.reader.Step.the-variants.{Shot as Step-shot,
 use Rattle.shotfile_records.specs.Records.{headerAbsent, recordAt}
 use Rattle.shotfile.specs.Files.{Rest, shots, faulty, withShot, onStep, stepAt, shotsFrom, file, refused, withSettings, onHeader, firstShot, fileIn}
 use Rattle.shotfile.proofs.Shortest.{file-parts}
-use Rattle.shotfile_lines.specs.Lines.{labelled, note, settingLine, settings, shotLine, place, refusedLine}
-use Rattle.shotfile_text.specs.Text.{stepLine, shotLines, listVerdict, verdict, recordsText, fileText}
+use Rattle.shotfile_lines.specs.Lines.{labelled, note, settingLine, settings, shotLine, placeText, refusedLine}
+use Rattle.shotfile_text.specs.Text.{stepLine, shotLines, listVerdict, verdict, recordsText, plainText}
 use Rattle.text_wording.specs.Sentences.{sentence}
 use Rattle.typed_line.specs.declared.entry.Mistake.{Mistake}
 use Rattle.typed_line.specs.declared.entry.Mistake.the-variants.{UnknownWord}
@@ -80,7 +79,7 @@ refused-has t = subst Has (sym (lines-cut [] (text "refused " ++ t))) (here {m =
 refusal-has : (r : Refusal) (rest : List ℕ) → Has (linesOf (refusedLine r ++ rest))
 unfolding refusedLine
 refusal-has r rest =
-    let words : List ℕ = place (numberOf r) (detailOf r) ++ (text ": " ++ (sentence r ++ text "\n")) in
+    let words : List ℕ = placeText (metAt r) (detailOf r) ++ (text ": " ++ (sentence r ++ text "\n")) in
     subst (λ (k : List ℕ). Has (linesOf k)) (parts (text "refused ") (decimal (numberOf r)) words) (refused-has (decimal (numberOf r) ++ (words ++ rest)))
   where
     parts : (a b c : List ℕ) → a ++ (b ++ (c ++ rest)) ≡ ((a ++ b) ++ c) ++ rest
@@ -126,49 +125,47 @@ module _ (s : List ℕ) where
   shots-keep (suc left) n c rest h = go (stepAt s c) (λ c'. shots-keep left (n + 1) c' rest h)
     where
       go : (t : Step) → ((c' : Cursor) → Has (linesOf (shotLines left (n + 1) s c' ++ rest))) → Has (linesOf (stepLine n (c .at) t (shotLines left (n + 1) s) ++ rest))
-      go (Step-shot c') k = subst (λ (t : List ℕ). Has (linesOf t)) (regroup (shotLine (c' .previous) n (c .at)) (shotLines left (n + 1) s c') rest) (shot-keep (c' .previous) n (c .at) (shotLines left (n + 1) s c' ++ rest) (k c'))
+      go (Step-shot c') k = subst (λ (t : List ℕ). Has (linesOf t)) (regroup (shotLine (c' .last) n (c .at)) (shotLines left (n + 1) s c') rest) (shot-keep (c' .last) n (c .at) (shotLines left (n + 1) s c' ++ rest) (k c'))
       go (Stopped r) k = refusal-has r rest
       go End k = h
 
   -- a faulty record gives one, where the places do not run out before the shots that are allowed
-  shots-has : (left places n : ℕ) (c : Cursor) {r : Refusal} (rest : List ℕ) → 3 * left ≤ places → shotsFrom left places s c ≡ faulty r → Has (linesOf (shotLines left n s c ++ rest))
+  shots-has : (left places n : ℕ) (c : Cursor) {r : Refusal} (rest : List ℕ) → left ≤ places → shotsFrom left places s c ≡ faulty r → Has (linesOf (shotLines left n s c ++ rest))
   unfolding shotLines shotsFrom
   shots-has zero places n c {r} rest p e = go (ltb (c .at) (length s)) e
     where
       go : (b : Bool) → cond b (faulty (TooManyShots (c .at))) (shots []) ≡ faulty r → Has (linesOf (cond b (refusedLine (TooManyShots (c .at))) [] ++ rest))
       go true e = refusal-has (TooManyShots (c .at)) rest
       go false e = let z : _≡_ {A = ℕ} 0 1 = cc in absurd (omega arith)
-  shots-has (suc left) places n c {r} rest p e = go (ltb (c .at) (length s)) (ltb places 3) refl (stepAt s c) (λ c' e'. shots-has left (places - 3) (n + 1) c' rest (omega arith) e') e
+  shots-has (suc left) zero n c {r} rest p e = absurd (omega arith)
+  shots-has (suc left) (suc places) n c {r} rest p e = go (stepAt s c) (λ c' e'. shots-has left places (n + 1) c' rest (omega arith) e') e
     where
       next : (f : Fields) (k : Rest) → withShot f k ≡ faulty r → k ≡ faulty r
-      next f (shots cs) e = let z : _≡_ {A = ℕ} 0 1 = cc in absurd (omega arith)
+      next f (shots coords) e = let z : _≡_ {A = ℕ} 0 1 = cc in absurd (omega arith)
       next f (faulty q) e = e
 
-      go : (b u : Bool) → ltb places 3 ≡ u → (t : Step)
-          → ((c' : Cursor) → shotsFrom left (places - 3) s c' ≡ faulty r → Has (linesOf (shotLines left (n + 1) s c' ++ rest)))
-          → cond b (cond u (faulty (NoPlace (c .at))) (onStep t (shotsFrom left (places - 3) s))) (shots []) ≡ faulty r
+      go : (t : Step) → ((c' : Cursor) → shotsFrom left places s c' ≡ faulty r → Has (linesOf (shotLines left (n + 1) s c' ++ rest)))
+          → onStep t (shotsFrom left places s) ≡ faulty r
           → Has (linesOf (stepLine n (c .at) t (shotLines left (n + 1) s) ++ rest))
-      go false u q t k e = let z : _≡_ {A = ℕ} 0 1 = cc in absurd (omega arith)
-      go true true q t k e = absurd (omega (arith, ltb-true places 3 q))
-      go true false q (Step-shot c') k e = subst (λ (t : List ℕ). Has (linesOf t)) (regroup (shotLine (c' .previous) n (c .at)) (shotLines left (n + 1) s c') rest) (shot-keep (c' .previous) n (c .at) (shotLines left (n + 1) s c' ++ rest) (k c' (next (c' .previous) (shotsFrom left (places - 3) s c') e)))
-      go true false q (Stopped r') k e = refusal-has r' rest
-      go true false q End k e = let z : _≡_ {A = ℕ} 0 1 = cc in absurd (omega arith)
+      go (Step-shot c') k e = subst (λ (t : List ℕ). Has (linesOf t)) (regroup (shotLine (c' .last) n (c .at)) (shotLines left (n + 1) s c') rest) (shot-keep (c' .last) n (c .at) (shotLines left (n + 1) s c' ++ rest) (k c' (next (c' .last) (shotsFrom left places s c') e)))
+      go (Stopped r') k e = refusal-has r' rest
+      go End k e = let z : _≡_ {A = ℕ} 0 1 = cc in absurd (omega arith)
 
   -- ---- the text
-  file-has : (places : ℕ) {r : Refusal} → 12288 ≤ places → fileIn places s ≡ refused r → Has (linesOf (fileText places s))
-  unfolding fileText fileIn
+  file-has : (places : ℕ) {r : Refusal} → 4096 ≤ places → fileIn places s ≡ refused r → Has (linesOf (plainText places s))
+  unfolding plainText fileIn
   file-has places {r} p e = go (recordAt s 0 headerAbsent) e
     where
       rest : (f : Fields) (k : Rest) → withSettings f k ≡ refused r → k ≡ faulty r
-      rest f (shots cs) e = let z : _≡_ {A = ℕ} 0 1 = cc in absurd (omega arith)
+      rest f (shots coords) e = let z : _≡_ {A = ℕ} 0 1 = cc in absurd (omega arith)
       rest f (faulty q) e = let m : q ≡ r = cc in ap faulty m
 
       go : (t : Taken) → onHeader t (λ end. shotsFrom 4096 places s (firstShot end)) ≡ refused r → Has (linesOf (recordsText places s t))
       go (Whole f end) e = settings-keep (getD s 0 0) f (shotLines 4096 0 s (firstShot end) ++ verdict (fileIn places s)) (shots-has 4096 places 0 (firstShot end) (verdict (fileIn places s)) (omega arith) (rest f (shotsFrom 4096 places s (firstShot end)) e))
       go (Refused q) e = subst (λ (t : List ℕ). Has (linesOf t)) (append-nil (refusedLine q)) (refusal-has q [])
 
-  list-has : (places : ℕ) (f : Fields) (coords : List ℕ) {r : Refusal} → fileIn places s ≡ file f coords → checked (f .first) (f .second) (f .third) coords ≡ Turned r → Has (linesOf (fileText places s))
-  unfolding fileText
+  list-has : (places : ℕ) (f : Fields) (coords : List ℕ) {r : Refusal} → fileIn places s ≡ file f coords → checked (f .first) (f .second) (f .third) coords ≡ Turned r → Has (linesOf (plainText places s))
+  unfolding plainText
   list-has places f coords {r} e a =
       let p = file-parts s places e in
       let v : verdict (fileIn places s) ≡ refusedLine r = ap verdict e ∙ ap listVerdict a in
@@ -181,9 +178,9 @@ module _ (s : List ℕ) where
   mistakes room t h = stops room nothingYet 1 h
 
   -- (a) of a file that is refused
-  pub refused-mistakes : (places room : ℕ) {r : Refusal} → 12288 ≤ places → fileIn places s ≡ refused r → Mistakes (typedList room (fileText places s))
-  refused-mistakes places room p e = mistakes room (fileText places s) (file-has places p e)
+  pub refused-mistakes : (places room : ℕ) {r : Refusal} → 4096 ≤ places → fileIn places s ≡ refused r → Mistakes (typedList room (plainText places s))
+  refused-mistakes places room p e = mistakes room (plainText places s) (file-has places p e)
 
   -- (b) of a file whose list is refused
-  pub turned-mistakes : (places room : ℕ) (f : Fields) (coords : List ℕ) {r : Refusal} → fileIn places s ≡ file f coords → checked (f .first) (f .second) (f .third) coords ≡ Turned r → Mistakes (typedList room (fileText places s))
-  turned-mistakes places room f coords e a = mistakes room (fileText places s) (list-has places f coords e a)
+  pub turned-mistakes : (places room : ℕ) (f : Fields) (coords : List ℕ) {r : Refusal} → fileIn places s ≡ file f coords → checked (f .first) (f .second) (f .third) coords ≡ Turned r → Mistakes (typedList room (plainText places s))
+  turned-mistakes places room f coords e a = mistakes room (plainText places s) (list-has places f coords e a)

@@ -2,14 +2,14 @@
 -- coordinates; and (c) where the file is in its shortest form, the file of that list is the same file. Assumes nothing.
 use mathlib.Core.Path.{_≡_, refl, sym, ap, _∙_}
 use mathlib.Core.List.{List, [], _++_, append-assoc, append-nil}
-use Prim.Native.Nat.{ℕ, zero, suc, _+_, _*_, _/_, _%_, _≤_, _<_}
+use Prim.Native.Nat.{ℕ, zero, suc, _+_, _/_, _%_, _≤_, _<_}
 use native.Mathlib.Omega.{arith}
 use lib.Dec.{T}
 use lib.ListN.{length, getD}
 use borrow.Author.Tests.{le-ltb}
 use Rattle.job.specs.declared.Checked.{Checked}
 use Rattle.job.specs.declared.Checked.the-variants.{Accepted}
-use Rattle.job.specs.Job.{Valid}
+use Rattle.job.specs.Job.{shotsOf, shotCount, Valid}
 use Rattle.job.specs.Checking.{checked}
 use Rattle.job.proofs.Conditions.{accepted-valid}
 use Rattle.text_report.specs.Text.{text}
@@ -17,15 +17,16 @@ use Rattle.shotfile_records.specs.declared.Fields.{Fields}
 use Rattle.shotfile_records.specs.declared.Taken.the-variants.{Whole}
 use Rattle.shotfile.specs.declared.reader.Cursor.{Cursor}
 use Rattle.shotfile_records.specs.Records.{recordAt}
-use Rattle.shotfile.specs.Files.{File, file, firstShot, fileIn, fileOf, shortest}
+use Rattle.shotfile.specs.Files.{shotNumbers, File, file, firstShot, fileIn, fileOf, shortest}
+use Rattle.shotfile.proofs.Coords.{count-none, count-more}
 use Rattle.shotfile.proofs.Steps.{step-end, step-on}
 use Rattle.shotfile.proofs.ShotsRead.{Reads, done, shot, reads-room}
 use Rattle.shotfile.proofs.Shortest.{file-parts}
-use Rattle.shotfile.proofs.ReadBack.{Small}
-use Rattle.shotfile.proofs.RoundTrip.{small-coords, written-read}
+use Rattle.shotfile.proofs.ReadBack.{SmallShots, small-more}
+use Rattle.shotfile.proofs.RoundTrip.{small-shots, written-read}
 use Rattle.shotfile.proofs.WriteBack.{Bytes}
 use Rattle.shotfile_lines.specs.Lines.{settingLine, settings, shotLine}
-use Rattle.shotfile_text.specs.Text.{shotLines, listVerdict, verdict, recordsText, fileText}
+use Rattle.shotfile_text.specs.Text.{shotLines, listVerdict, verdict, recordsText, plainText}
 use Rattle.typed_line.specs.declared.entry.Entry.{Entry}
 use Rattle.typed_list.specs.declared.draft.Draft.{Draft}
 use Rattle.typed_list.specs.declared.draft.Next.the-variants.{Goes}
@@ -72,27 +73,29 @@ module _ (s : List ℕ) where
   lines-end zero n c h = rw (le-ltb (c .at) (length s) h)
   lines-end (suc left) n c h = rw (sym (step-end s c h))
 
-  pub lines-shot : (left n : ℕ) (c : Cursor) {f : Fields} {end : ℕ} → c .at < length s → recordAt s (c .at) (c .previous) ≡ Whole f end
-      → shotLines (suc left) n s c ≡ shotLine f n (c .at) ++ shotLines left (n + 1) s (record { at = end; previous = f })
+  pub lines-shot : (left n : ℕ) (c : Cursor) {f : Fields} {end : ℕ} → c .at < length s → recordAt s (c .at) (c .last) ≡ Whole f end
+      → shotLines (suc left) n s c ≡ shotLine f n (c .at) ++ shotLines left (n + 1) s (record { at = end; last = f })
   unfolding shotLines
   lines-shot left n c {f} {end} h e = rw (sym (step-on s c h (Whole f end) (sym e)))
 
-  back-shots : {room : ℕ} {c : Cursor} {cs : List ℕ} → Reads s room c cs → Small cs → (places left n line : ℕ) (d : Draft)
-      → length cs ≤ 3 * left
-      → d .shots + length cs / 3 ≤ 4096
-      → 3 * d .shots + length cs ≤ places
-      → Back places d line (shotLines left n s c) (listed (more d (length cs / 3))) cs
-  back-shots {room} {c} (done h) small places left n line d l m r =
-      let e : d .shots ≡ d .shots + 0 / 3 = omega arith in
-      back-as (sym (lines-end left n c h)) (ap (Listed (d .field .number) (d .edge .number) (d .grid .number)) e) (back-end d line)
-  back-shots (shot h k q r') small places zero n line d l m r = absurd (omega arith)
-  back-shots {room} {c} (shot {f = f} {end = end} {cs = cs} h k q r') small places (suc left) n line d l m r =
-      let e : d .shots + 1 + length cs / 3 ≡ d .shots + suc (suc (suc (length cs))) / 3 = omega arith in
-      back-as (sym (lines-shot left n c h q)) (ap (Listed (d .field .number) (d .edge .number) (d .grid .number)) e)
+  back-shots : (e : ℕ) {allowed room : ℕ} {c : Cursor} {coords : List ℕ} → Reads s allowed room c coords → SmallShots (shotsOf e coords) → (places left n line : ℕ) (d : Draft)
+      → shotCount coords ≤ left
+      → d .shots + shotCount coords ≤ 4096
+      → d .shots + shotCount coords ≤ places
+      → Back places d line (shotLines left n s c) (listed (more d (shotCount coords))) coords
+  back-shots e {allowed} {room} {c} (done h) small places left n line d l m r =
+      let k : d .shots ≡ d .shots + shotCount [] = omega (arith, count-none) in
+      back-as (sym (lines-end left n c h)) (ap (Listed (d .field .number) (d .edge .number) (d .grid .number)) k) (back-end d line)
+  back-shots e (shot {f = f} {coords = coords} h q r') small places zero n line d l m r = absurd (omega (arith, count-more f coords))
+  back-shots e {allowed} {room} {c} (shot {f = f} {end = end} {coords = coords} h q r') small places (suc left) n line d l m r =
+      let (here, later) = small-more e f coords small in
+      let more-shots = count-more f coords in
+      let k : d .shots + 1 + shotCount coords ≡ d .shots + shotCount (shotNumbers f ++ coords) = omega (arith, more-shots) in
+      back-as (sym (lines-shot left n c h q)) (ap (Listed (d .field .number) (d .edge .number) (d .grid .number)) k)
       (back-line d line
-      (shot-line (f .first) (f .second) (f .third) n (c .at) (omega (arith, small .0)) (omega (arith, small .1 .0)) (omega (arith, small .1 .1 .0)) (shotLines left (n + 1) s (record { at = end; previous = f })))
-      (shots-room places d (omega arith) (omega arith) ∙ then-shot places d refl)
-      (back-shots r' (small .1 .1 .1) places left (n + 1) (line + 1) (more d 1) (omega arith) (omega arith) (omega arith)))
+      (shot-line (f .first) (f .second) (f .third) n (c .at) (omega (arith, here .first-small)) (omega (arith, here .second-small)) (omega (arith, here .third-small)) (shotLines left (n + 1) s (record { at = end; last = f })))
+      (shots-room places d (omega (arith, more-shots)) (omega (arith, more-shots)) ∙ then-shot places d refl)
+      (back-shots e r' later places left (n + 1) (line + 1) (more d 1) (omega (arith, more-shots)) (omega (arith, more-shots)) (omega (arith, more-shots))))
 
 -- ---- the settings
 field-plain : Plain (text "field")
@@ -136,8 +139,8 @@ module _ (s : List ℕ) (places : ℕ) (f : Fields) (coords : List ℕ) (e : fil
   valid : Valid (f .first) (f .second) (f .third) coords
   valid = accepted-valid (f .first) (f .second) (f .third) coords .0 a
 
-  pub file-text : fileText places s ≡ settings (getD s 0 0) f ++ shotLines 4096 0 s (firstShot (file-parts s places e .end))
-  unfolding fileText
+  pub file-text : plainText places s ≡ settings (getD s 0 0) f ++ shotLines 4096 0 s (firstShot (file-parts s places e .end))
+  unfolding plainText
   file-text =
       ap (recordsText places s) (file-parts s places e .header)
       ∙ ap (λ (k : List ℕ). settings (getD s 0 0) f ++ k)
@@ -145,23 +148,23 @@ module _ (s : List ℕ) (places : ℕ) (f : Fields) (coords : List ℕ) (e : fil
       ∙ (ap (λ (k : Checked). shotLines 4096 0 s (firstShot (file-parts s places e .end)) ++ listVerdict k) a
       ∙ append-nil (shotLines 4096 0 s (firstShot (file-parts s places e .end)))))
 
-  back : Back places nothingYet 1 (fileText places s) (Listed (f .first) (f .second) (f .third) (length coords / 3)) coords
+  back : Back places nothingYet 1 (plainText places s) (Listed (f .first) (f .second) (f .third) (shotCount coords)) coords
   back =
       let p = file-parts s places e in
       let v = valid in
-      let n : 0 + length coords / 3 ≡ length coords / 3 = omega arith in
+      let n : 0 + shotCount coords ≡ shotCount coords = omega arith in
       back-as (sym file-text) (ap (Listed (f .first) (f .second) (f .third)) n)
       (back-settings (getD s 0 0) f (omega (arith, v .field-most)) (omega (arith, v .field-most, v .edge-most)) (omega (arith, v .grid-most))
-      (back-shots s (p .rest) (small-coords (f .first) (f .second) coords (v .field-most) (v .threes) (v .inside)) places 4096 0 4 (set f) (omega (arith, v .threes, v .few)) (omega (arith, v .few)) (omega (arith, reads-room (p .rest)))))
+      (back-shots s (f .second) (p .rest) (small-shots (f .first) (shotsOf (f .second) coords) (v .field-most) (v .inside)) places 4096 0 4 (set f) (omega (arith, v .few)) (omega (arith, v .few)) (omega (arith, reads-room (p .rest)))))
 
   -- (a) the settings and the number of shots
-  pub retyped-list : typedList places (fileText places s) ≡ Listed (f .first) (f .second) (f .third) (length coords / 3)
-  retyped-list = sym (typed-start places (fileText places s) refl) ∙ back .list
+  pub retyped-list : typedList places (plainText places s) ≡ Listed (f .first) (f .second) (f .third) (shotCount coords)
+  retyped-list = sym (typed-start places (plainText places s) refl) ∙ back .list
 
   -- (b) the coordinates
-  pub retyped-shots : shotsIn (linesOf (fileText places s)) ≡ coords
+  pub retyped-shots : shotsIn (linesOf (plainText places s)) ≡ coords
   retyped-shots = back .shots
 
   -- (c) from a file in its shortest form, the file that is written for the typed list is that file, byte for byte
-  pub rewritten : Bytes s → T (shortest s) → fileOf (f .first) (f .second) (f .third) (shotsIn (linesOf (fileText places s))) ≡ s
+  pub rewritten : Bytes s → T (shortest s) → fileOf (f .first) (f .second) (f .third) (shotsIn (linesOf (plainText places s))) ≡ s
   rewritten b t = ap (fileOf (f .first) (f .second) (f .third)) retyped-shots ∙ written-read s places (f .first) (f .second) (f .third) coords b t e

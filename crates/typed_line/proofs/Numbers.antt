@@ -9,7 +9,7 @@ use lib.ListN.{length, drop, getD, drop-of-length-le}
 use borrow.Author.Tests.{leb-true, le-leb, lt-leb, eq-eqb, ne-eqb}
 use Rattle.text_report.specs.Lines.{valueFrom}
 use Rattle.typed_line.specs.declared.entry.Number.the-variants.{Is, NoDigit, TooLarge}
-use Rattle.typed_line.specs.Entries.{digit, digitsOnly, numberOf, same}
+use Rattle.typed_line.specs.Entries.{digit, digitsOnly, wordNumber, same}
 use Rattle.typed_line.proofs.Cutting.{here}
 
 -- ---- digits
@@ -72,16 +72,16 @@ pub value-end : (w : List ℕ) (v i : ℕ) → length w ≤ i → valueFrom v (d
 value-end w v i h = ap (valueFrom v) (drop-of-length-le w h) ∙ value-none v
 
 -- ---- numbers
-pub number-not : (w : List ℕ) → digitsOnly w ≡ false → NoDigit ≡ numberOf w
-unfolding numberOf
+pub number-not : (w : List ℕ) → digitsOnly w ≡ false → NoDigit ≡ wordNumber w
+unfolding wordNumber
 number-not w e = rw e
 
-pub number-large : (w : List ℕ) → digitsOnly w ≡ true → 65535 < valueFrom 0 w → TooLarge ≡ numberOf w
-unfolding numberOf
+pub number-large : (w : List ℕ) → digitsOnly w ≡ true → 65535 < valueFrom 0 w → TooLarge ≡ wordNumber w
+unfolding wordNumber
 number-large w e h = rw (e, lt-leb (valueFrom 0 w) 65535 h)
 
-pub number-is : (w : List ℕ) (v : ℕ) → digitsOnly w ≡ true → valueFrom 0 w ≡ v → v ≤ 65535 → Is v ≡ numberOf w
-unfolding numberOf
+pub number-is : (w : List ℕ) (v : ℕ) → digitsOnly w ≡ true → valueFrom 0 w ≡ v → v ≤ 65535 → Is v ≡ wordNumber w
+unfolding wordNumber
 number-is w v e q h = rw (e, q, le-leb v 65535 h)
 
 -- ---- the same bytes

@@ -14,7 +14,7 @@ use Rattle.typed_line.specs.declared.entry.Setting.{Setting}
 use Rattle.typed_line.specs.declared.entry.Number.the-variants.{Is}
 use Rattle.typed_line.specs.declared.entry.Entry.the-variants.{Setting as Settled, Shot}
 use Rattle.typed_line.specs.Words.{before, newline, hash, blank, linesOf, ended, wordsOf}
-use Rattle.typed_line.specs.Entries.{digitsOnly, numberOf, onNumber, settingOf, shotOf}
+use Rattle.typed_line.specs.Entries.{digitsOnly, wordNumber, onNumber, settingOf, shotOf}
 use Rattle.typed_line.proofs.Cutting.{linesAfter, lines-cut, words-cut, words-blank, words-none, ended-some}
 use Rattle.typed_line.proofs.Numbers.{both, number-is}
 
@@ -133,7 +133,7 @@ module _ (a : ℕ) where
   decimal-some = digits-some 19 a
 
   -- a number of 16 bits, read back from its digits
-  pub decimal-number : a ≤ 65535 → numberOf (decimal a) ≡ Is a
+  pub decimal-number : a ≤ 65535 → wordNumber (decimal a) ≡ Is a
   decimal-number h = sym (number-is (decimal a) a (digits-only (digits-are 20 a)) (decimal-value a (omega arith)) h)
 
 -- ---- a setting and a shot

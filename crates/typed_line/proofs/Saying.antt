@@ -13,7 +13,7 @@ use Rattle.typed_line.specs.declared.entry.Number.the-variants.{Is, NoDi
 use Rattle.typed_line.specs.declared.entry.Mistake.the-variants.{UnknownWord, TooFewWords, TooManyWords, NoNumber, LargeNumber}
 use Rattle.typed_line.specs.declared.entry.Entry.{Entry}
 use Rattle.typed_line.specs.declared.entry.Entry.the-variants.{Nothing, Setting as Settled, Shot, Wrong}
-use Rattle.typed_line.specs.Entries.{numberOf, same, commandOf, onNumber, settingOf, shotOf, commanded, entryOf}
+use Rattle.typed_line.specs.Entries.{wordNumber, same, commandOf, onNumber, settingOf, shotOf, commanded, entryOf}
 
 -- ---- the first word
 module _ (w : List ℕ) where
@@ -60,7 +60,7 @@ module _ (s : Setting) where
   setting-none e = rw e
 
   module _ {words rest : List (List ℕ)} {n : List ℕ} (e : words ≡ n ∷ rest) where
-    pub setting-one : rest ≡ [] → onNumber (numberOf n) (Settled s) ≡ settingOf s words
+    pub setting-one : rest ≡ [] → onNumber (wordNumber n) (Settled s) ≡ settingOf s words
     unfolding settingOf
     setting-one q = rw (e, q)
 
@@ -83,7 +83,7 @@ module _ {words after : List (List ℕ)} {x : List ℕ} (e : words ≡ x ∷ aft
     shot-two q = rw (e, f, q)
 
     module _ {after₃ : List (List ℕ)} {z : List ℕ} (g : after₂ ≡ z ∷ after₃) where
-      pub shot-three : {i j k : Number} → i ≡ numberOf x → j ≡ numberOf y → k ≡ numberOf z → after₃ ≡ [] → onNumber i (λ a. onNumber j (λ b. onNumber k (Shot a b))) ≡ shotOf words
+      pub shot-three : {i j k : Number} → i ≡ wordNumber x → j ≡ wordNumber y → k ≡ wordNumber z → after₃ ≡ [] → onNumber i (λ a. onNumber j (λ b. onNumber k (Shot a b))) ≡ shotOf words
       unfolding shotOf
       shot-three hx hy hz q = simp (e, f, g, q, hx, hy, hz)
 

@@ -26,8 +26,8 @@ digitsOnly [] = true
 digitsOnly (b ∷ s) = digit b && digitsOnly s
 
 -- a number is decimal digits only, and at most 65,535; zeros may lead
-unfoldable pub numberOf : List ℕ → Number
-numberOf word = cond (digitsOnly word) (cond (leb (valueFrom 0 word) 65535) (Is (valueFrom 0 word)) TooLarge) NoDigit
+unfoldable pub wordNumber : List ℕ → Number
+wordNumber word = cond (digitsOnly word) (cond (leb (valueFrom 0 word) 65535) (Is (valueFrom 0 word)) TooLarge) NoDigit
 
 -- ---- the first word
 -- whether two words have the same bytes
@@ -55,7 +55,7 @@ onNumber TooLarge make = Wrong LargeNumber
 -- a setting has one number
 unfoldable pub settingOf : Setting → List (List ℕ) → Entry
 settingOf s [] = Wrong TooFewWords
-settingOf s (n ∷ []) = onNumber (numberOf n) (Settled s)
+settingOf s (n ∷ []) = onNumber (wordNumber n) (Settled s)
 settingOf s (n ∷ m ∷ words) = Wrong TooManyWords
 
 -- a shot has three numbers
@@ -63,7 +63,7 @@ unfoldable pub shotOf : List (List ℕ) → Entry
 shotOf [] = Wrong TooFewWords
 shotOf (x ∷ []) = Wrong TooFewWords
 shotOf (x ∷ y ∷ []) = Wrong TooFewWords
-shotOf (x ∷ y ∷ z ∷ []) = onNumber (numberOf x) (λ a. onNumber (numberOf y) (λ b. onNumber (numberOf z) (Shot a b)))
+shotOf (x ∷ y ∷ z ∷ []) = onNumber (wordNumber x) (λ a. onNumber (wordNumber y) (λ b. onNumber (wordNumber z) (Shot a b)))
 shotOf (x ∷ y ∷ z ∷ w ∷ words) = Wrong TooManyWords
 
 unfoldable pub commanded : Command → List (List ℕ) → Entry

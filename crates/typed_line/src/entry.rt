@@ -8,7 +8,7 @@ ghost use mathlib.Core.Path.{_≡_};
 ghost use Prim.Native.Nat.{_+_, _-_, _≤_};
 ghost use lib.ListN.{length, drop};
 ghost use Rattle.typed_line.specs.Words.{wordsOf, part};
-ghost use Rattle.typed_line.specs.Entries.{digit, digitsOnly, numberOf, same, commandOf, onNumber, settingOf, shotOf, commanded, entryOf, lineEntry};
+ghost use Rattle.typed_line.specs.Entries.{digit, digitsOnly, wordNumber, same, commandOf, onNumber, settingOf, shotOf, commanded, entryOf, lineEntry};
 ghost use Rattle.typed_line.specs.declared.entry.Entry.the-variants.{Setting as Settled, Shot};
 
 // The settings of a list.
@@ -93,7 +93,7 @@ fn digit_value(b: u8) -> usize
 // What digits are worth, or more than 65,535 where they are worth that.
 fn number_of_digits(word: &[u8]) -> Number
     requires { ⌜ digitsOnly (now word) ≡ true ⌝ }
-    ensures { λ r. ⌜ r ≡ numberOf (now (word .entry)) ⌝ }
+    ensures { λ r. ⌜ r ≡ wordNumber (now (word .entry)) ⌝ }
 {
     let mut v = 0;
     let mut i = 0;
@@ -108,7 +108,7 @@ fn number_of_digits(word: &[u8]) -> Number
 }
 
 fn number_of(word: &[u8]) -> Number
-    ensures { λ r. ⌜ r ≡ numberOf (now (word .entry)) ⌝ }
+    ensures { λ r. ⌜ r ≡ wordNumber (now (word .entry)) ⌝ }
 {
     if digits_only(word) {
         return number_of_digits(word);
@@ -157,7 +157,7 @@ fn command_of(word: &[u8]) -> Command
 fn number_at(line: &[u8], word: Part) -> Number
     requires { ⌜ word .start ≤ word .end ⌝ }
     requires { ⌜ word .end ≤ length (now line) ⌝ }
-    ensures { λ r. ⌜ r ≡ numberOf (part (now (line .entry)) (word .start) (word .end)) ⌝ }
+    ensures { λ r. ⌜ r ≡ wordNumber (part (now (line .entry)) (word .start) (word .end)) ⌝ }
 {
     let start = word.start;
     let end = word.end;

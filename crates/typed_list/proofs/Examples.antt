@@ -1,19 +1,21 @@
 -- Examples of what a text says, by computation: settings and shots, with comments and blanks, and mistakes.
 use mathlib.Core.Path.{_≡_, refl}
-use mathlib.Core.List.{[], _∷_}
+use mathlib.Core.List.{_++_}
 use Prim.Native.String.{String}
+use Rattle.job.specs.Job.{numbersOf}
+use Rattle.shotfile_records.specs.Records.{headerAbsent}
 use Rattle.text_report.specs.Text.{text}
 use Rattle.text_report.specs.Lines.{valueFrom}
 use Rattle.typed_line.specs.declared.entry.Mistake.the-variants.{UnknownWord, TooFewWords, TooManyWords, NoNumber, LargeNumber, SettingTwice, NoPlace}
 use Rattle.typed_list.specs.declared.Typed.{Typed}
 use Rattle.typed_list.specs.declared.Typed.the-variants.{List as Listed, Mistake as Mistaken}
 use Rattle.typed_line.specs.Words.{before, linesFrom, linesOf, wordsFrom}
-use Rattle.typed_line.specs.Entries.{digitsOnly, numberOf, same, commandOf, onNumber, settingOf, shotOf, commanded, entryOf}
+use Rattle.typed_line.specs.Entries.{digitsOnly, wordNumber, same, commandOf, onNumber, settingOf, shotOf, commanded, entryOf}
 use Rattle.typed_list.specs.Lists.{nothingYet, settled, shotMore, then, typedFrom, typedList, shotsIn}
 
 -- with places for two shots
 abbrev says : String → Typed → Type 0
-says t answer = typedList 6 (text t) ≡ answer
+says t answer = typedList 2 (text t) ≡ answer
 
 pub examples :
     says "" (Listed 1024 16 8 0)
@@ -32,6 +34,6 @@ pub examples :
     × says "shot 1 -2 3" (Mistaken 1 NoNumber)
     × says "edge 2\nedge 2" (Mistaken 2 SettingTwice)
     × says "shot 1 1 1\nshot 1 1 1\nshot 1 1 1" (Mistaken 3 NoPlace)
-    × (shotsIn (linesOf (text "shot 1 2 3\nedge 2\nshot 4 5 6 # the second")) ≡ 1 ∷ 2 ∷ 3 ∷ 4 ∷ 5 ∷ 6 ∷ [])
-unfolding before linesFrom wordsFrom digitsOnly valueFrom numberOf same commandOf onNumber settingOf shotOf commanded entryOf nothingYet settled shotMore then typedFrom typedList shotsIn
+    × (shotsIn (linesOf (text "shot 1 2 3\nedge 2\nshot 4 5 6 # the second")) ≡ numbersOf 1 2 3 ++ numbersOf 4 5 6)
+unfolding headerAbsent before linesFrom wordsFrom digitsOnly valueFrom wordNumber same commandOf onNumber settingOf shotOf commanded entryOf nothingYet settled shotMore then typedFrom typedList shotsIn
 examples = (refl, refl, refl, refl, refl, refl, refl, refl, refl, refl, refl, refl, refl, refl, refl, refl, refl)

@@ -1,9 +1,11 @@
 -- What a text says: a list with its settings, or its first mistake.
 use mathlib.Core.Bool.{true, false, cond}
 use mathlib.Core.List.{List, [], _∷_, _++_}
-use Prim.Native.Nat.{ℕ, suc, _+_, _*_}
-use lib.Dec.{ltb, leb}
-use lib.ListN.{length, drop}
+use Prim.Native.Nat.{ℕ, suc, _+_}
+use lib.Dec.{ltb}
+use Rattle.buffer.specs.Wrote.{inFront}
+use Rattle.job.specs.Job.{shotCount, numbersOf}
+use Rattle.shotfile_records.specs.Records.{headerAbsent}
 use Rattle.typed_line.specs.declared.entry.Setting.{Setting}
 use Rattle.typed_line.specs.declared.entry.Setting.the-variants.{Field, Edge, Grid}
 use Rattle.typed_line.specs.declared.entry.Mistake.the-variants.{SettingTwice, TooManyShots, NoPlace}
@@ -26,9 +28,9 @@ absent n = record { number = n; given = false }
 abbrev pub given : ℕ → Given
 given n = record { number = n; given = true }
 
--- before the first line: the shot file's defaults, and no shots
+-- before the first line: what a shot file's header means where it leaves out its fields, and no shots
 unfoldable pub nothingYet : Draft
-nothingYet = record { field = absent 1024; edge = absent 16; grid = absent 8; shots = 0 }
+nothingYet = record { field = absent (headerAbsent .first); edge = absent (headerAbsent .second); grid = absent (headerAbsent .third); shots = 0 }
 
 -- a setting stands at most once
 unfoldable pub settled : Draft → Setting → ℕ → Next
@@ -36,11 +38,11 @@ settled d Field n = cond (d .field .given) (Stops SettingTwice) (Goes (record { 
 settled d Edge n = cond (d .edge .given) (Stops SettingTwice) (Goes (record { field = d .field; edge = given n; grid = d .grid; shots = d .shots }))
 settled d Grid n = cond (d .grid .given) (Stops SettingTwice) (Goes (record { field = d .field; edge = d .edge; grid = given n; shots = d .shots }))
 
--- at most 4,096 shots, and no more than there are places for
+-- at most 4,096 shots, and no more than have a place
 unfoldable pub shotMore : ℕ → Draft → Next
 shotMore places d =
     cond (ltb (d .shots) 4096)
-    (cond (leb (3 * d .shots + 3) places)
+    (cond (ltb (d .shots) places)
     (Goes (record { field = d .field; edge = d .edge; grid = d .grid; shots = d .shots + 1 }))
     (Stops NoPlace))
     (Stops TooManyShots)
@@ -66,7 +68,7 @@ unfoldable pub typedFrom : ℕ → Draft → ℕ → List (List ℕ) → Typed
 typedFrom places d line [] = listed d
 typedFrom places d line (l ∷ lines) = onNext (then places d (lineEntry l)) line (λ d'. typedFrom places d' (suc line) lines)
 
--- lines are counted from 1; for the shots' coordinates there are so many places
+-- lines are counted from 1; so many shots have a place
 unfoldable pub typedList : ℕ → List ℕ → Typed
 typedList places text = typedFrom places nothingYet 1 (linesOf text)
 
@@ -74,7 +76,7 @@ typedList places text = typedFrom places nothingYet 1 (linesOf text)
 abbrev pub coordsOf : Entry → List ℕ
 coordsOf Nothing = []
 coordsOf (Settled s n) = []
-coordsOf (Shot x y z) = x ∷ y ∷ z ∷ []
+coordsOf (Shot x y z) = numbersOf x y z
 coordsOf (Wrong m) = []
 
 -- the coordinates of the shots of these lines
@@ -82,7 +84,11 @@ unfoldable pub shotsIn : List (List ℕ) → List ℕ
 shotsIn [] = []
 shotsIn (l ∷ lines) = coordsOf (lineEntry l) ++ shotsIn lines
 
--- the first places are the shots' coordinates, and the others keep their values, as all do after a mistake
+-- the first places are the coordinates of the shots, and the others keep their values, as all do after a mistake
 unfoldable pub stored : Typed → List ℕ → List ℕ → List ℕ
-stored (Listed field edge grid shots) text places = shotsIn (linesOf text) ++ drop (length (shotsIn (linesOf text))) places
-stored (Mistaken line m) text places = places
+stored (Listed field edge grid shots) text before = inFront (shotsIn (linesOf text)) before
+stored (Mistaken line m) text before = before
+
+-- the coordinate slice after a text
+abbrev pub typedCoords : List ℕ → List ℕ → List ℕ
+typedCoords text before = stored (typedList (shotCount before) text) text before

@@ -1,4 +1,5 @@
 // What the lines above say, and one line more.
+use shotfile_records::header_absent;
 use typed_line::Entry;
 use typed_line::Mistake;
 use typed_line::Setting;
@@ -25,20 +26,22 @@ pub enum Next {
     Stops(Mistake),
 }
 
+// Before the first line: the settings that a shot file leaves out, and no shots.
 pub fn nothing_yet() -> Draft
     ensures { λ r. ⌜ r ≡ nothingYet ⌝ }
 {
+    let absent = header_absent();
     Draft {
         field: Given {
-            number: 1024,
+            number: absent.first,
             given: false,
         },
         edge: Given {
-            number: 16,
+            number: absent.second,
             given: false,
         },
         grid: Given {
-            number: 8,
+            number: absent.third,
             given: false,
         },
         shots: 0,
@@ -93,7 +96,7 @@ fn settle(d: Draft, which: Setting, number: u16) -> Next
     }
 }
 
-// A shot more.
+// A shot more, where so many have a place.
 fn shoot(d: Draft, places: usize) -> Next
     ensures { λ r. ⌜ r ≡ shotMore places d ⌝ }
 {
@@ -104,7 +107,7 @@ fn shoot(d: Draft, places: usize) -> Next
     if 4096 <= shots {
         return Next::Stops(Mistake::TooManyShots);
     }
-    if places < 3 * shots + 3 {
+    if places <= shots {
         return Next::Stops(Mistake::NoPlace);
     }
     Next::Goes(Draft {

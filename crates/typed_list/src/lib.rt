@@ -1,6 +1,7 @@
 // A shot list as it is typed: plain text, a setting or a shot a line. `read_text` takes a text to a list with its settings, or to its
 // first mistake. specs/Lists.antt says what the lines above say, one more, and the text. `draft` has the lines above.
-// Stands on `typed_line`, which reads a single line, and on `buffer`; its examples also on `text_report`.
+// Stands on `typed_line`, which reads a single line, on `job`, whose door stores a shot, on `shotfile_records` for the settings that are left
+// out, and on `buffer`; its examples also on `text_report`.
 mod draft;
 
 use crate::draft::Draft;
@@ -13,13 +14,13 @@ use typed_line::Mistake;
 use typed_line::read_line;
 use typed_line::until;
 ghost use mathlib.Core.Path.{_≡_};
-ghost use mathlib.Core.List.{[], _∷_, _++_};
 ghost use Prim.Native.Nat.{_+_, _≤_};
-ghost use lib.ListN.{length, drop};
-ghost use Rattle.buffer.specs.Wrote.{Wrote};
+ghost use lib.ListN.{length};
+ghost use Rattle.buffer.specs.Wrote.{Wrote, inFront};
+ghost use Rattle.job.specs.Job.{shotCount, placeOf};
 ghost use Rattle.typed_line.specs.Words.{part, linesOf};
 ghost use Rattle.typed_line.specs.Entries.{lineEntry};
-ghost use Rattle.typed_list.specs.Lists.{listed, coordsOf, shotsIn, typedList, stored};
+ghost use Rattle.typed_list.specs.Lists.{listed, coordsOf, shotsIn, typedList, typedCoords};
 
 // What a text says.
 pub enum Typed {
@@ -46,7 +47,7 @@ fn line_at(text: &[u8], start: usize, end: usize) -> Entry
     read_line(&text[start..end])
 }
 
-// What the whole text says, where there are so many places for coordinates.
+// What the whole text says, where so many shots have a place.
 fn check_text(text: &[u8], places: usize) -> Typed
     ensures { λ r. ⌜ r ≡ typedList places (now (text .entry)) ⌝ }
 {
@@ -90,31 +91,29 @@ fn list_of(d: Draft) -> Typed
     }
 }
 
-// Puts the coordinates of an entry at a place, if it is a shot, and gives the place after them.
-fn store_entry(coords: &mut [u16], at: usize, entry: Entry) -> usize
-    requires { ⌜ at + length (coordsOf entry) ≤ length (now coords) ⌝ }
-    ensures { λ r. ⌜ Wrote (now (coords .entry)) (now (coords .exit)) at r (coordsOf entry) ⌝ }
+// Stores an entry after n shots, if it is a shot, and gives the number of shots after it.
+fn store_entry(coords: &mut [u16], n: usize, entry: Entry) -> usize
+    requires { ⌜ placeOf n + length (coordsOf entry) ≤ length (now coords) ⌝ }
+    ensures { λ r. ⌜ Wrote (now (coords .entry)) (now (coords .exit)) (placeOf n) (placeOf r) (coordsOf entry) ⌝ }
 {
     match entry {
-        Entry::Nothing => at,
+        Entry::Nothing => n,
         Entry::Setting {
             which: _,
             number: _,
-        } => at,
+        } => n,
         Entry::Shot { x, y, z } => {
-            coords[at] = x;
-            coords[at + 1] = y;
-            coords[at + 2] = z;
-            at + 3
+            job::shot::put(coords, n, x, y, z);
+            n + 1
         }
-        Entry::Wrong(_) => at,
+        Entry::Wrong(_) => n,
     }
 }
 
 // Stores the coordinates of the shots of a text.
 fn store_text(text: &[u8], coords: &mut [u16])
     requires { ⌜ length (shotsIn (linesOf (now text))) ≤ length (now coords) ⌝ }
-    ensures { λ _. ⌜ now (coords .exit) ≡ shotsIn (linesOf (now (text .entry))) ++ drop (length (shotsIn (linesOf (now (text .entry))))) (now (coords .entry)) ⌝ }
+    ensures { λ _. ⌜ now (coords .exit) ≡ inFront (shotsIn (linesOf (now (text .entry)))) (now (coords .entry)) ⌝ }
 {
     let mut n = 0;
     let mut at = 0;
@@ -131,10 +130,10 @@ fn store_text(text: &[u8], coords: &mut [u16])
 
 // Reads a text, and stores the coordinates of its shots unless it has a mistake.
 pub fn read_text(text: &[u8], coords: &mut [u16]) -> Typed
-    ensures answer { λ r. ⌜ r ≡ typedList (length (now (coords .entry))) (now (text .entry)) ⌝ }
-    ensures coordinates { λ _. ⌜ now (coords .exit) ≡ stored (typedList (length (now (coords .entry))) (now (text .entry))) (now (text .entry)) (now (coords .entry)) ⌝ }
+    ensures answer { λ r. ⌜ r ≡ typedList (shotCount (now (coords .entry))) (now (text .entry)) ⌝ }
+    ensures coordinates { λ _. ⌜ now (coords .exit) ≡ typedCoords (now (text .entry)) (now (coords .entry)) ⌝ }
 {
-    let typed = check_text(text, coords.len());
+    let typed = check_text(text, job::shot::count(coords));
     match typed {
         Typed::List {
             field: _,

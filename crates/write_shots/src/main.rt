@@ -76,8 +76,7 @@ fn write_text(text: &[u8]) {
             grid,
             shots,
         } => {
-            let n = 3 * shots;
-            write_list(field, edge, grid, &coords[..n]);
+            write_list(field, edge, grid, job::shot::first(&coords, shots));
         }
         Typed::Mistake { line, mistake } => tell_mistake(line, mistake),
     }

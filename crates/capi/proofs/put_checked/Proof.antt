@@ -2,7 +2,7 @@
 use mathlib.Core.Path.{_∙_, ap₂}
 use mathlib.Core.List.{[], _∷_}
 use Rattle.job.specs.Refusals.{checkedNumbers}
-use Rattle.shotfile.specs.Calls.{inFront}
+use Rattle.buffer.specs.Wrote.{inFront}
 use Rattle.capi.specs.Answered.{indexPlaces}
 use Rattle.capi.proofs.AnsweredLaws.{put-as}
 use borrow.Author.Needs.{needs}

@@ -2,7 +2,7 @@
 use mathlib.Core.Path.{_∙_, ap₂}
 use mathlib.Core.List.{[], _∷_}
 use Rattle.measure_intake.specs.Intake.{measuredNumbers}
-use Rattle.shotfile.specs.Calls.{inFront}
+use Rattle.buffer.specs.Wrote.{inFront}
 use Rattle.capi.specs.Answered.{measurePlaces}
 use Rattle.capi.proofs.AnsweredLaws.{put-as}
 use borrow.Author.Needs.{needs}

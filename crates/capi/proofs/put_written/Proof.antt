@@ -1,7 +1,8 @@
 -- Each answer has its numbers.
 use mathlib.Core.Path.{_∙_, ap₂}
 use mathlib.Core.List.{[], _∷_}
-use Rattle.shotfile.specs.Calls.{inFront, writtenNumbers}
+use Rattle.buffer.specs.Wrote.{inFront}
+use Rattle.shotfile.specs.Calls.{writtenNumbers}
 use Rattle.capi.proofs.AnsweredLaws.{put-as}
 use borrow.Author.Needs.{needs}
 use Rattle.capi.proofs.put_written.Statement.{statement}

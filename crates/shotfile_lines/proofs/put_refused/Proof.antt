@@ -4,7 +4,7 @@ use native.Mathlib.Omega.{arith}
 use Rattle.buffer.proofs.WroteLaws.{wrote-then, wrote-as}
 use Rattle.text_report.specs.Text.{text}
 use Rattle.text_wording.proofs.SentenceLaws.{sentence-length}
-use Rattle.shotfile_lines.specs.Lines.{labelled, place, refusedLine}
+use Rattle.shotfile_lines.specs.Lines.{labelled, placeText, refusedLine}
 use Rattle.shotfile_lines.proofs.LineLaws.{labelled-length, place-length}
 use borrow.Author.Needs.{needs}
 use Rattle.shotfile_lines.proofs.put_refused.Statement.{statement}
@@ -22,30 +22,33 @@ cast-put-labelled c = search needs
 put-labelled-requires : tie.Need-put-labelled-requires
 put-labelled-requires c κs = search needs
 
+met-at-requires : tie.Need-met-at-requires
+met-at-requires c κs = search needs
+
 detail-requires : tie.Need-detail-requires
 detail-requires c κs = search needs
 
 put-place-requires : tie.Need-put-place-requires
-put-place-requires c κs = let s = c .before .before .before .before .before .before .before .before .before in omega (arith, s .pre, c .before .before .before .before .put-labelled .ensures .next, c .before .before .before .before .put-labelled .kept .0, labelled-length (text "refused ") (c .before .before .before .before .before .before .before .number .result))
+put-place-requires c κs = omega (arith, (c .before .before .before .before .before .before .before .before .before .before .pre), (c .before .before .before .before .before .put-labelled .ensures .next), (c .before .before .before .before .before .put-labelled .kept .0), labelled-length (text "refused ") (c .before .before .before .before .before .before .before .before .number .result))
 
 slice-aggregate-put-word : tie.Need-slice-aggregate-put-word
 slice-aggregate-put-word c = search needs
 
 put-word-requires : tie.Need-put-word-requires
-put-word-requires c κs = let s = c .before .before .before .before .before .before .before .before .before .before .before .before .before .before in omega (arith, s .pre, c .before .before .before .before .before .before .before .before .before .put-labelled .ensures .next, c .before .before .before .before .before .before .before .before .before .put-labelled .kept .0, labelled-length (text "refused ") (c .before .before .before .before .before .before .before .before .before .before .before .before .number .result), c .before .before .before .before .put-place .ensures .next, c .before .before .before .before .put-place .kept .0, place-length (c .before .before .before .before .before .before .before .before .before .before .before .before .number .result) (c .before .before .before .before .before .detail .result))
+put-word-requires c κs = omega (arith, (c .before .before .before .before .before .before .before .before .before .before .before .before .before .before .before .pre), (c .before .before .before .before .before .before .before .before .before .before .put-labelled .ensures .next), (c .before .before .before .before .before .before .before .before .before .before .put-labelled .kept .0), labelled-length (text "refused ") (c .before .before .before .before .before .before .before .before .before .before .before .before .before .number .result), (c .before .before .before .before .put-place .ensures .next), (c .before .before .before .before .put-place .kept .0), place-length (c .before .before .before .before .before .detail .result) (c .before .before .before .before .before .before .before .met-at .result))
 
 put-sentence-requires : tie.Need-put-sentence-requires
-put-sentence-requires c κs = let s = c .before .before .before .before .before .before .before .before .before .before .before .before .before .before .before .before .before .before in omega (arith, s .pre, c .before .before .before .before .before .before .before .before .before .before .before .before .before .put-labelled .ensures .next, c .before .before .before .before .before .before .before .before .before .before .before .before .before .put-labelled .kept .0, labelled-length (text "refused ") (c .before .before .before .before .before .before .before .before .before .before .before .before .before .before .before .before .number .result), c .before .before .before .before .before .before .before .before .put-place .ensures .next, c .before .before .before .before .before .before .before .before .put-place .kept .0, place-length (c .before .before .before .before .before .before .before .before .before .before .before .before .before .before .before .before .number .result) (c .before .before .before .before .before .before .before .before .before .detail .result), c .before .before .before .put-word .ensures .next, c .before .before .before .put-word .kept .0)
+put-sentence-requires c κs = omega (arith, (c .before .before .before .before .before .before .before .before .before .before .before .before .before .before .before .before .before .before .before .pre), (c .before .before .before .before .before .before .before .before .before .before .before .before .before .before .put-labelled .ensures .next), (c .before .before .before .before .before .before .before .before .before .before .before .before .before .before .put-labelled .kept .0), labelled-length (text "refused ") (c .before .before .before .before .before .before .before .before .before .before .before .before .before .before .before .before .before .number .result), (c .before .before .before .before .before .before .before .before .put-place .ensures .next), (c .before .before .before .before .before .before .before .before .put-place .kept .0), place-length (c .before .before .before .before .before .before .before .before .before .detail .result) (c .before .before .before .before .before .before .before .before .before .before .before .met-at .result), (c .before .before .before .put-word .ensures .next), (c .before .before .before .put-word .kept .0))
 
 put-byte-requires : tie.Need-put-byte-requires
-put-byte-requires c κs = let s = c .before .before .before .before .before .before .before .before .before .before .before .before .before .before .before .before .before .before .before .before .before .before in omega (arith, s .pre, c .before .before .before .before .before .before .before .before .before .before .before .before .before .before .before .before .before .put-labelled .ensures .next, c .before .before .before .before .before .before .before .before .before .before .before .before .before .before .before .before .before .put-labelled .kept .0, labelled-length (text "refused ") (c .before .before .before .before .before .before .before .before .before .before .before .before .before .before .before .before .before .before .before .before .number .result), c .before .before .before .before .before .before .before .before .before .before .before .before .put-place .ensures .next, c .before .before .before .before .before .before .before .before .before .before .before .before .put-place .kept .0, place-length (c .before .before .before .before .before .before .before .before .before .before .before .before .before .before .before .before .before .before .before .before .number .result) (c .before .before .before .before .before .before .before .before .before .before .before .before .before .detail .result), c .before .before .before .before .before .before .before .put-word .ensures .next, c .before .before .before .before .before .before .before .put-word .kept .0, c .before .before .before .put-sentence .ensures .next, c .before .before .before .put-sentence .kept .0, sentence-length (s .args .refusal))
+put-byte-requires c κs = omega (arith, (c .before .before .before .before .before .before .before .before .before .before .before .before .before .before .before .before .before .before .before .before .before .before .before .pre), (c .before .before .before .before .before .before .before .before .before .before .before .before .before .before .before .before .before .before .put-labelled .ensures .next), (c .before .before .before .before .before .before .before .before .before .before .before .before .before .before .before .before .before .before .put-labelled .kept .0), labelled-length (text "refused ") (c .before .before .before .before .before .before .before .before .before .before .before .before .before .before .before .before .before .before .before .before .before .number .result), (c .before .before .before .before .before .before .before .before .before .before .before .before .put-place .ensures .next), (c .before .before .before .before .before .before .before .before .before .before .before .before .put-place .kept .0), place-length (c .before .before .before .before .before .before .before .before .before .before .before .before .before .detail .result) (c .before .before .before .before .before .before .before .before .before .before .before .before .before .before .before .met-at .result), (c .before .before .before .before .before .before .before .put-word .ensures .next), (c .before .before .before .before .before .before .before .put-word .kept .0), (c .before .before .before .put-sentence .ensures .next), (c .before .before .before .put-sentence .kept .0), sentence-length (c .before .before .before .before .before .before .before .before .before .before .before .before .before .before .before .before .before .before .before .before .before .before .before .args .refusal))
 
 same-length : tie.Need-same-length
 same-length c = search needs
 
 returns : tie.Need-returns
 unfolding refusedLine
-returns c = wrote-then (wrote-as (ap (labelled (text "refused ")) (c .before .before .before .before .before .before .before .before .before .before .before .before .before .before .before .before .before .before .before .before .before .before .before .number .ensures)) (c .before .before .before .before .before .before .before .before .before .before .before .before .before .before .before .before .before .before .before .before .put-labelled .ensures)) (wrote-then (wrote-as (ap₂ place (c .before .before .before .before .before .before .before .before .before .before .before .before .before .before .before .before .before .before .before .before .before .before .before .number .ensures) (c .before .before .before .before .before .before .before .before .before .before .before .before .before .before .before .before .detail .ensures)) (c .before .before .before .before .before .before .before .before .before .before .before .before .before .before .before .put-place .ensures)) (wrote-then (c .before .before .before .before .before .before .before .before .before .before .put-word .ensures) (wrote-then (c .before .before .before .before .before .before .put-sentence .ensures) (c .before .before .put-byte .ensures))))
+returns c = wrote-then (wrote-as (ap (labelled (text "refused ")) (c .before .before .before .before .before .before .before .before .before .before .before .before .before .before .before .before .before .before .before .before .before .before .before .before .number .ensures)) (c .before .before .before .before .before .before .before .before .before .before .before .before .before .before .before .before .before .before .before .before .before .put-labelled .ensures)) (wrote-then (wrote-as (ap₂ placeText (c .before .before .before .before .before .before .before .before .before .before .before .before .before .before .before .before .before .before .met-at .ensures) (c .before .before .before .before .before .before .before .before .before .before .before .before .before .before .before .before .detail .ensures)) (c .before .before .before .before .before .before .before .before .before .before .before .before .before .before .before .put-place .ensures)) (wrote-then (c .before .before .before .before .before .before .before .before .before .before .put-word .ensures) (wrote-then (c .before .before .before .before .before .before .put-sentence .ensures) (c .before .before .put-byte .ensures))))
 
 pub put-refused-spec : {M : Type 1} → statement M
 put-refused-spec =
@@ -55,6 +58,7 @@ put-refused-spec =
     slice-aggregate-put-labelled
     cast-put-labelled
     put-labelled-requires
+    met-at-requires
     detail-requires
     put-place-requires
     slice-aggregate-put-word

@@ -4,7 +4,7 @@ use native.Mathlib.Omega.{arith}
 use Rattle.buffer.proofs.WroteLaws.{wrote-then}
 use Rattle.text_report.specs.Text.{text}
 use Rattle.shotfile_lines.specs.Lines.{settings}
-use Rattle.shotfile_lines.proofs.LineLaws.{setting-length}
+use Rattle.shotfile_lines.proofs.LineLaws.{setting-length, settings-few}
 use borrow.Author.Needs.{needs}
 use Rattle.shotfile_lines.proofs.put_settings.Statement.{statement}
 use Rattle.shotfile_lines.proofs.put_settings.Tie as tie
@@ -32,7 +32,7 @@ same-length c = search needs
 
 returns : tie.Need-returns
 unfolding settings
-returns c = wrote-then (c .before .before .before .before .before .before .before .before .before .before .before .before .put-setting .ensures) (wrote-then (c .before .before .before .before .before .before .before .put-setting2 .ensures) (c .before .before .put-setting3 .ensures))
+returns c = settings-few (c .before .before .before .before .before .before .before .before .before .before .before .before .before .before .before .before .args .map) (c .before .before .before .before .before .before .before .before .before .before .before .before .before .before .before .before .args .header) (wrote-then (c .before .before .before .before .before .before .before .before .before .before .before .before .put-setting .ensures) (wrote-then (c .before .before .before .before .before .before .before .put-setting2 .ensures) (c .before .before .put-setting3 .ensures)))
 
 pub put-settings-spec : {M : Type 1} → statement M
 put-settings-spec =

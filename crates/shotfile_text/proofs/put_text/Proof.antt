@@ -1,10 +1,9 @@
 -- The settings, the shots and the verdict follow one another, or the header is refused.
 use mathlib.Core.Path.{sym, _∙_}
 use native.Mathlib.Omega.{arith}
-use lib.ListN.{length, getD}
 use Rattle.buffer.proofs.WroteLaws.{wrote-then, wrote-as}
-use Rattle.shotfile_lines.proofs.LineLaws.{settings-length}
-use Rattle.shotfile_text.proofs.TextLaws.{text-whole, text-refused, has-map}
+use Rattle.job.specs.Job.{shotCount}
+use Rattle.shotfile_text.proofs.TextLaws.{text-whole, text-refused, headless-coords, has-map}
 use borrow.Author.Needs.{needs}
 use Rattle.shotfile_text.proofs.put_text.Statement.{statement}
 use Rattle.shotfile_text.proofs.put_text.Tie as tie
@@ -19,7 +18,7 @@ enum-known-fields : tie.Need-enum-known-fields
 enum-known-fields c = search needs
 
 shared-slice-read-put-settings : tie.Need-shared-slice-read-put-settings
-shared-slice-read-put-settings c = has-map (c .before .before .before .before .before .before .before .before .before .before .args .bytes .now) (c .before .before .before .before .before .before .header-absent .result) (sym (c .before .before .before .fields .given .1) ∙ c .before .before .before .before .before .take-record .ensures)
+shared-slice-read-put-settings c = has-map (c .before .before .before .before .before .before .before .before .before .before .args .bytes .now) (c .before .before .before .before .before .before .header-absent .result) (sym (c .before .before .before .fields .given .1) ∙ (c .before .before .before .before .before .take-record .ensures))
 
 put-settings-requires : tie.Need-put-settings-requires
 put-settings-requires c κs = search needs
@@ -28,10 +27,10 @@ first-absent-requires : tie.Need-first-absent-requires
 first-absent-requires c κs = search needs
 
 put-shots-requires : tie.Need-put-shots-requires
-put-shots-requires c κs = let s = c .before .before .before .before .before .before .before .before .before .before .before .before .before .before .before in omega (arith, s .pre, c .before .before .before .before .put-settings .ensures .next, c .before .before .before .before .put-settings .kept .0, settings-length (getD (s .args .bytes .now) 0 0) (c .before .before .before .before .before .before .before .before .fields .given .0 .0))
+put-shots-requires c κs = omega (arith, (c .before .before .before .before .before .before .before .before .before .before .before .before .before .before .before .pre), (c .before .before .before .before .put-settings .ensures .1), (c .before .before .before .before .put-settings .kept .0))
 
 put-verdict-requires : tie.Need-put-verdict-requires
-put-verdict-requires c κs = let s = c .before .before .before .before .before .before .before .before .before .before .before .before .before .before .before .before .before .before .before .before in omega (arith, s .pre, c .before .before .before .before .before .before .before .before .before .put-settings .ensures .next, c .before .before .before .before .before .before .before .before .before .put-settings .kept .0, settings-length (getD (s .args .bytes .now) 0 0) (c .before .before .before .before .before .before .before .before .before .before .before .before .before .fields .given .0 .0), c .before .before .before .before .put-shots .ensures .1, c .before .before .before .before .put-shots .kept .1 .0)
+put-verdict-requires c κs = omega (arith, (c .before .before .before .before .before .before .before .before .before .before .before .before .before .before .before .before .before .before .before .before .pre), (c .before .before .before .before .before .before .before .before .before .put-settings .ensures .1), (c .before .before .before .before .before .before .before .before .before .put-settings .kept .0), (c .before .before .before .before .put-shots .ensures .1), (c .before .before .before .before .put-shots .kept .1 .0))
 
 enum-known-refusal : tie.Need-enum-known-refusal
 enum-known-refusal c = search needs
@@ -46,13 +45,13 @@ same-length-2 : tie.Need-same-length-2
 same-length-2 c = search needs
 
 returns : tie.Need-returns
-returns c = let s = c .before .before .before .before .before .before .before .before .before .before .before .before .before .before .before .before .before .before .before .before .before .before .before .before .before in wrote-as (text-whole (length (s .args .coords .now)) (s .args .bytes .now) (c .before .before .before .before .before .before .before .before .before .before .before .before .before .before .before .before .before .before .before .before .before .header-absent .ensures) (sym (c .before .before .before .before .before .before .before .before .before .before .before .before .before .before .before .before .before .before .fields .given .1) ∙ c .before .before .before .before .before .before .before .before .before .before .before .before .before .before .before .before .before .before .before .before .take-record .ensures) (c .before .before .before .before .before .before .before .before .before .before .before .first-absent .ensures)) (wrote-then (c .before .before .before .before .before .before .before .before .before .before .before .before .before .before .put-settings .ensures) (wrote-then (c .before .before .before .before .before .before .before .before .before .put-shots .ensures .0) (c .before .before .before .before .put-verdict .ensures)))
+returns c = (wrote-as (text-whole (shotCount (c .before .before .before .before .before .before .before .before .before .before .before .before .before .before .before .before .before .before .before .before .before .before .before .before .before .args .coords .now)) (c .before .before .before .before .before .before .before .before .before .before .before .before .before .before .before .before .before .before .before .before .before .before .before .before .before .args .bytes .now) (c .before .before .before .before .before .before .before .before .before .before .before .before .before .before .before .before .before .before .before .before .before .header-absent .ensures) (sym (c .before .before .before .before .before .before .before .before .before .before .before .before .before .before .before .before .before .before .fields .given .1) ∙ (c .before .before .before .before .before .before .before .before .before .before .before .before .before .before .before .before .before .before .before .before .take-record .ensures)) (c .before .before .before .before .before .before .before .before .before .before .before .first-absent .ensures)) (wrote-then (c .before .before .before .before .before .before .before .before .before .before .before .before .before .before .put-settings .ensures .0) (wrote-then (c .before .before .before .before .before .before .before .before .before .put-shots .ensures .0) (c .before .before .before .before .put-verdict .ensures .0))), (c .before .before .before .before .put-verdict .ensures .1))
 
 same-length-3 : tie.Need-same-length-3
 same-length-3 c = search needs
 
 returns-2 : tie.Need-returns-2
-returns-2 c = let s = c .before .before .before .before .before .before .before .before .before .before .before .before in wrote-as (text-refused (length (s .args .coords .now)) (s .args .bytes .now) (c .before .before .before .before .before .before .before .before .header-absent .ensures) (sym (c .before .before .before .before .before .refusal .given .1) ∙ c .before .before .before .before .before .before .before .take-record .ensures)) (c .before .before .put-refused .ensures)
+returns-2 c = (wrote-as (text-refused (shotCount (c .before .before .before .before .before .before .before .before .before .before .before .before .args .coords .now)) (c .before .before .before .before .before .before .before .before .before .before .before .before .args .bytes .now) (c .before .before .before .before .before .before .before .before .header-absent .ensures) (sym (c .before .before .before .before .before .refusal .given .1) ∙ (c .before .before .before .before .before .before .before .take-record .ensures))) (c .before .before .put-refused .ensures), headless-coords (shotCount (c .before .before .before .before .before .before .before .before .before .before .before .before .args .coords .now)) (c .before .before .before .before .before .before .before .before .before .before .before .before .args .bytes .now) (c .before .before .before .before .before .before .before .before .header-absent .ensures) (sym (c .before .before .before .before .before .refusal .given .1) ∙ (c .before .before .before .before .before .before .before .take-record .ensures)) (c .before .before .before .before .before .before .before .before .before .before .before .before .args .coords .now))
 
 pub put-text-spec : {M : Type 1} → statement M
 put-text-spec =

@@ -1,14 +1,12 @@
 -- No place so far is marked.
-use mathlib.Core.Path.{_≡_, refl}
-use Prim.Native.Nat.{ℕ, _≤_, _<_, _-_, _+_}
+use mathlib.Core.Path.{_≡_}
+use Prim.Native.Nat.{ℕ, _≤_, _<_, _-_}
 use native.Mathlib.Omega.{arith}
 use lib.ListN.{getD}
 use Rattle.sweep.proofs.Laws.{blank-on, blank-not}
 use borrow.Author.Needs.{needs}
 use Rattle.sweep.proofs.is_blank.Statement.{statement}
 use Rattle.sweep.proofs.is_blank.Tie as tie
-use Rattle.sweep.proofs.is_blank.Reads as reads
-use Rattle.sweep.proofs.is_blank.Lts as lts
 
 abbrev Inv-loop : tie.InvT-loop
 Inv-loop row from end x₀ x = (from ≤ x) × (x ≤ end) × ((k : ℕ) → from ≤ k → k < x → getD row k 0 ≡ 0)

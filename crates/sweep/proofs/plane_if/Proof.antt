@@ -3,15 +3,12 @@ use Rattle.sweep.proofs.Laws.{plane-skip}
 use borrow.Author.Needs.{needs}
 use Rattle.sweep.proofs.plane_if.Statement.{statement}
 use Rattle.sweep.proofs.plane_if.Tie as tie
-use Rattle.sweep.proofs.plane_if.Reads as reads
-use Rattle.sweep.proofs.plane_if.Lts as lts
-use Rattle.sweep_plane.proofs.across.Reads as across-reads
 
 shared-slice-read-if1 : tie.Need-shared-slice-read-if1
 shared-slice-read-if1 c = search needs
 
 returns : tie.Need-returns
-returns c = plane-skip _ _ _ _ _ (c .before .before .before .before .before .before .before .before .before .pre .1 .0 .at _ (c .if1 .taken)) (c .before .before .before .before .before .before .before .before .before .pre .0 .7)
+returns c = plane-skip _ _ _ _ _ (c .before .before .before .before .before .before .before .before .before .pre .1 .1 .0 .at _ (c .if1 .taken)) (c .before .before .before .before .before .before .before .before .before .pre .0 .room)
 
 across-requires : tie.Need-across-requires
 across-requires c κs = search needs

@@ -1,12 +1,9 @@
 -- Both tests decide.
-use mathlib.Core.Path.{subst}
+use mathlib.Core.Path.{sym, subst}
 use lib.Dec.{T}
-use mathlib.Core.Path.{sym}
 use borrow.Author.Needs.{needs}
 use Rattle.sweep_fours.proofs.alike.Statement.{statement}
 use Rattle.sweep_fours.proofs.alike.Tie as tie
-use Rattle.sweep_fours.proofs.alike.Reads as reads
-use Rattle.sweep_fours.proofs.alike.Lts as lts
 
 returns : tie.Need-returns
 returns c = search needs

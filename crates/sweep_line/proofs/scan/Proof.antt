@@ -13,11 +13,6 @@ use Rattle.lattice_sums.proofs.CornerSumLaws.{room-more}
 use borrow.Author.Needs.{needs}
 use Rattle.sweep_line.proofs.scan.Statement.{statement}
 use Rattle.sweep_line.proofs.scan.Tie as tie
-use Rattle.sweep_line.proofs.scan.Reads as reads
-use Rattle.sweep_line.proofs.scan.Lts as lts
-use Rattle.sweep_fours.proofs.next_change.Reads as next-change-reads
-use Rattle.sweep_line.proofs.between.Reads as between-reads
-use Rattle.sweep_tally.proofs.point.Reads as point-reads
 
 abbrev Inv-loop : tie.InvT-loop
 Inv-loop x y lo hi four buf₀ s₀ z₀ buf s z = (lo ≤ z) × (z ≤ hi + 1) × (z ≤ hi → getD four z 0 ≢ getD four (z + 1) 0) × (state s buf ≡ found (state s₀ buf₀) (join z (lineFrom lo x y four))) × Room s (s₀ .corners + z) × (length buf ≡ length buf₀)
@@ -29,7 +24,7 @@ next-change-requires : tie.Need-next-change-requires Inv-loop μ-loop
 next-change-requires c κs = search needs
 
 loop-holds : tie.Need-loop-holds Inv-loop μ-loop
-loop-holds c = let n = c .next-change .ensures in (n .from, n .to, n .turns, scan-still _ _ _ _ _ _ _ (omega arith) (n .from) (n .still) (scan-none _ _ _ _ _), room-own _ _ _ (c .before .before .before .pre .4), refl)
+loop-holds c = let n = c .next-change .ensures in (n .from, n .to, n .turns, scan-still _ _ _ _ _ _ _ (omega arith) (n .from) (n .still) (scan-none _ _ _ _ _), room-own _ _ _ (c .before .before .before .pre .0 .4), refl)
 
 cast-point : tie.Need-cast-point Inv-loop μ-loop
 cast-point c = search needs
@@ -44,10 +39,10 @@ shared-slice-read-between-2 : tie.Need-shared-slice-read-between-2 Inv-loop μ-l
 shared-slice-read-between-2 c = search needs
 
 between-requires : tie.Need-between-requires Inv-loop μ-loop
-between-requires c κs = (c .before .before .before .before .before .before .before .before .pre .6 .at _ (c .before .before .before .before .loop .inv .0) (omega arith), c .before .before .before .before .before .before .before .before .pre .6 .at _ (omega arith) (omega arith))
+between-requires c κs = (c .before .before .before .before .before .before .before .before .pre .1 .1 .at _ (c .before .before .before .before .loop .inv .0) (omega arith), c .before .before .before .before .before .before .before .before .pre .1 .1 .at _ (omega arith) (omega arith))
 
 point-requires : tie.Need-point-requires Inv-loop μ-loop
-point-requires c κs = (c .before .before .before .before .before .before .before .before .before .pre .0, c .before .before .before .before .before .before .before .before .before .pre .1, omega arith, room-more _ _ _ (omega (arith, c .before .before .before .before .before .before .before .before .before .pre .4 .few)) (c .before .before .before .before .before .loop .inv .4))
+point-requires c κs = (c .before .before .before .before .before .before .before .before .before .pre .0 .0, c .before .before .before .before .before .before .before .before .before .pre .0 .1, omega arith, room-more _ _ _ (omega (arith, c .before .before .before .before .before .before .before .before .before .pre .0 .4 .few)) (c .before .before .before .before .before .loop .inv .4))
 
 add-next-change : tie.Need-add-next-change Inv-loop μ-loop
 add-next-change c = search needs
@@ -59,7 +54,7 @@ loop-less : tie.Need-loop-less Inv-loop μ-loop
 loop-less c = search needs
 
 loop-again : tie.Need-loop-again Inv-loop μ-loop
-loop-again c = let n = c .next-change2 .ensures in (omega (arith, n .from), n .to, n .turns, scan-still _ _ _ _ _ _ _ (omega arith) (n .from) (n .still) (scan-more _ _ _ _ _ _ (c .before .before .before .before .before .before .before .before .before .loop .inv .0) (c .before .before .before .before .before .before .before .before .before .loop .inv .2 (c .before .before .before .before .before .before .before .before .loop-test .taken)) (c .before .before .before .before .between .ensures) (c .before .before .before .before .before .before .before .before .before .loop .inv .3) (c .before .before .before .point .ensures)), room-point _ _ _ _ _ _ _ _ (c .before .before .before .before .before .before .before .before .before .before .before .before .before .pre .0) (c .before .before .before .before .before .before .before .before .before .before .before .before .before .pre .1) (omega arith) (c .before .before .before .point .ensures) (omega (arith, n .from)) (c .before .before .before .before .before .before .before .before .before .loop .inv .4), search needs)
+loop-again c = let n = c .next-change2 .ensures in (omega (arith, n .from), n .to, n .turns, scan-still _ _ _ _ _ _ _ (omega arith) (n .from) (n .still) (scan-more _ _ _ _ _ _ (c .before .before .before .before .before .before .before .before .before .loop .inv .0) (c .before .before .before .before .before .before .before .before .before .loop .inv .2 (c .before .before .before .before .before .before .before .before .loop-test .taken)) (c .before .before .before .before .between .ensures) (c .before .before .before .before .before .before .before .before .before .loop .inv .3) (c .before .before .before .point .ensures)), room-point _ _ _ _ _ _ _ _ (c .before .before .before .before .before .before .before .before .before .before .before .before .before .pre .0 .0) (c .before .before .before .before .before .before .before .before .before .before .before .before .before .pre .0 .1) (omega arith) (c .before .before .before .point .ensures) (omega (arith, n .from)) (c .before .before .before .before .before .before .before .before .before .loop .inv .4), search needs)
 
 same-length : tie.Need-same-length Inv-loop μ-loop
 same-length c = search needs

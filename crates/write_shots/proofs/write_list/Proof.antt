@@ -1,9 +1,9 @@
 -- The file is a part of the buffer that it was written into.
-use mathlib.Core.Path.{sym, _∙_}
+use mathlib.Core.Path.{sym}
 use native.Mathlib.Omega.{arith}
 use lib.Seq.{length-take-le}
-use borrow.Author.Needs.{needs}
 use Rattle.write_shots.proofs.Fits.{written-within}
+use borrow.Author.Needs.{needs}
 use Rattle.write_shots.proofs.write_list.Statement.{statement}
 use Rattle.write_shots.proofs.write_list.Tie as tie
 
@@ -17,10 +17,10 @@ enum-known-answer : tie.Need-enum-known-answer
 enum-known-answer c = search needs
 
 array-share-prefix-bytes : tie.Need-array-share-prefix-bytes
-array-share-prefix-bytes c = omega (arith, written-within _ _ _ _ _ (sym (c .before .before .before .before .write .ensures .0) ∙ c .before .answer .given .1) (c .before .before .before .before .write .ensures .1), c .before .before .before .before .write .kept .1 .1 .1 .1 .0)
+array-share-prefix-bytes c = omega (arith, written-within (c .before .before .before .before .write .ensures) (c .before .answer .given .1), (c .before .before .before .before .write .kept .1 .1 .1 .1 .0))
 
 slice-aggregate-write-all : tie.Need-slice-aggregate-write-all
-slice-aggregate-write-all c = sym (length-take-le (c .before .before .answer .given .0 .0) (c .before .before .before .before .before .write .last .1 .1 .1 .1 .0) (written-within _ _ _ _ _ (sym (c .before .before .before .before .before .write .ensures .0) ∙ c .before .before .answer .given .1) (c .before .before .before .before .before .write .ensures .1)))
+slice-aggregate-write-all c = sym (length-take-le (c .before .before .answer .given .0 .0) (c .before .before .before .before .before .write .last .1 .1 .1 .1 .0) (written-within (c .before .before .before .before .before .write .ensures) (c .before .before .answer .given .1)))
 
 write-all-requires : tie.Need-write-all-requires
 write-all-requires c κs = search needs

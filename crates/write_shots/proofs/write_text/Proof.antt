@@ -1,10 +1,8 @@
--- The coordinates are a part of the slice that they were stored into.
+-- The list is the first shots of the slice that they were stored into.
 use mathlib.Core.Path.{sym, _∙_}
-use Prim.Native.Nat.{_*_}
 use native.Mathlib.Omega.{arith}
-use lib.Seq.{length-take-le}
+use Rattle.typed_list.proofs.Listing.{list-shots}
 use borrow.Author.Needs.{needs}
-use Rattle.typed_list.proofs.Listing.{list-counts}
 use Rattle.write_shots.proofs.write_text.Statement.{statement}
 use Rattle.write_shots.proofs.write_text.Tie as tie
 
@@ -17,14 +15,11 @@ read-text-requires c κs = search needs
 enum-known-typed : tie.Need-enum-known-typed
 enum-known-typed c = search needs
 
-mul-n : tie.Need-mul-n
-mul-n c = omega (arith, list-counts _ _ (sym (c .before .before .before .before .read-text .ensures .0) ∙ c .before .typed .given .1) .room)
+slice-aggregate-first : tie.Need-slice-aggregate-first
+slice-aggregate-first c = search needs
 
-array-share-prefix-coords : tie.Need-array-share-prefix-coords
-array-share-prefix-coords c = omega (arith, list-counts _ _ (sym (c .before .before .before .before .read-text .ensures .0) ∙ c .before .typed .given .1) .room, c .before .before .before .before .read-text .kept .1 .0)
-
-slice-aggregate-write-list : tie.Need-slice-aggregate-write-list
-slice-aggregate-write-list c = sym (length-take-le (3 * c .before .before .typed .given .0 .1 .1 .1 .0) (c .before .before .before .before .before .read-text .last .1 .0) (omega (arith, list-counts _ _ (sym (c .before .before .before .before .before .read-text .ensures .0) ∙ c .before .before .typed .given .1) .room, c .before .before .before .before .before .read-text .kept .1 .0)))
+first-requires : tie.Need-first-requires
+first-requires c κs = omega (arith, list-shots _ _ (sym (c .before .before .before .before .before .read-text .ensures .0) ∙ (c .before .before .typed .given .1)), (c .before .before .before .before .before .read-text .kept .1 .0))
 
 write-list-requires : tie.Need-write-list-requires
 write-list-requires c κs = search needs
@@ -48,9 +43,8 @@ write-text-spec =
     slice-aggregate-read-text
     read-text-requires
     enum-known-typed
-    mul-n
-    array-share-prefix-coords
-    slice-aggregate-write-list
+    slice-aggregate-first
+    first-requires
     write-list-requires
     enum-known-typed-2
     tell-mistake-requires

@@ -7,20 +7,14 @@ use Rattle.typed_list.proofs.draft.shoot.Tie as tie
 returns : tie.Need-returns
 returns c = shots-many (c .before .before .before .before .args .places) (c .before .before .before .before .args .d) (c .if1 .taken)
 
-mul-if2 : tie.Need-mul-if2
-mul-if2 c = search needs
-
-add-if2 : tie.Need-add-if2
-add-if2 c = search needs
-
 returns-2 : tie.Need-returns-2
 returns-2 c = shots-full (c .before .before .before .before .before .args .places) (c .before .before .before .before .before .args .d) (c .before .if1 .left) (c .if2 .taken)
 
-add-t9 : tie.Need-add-t9
-add-t9 c = search needs
+add-t10 : tie.Need-add-t10
+add-t10 c = search needs
 
 returns-3 : tie.Need-returns-3
 returns-3 c = shots-room (c .before .before .before .before .before .args .places) (c .before .before .before .before .before .args .d) (c .before .if1 .left) (c .if2 .left)
 
 pub shoot-spec : {M : Type 1} → statement M
-shoot-spec = tie.close (tie.spec returns mul-if2 add-if2 returns-2 add-t9 returns-3)
+shoot-spec = tie.close (tie.spec returns returns-2 add-t10 returns-3)
