@@ -30,8 +30,8 @@ use crate::places::WRITE_BYTES;
 use job::Checked;
 use lattice_sums::sums::Totals;
 use measure_intake::Measured;
-use shotfile::reader::ReadAnswer;
-use shotfile::writer::WriteAnswer;
+use shotfile::ReadAnswer;
+use shotfile::WriteAnswer;
 
 // ---- the numbers of an answer, put to the front
 
@@ -224,7 +224,7 @@ pub extern "C" fn heqdanu_recount(
     1
 }
 
-// Reads a shot file: see `shotfile::reader::read`.
+// Reads a shot file: see `shotfile::read`.
 #[no_mangle]
 pub extern "C" fn heqdanu_read(bytes: &[u8], coords: &mut [u16], answer: &mut [u64]) -> u8
     ensures { λ r. ⌜ ReadTold (now (bytes .entry)) (now (coords .entry)) (now (answer .entry)) r (now (coords .exit)) (now (answer .exit)) ⌝ }
@@ -232,12 +232,12 @@ pub extern "C" fn heqdanu_read(bytes: &[u8], coords: &mut [u16], answer: &mut [u
     if answer.len() < READ_ANSWER {
         return 0;
     }
-    let read = shotfile::reader::read(bytes, coords);
+    let read = shotfile::read(bytes, coords);
     put_read(answer, read);
     1
 }
 
-// Writes a list as a shot file: see `shotfile::writer::write`.
+// Writes a list as a shot file: see `shotfile::write`.
 #[no_mangle]
 pub extern "C" fn heqdanu_write(
     field: u16,
@@ -253,7 +253,7 @@ pub extern "C" fn heqdanu_write(
     if answer.len() < WRITE_ANSWER {
         return 0;
     }
-    let written = shotfile::writer::write(field, edge, grid, coords, bytes);
+    let written = shotfile::write(field, edge, grid, coords, bytes);
     put_written(answer, written);
     1
 }

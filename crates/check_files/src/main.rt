@@ -1,48 +1,14 @@
 // Reads and writes shot files at the edges of the format and of each refusal, and prints the lent slice before each call, its answer,
 // and the slice after it. The large slices of 4,096 shots are full of nines before; their last seven places are printed after.
-use job::Refusal;
+use check_print::print_bytes;
+use check_print::print_coords;
+use check_print::print_number;
+use check_print::print_refusal;
 use shotfile::ReadAnswer;
 use shotfile::WriteAnswer;
 
-fn print_number(n: u64) {
-    io::write_all(1, b" ");
-    io::print_decimal(1, n);
-}
-
-fn print_coord(value: u16) {
-    print_number(value as u64);
-}
-
-fn print_byte(value: u8) {
-    print_number(value as u64);
-}
-
 fn end_line() {
     io::write_all(1, b"\n");
-}
-
-fn print_coords(coords: &[u16]) {
-    io::write_all(1, b";");
-    let mut i = 0;
-    while i < coords.len() {
-        print_coord(coords[i]);
-        i += 1;
-    }
-}
-
-fn print_bytes(bytes: &[u8]) {
-    io::write_all(1, b";");
-    let mut i = 0;
-    while i < bytes.len() {
-        print_byte(bytes[i]);
-        i += 1;
-    }
-}
-
-fn print_refusal(refusal: Refusal) {
-    io::write_all(1, b" refused");
-    print_number(job::number(refusal) as u64);
-    print_number(job::detail(refusal) as u64);
 }
 
 fn print_read(answer: ReadAnswer) {

@@ -3,6 +3,8 @@
 ghost use mathlib.Core.Path.{_≡_};
 ghost use Prim.Native.Nat.{_≤_};
 ghost use lib.ListN.{length};
+use check_print::print_byte;
+use check_print::print_number;
 
 // No index holds this number, and no listing of these jobs this byte.
 const JUNK_ENTRY: u32 = 4294967295;
@@ -22,16 +24,7 @@ pub(crate) fn junk_bytes() -> [u8; 150]
     [JUNK_BYTE; 150]
 }
 
-pub(crate) fn print_number(n: u64) {
-    io::write_all(1, b" ");
-    io::print_decimal(1, n);
-}
-
 fn print_entry(value: u32) {
-    print_number(value as u64);
-}
-
-fn print_byte(value: u8) {
     print_number(value as u64);
 }
 

@@ -6,7 +6,8 @@ mod junk;
 
 ghost use mathlib.Core.Path.{_≡_};
 ghost use lib.ListN.{length};
-use job::Refusal;
+use check_print::print_number;
+use check_print::print_refusal;
 use measure_intake::Measured;
 
 // A list's settings, and how long the lent slices are.
@@ -18,19 +19,13 @@ struct Lent {
     room: usize,
 }
 
-fn print_refusal(refusal: Refusal) {
-    io::write_all(1, b" refused");
-    junk::print_number(job::number(refusal) as u64);
-    junk::print_number(job::detail(refusal) as u64);
-}
-
 fn print_answer(answer: Measured) {
     match answer {
         Measured::Quote(totals) => {
-            junk::print_number(totals.volume);
-            junk::print_number(totals.area);
-            junk::print_number(totals.edge);
-            junk::print_number(totals.corners as u64);
+            print_number(totals.volume);
+            print_number(totals.area);
+            print_number(totals.edge);
+            print_number(totals.corners as u64);
         }
         Measured::Refused(refusal) => {
             print_refusal(refusal);

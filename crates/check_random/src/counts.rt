@@ -1,5 +1,8 @@
 // What a run counts, and what it prints of a list that disagrees.
 use crate::lists::Settings;
+use check_print::print_coord;
+use check_print::print_coords;
+use check_print::print_number;
 
 pub(crate) const LISTS: usize = 0;
 
@@ -64,24 +67,6 @@ pub(crate) fn add_if(holds: bool, counts: Counts, which: usize) -> Counts {
         return add(counts, which, 1);
     }
     counts
-}
-
-fn print_number(n: u64) {
-    io::write_all(1, b" ");
-    io::print_decimal(1, n);
-}
-
-fn print_coord(value: u16) {
-    print_number(value as u64);
-}
-
-fn print_coords(coords: &[u16]) {
-    io::write_all(1, b";");
-    let mut i = 0;
-    while i < coords.len() {
-        print_coord(coords[i]);
-        i += 1;
-    }
 }
 
 // Prints a list that disagrees.

@@ -9,7 +9,7 @@ ghost use Rattle.quoting.specs.Quoting.{refusalText, ListQuoted, FileQuo
 ghost use Rattle.quoting.specs.Listing.{FileListed};
 use job::Refusal;
 use measure_intake::Measured;
-use shotfile::reader::ReadAnswer;
+use shotfile::ReadAnswer;
 
 // Puts the line of a refusal to the front.
 fn refuse(out: &mut [u8], refusal: Refusal) -> usize
@@ -68,7 +68,7 @@ fn quote_file(
     ensures { λ r. ⌜ FileQuoted (now (bytes .entry)) (now (coords .entry)) (now (work .entry)) (now (out .entry))
         r (now (coords .exit)) (now (work .exit)) (now (out .exit)) ⌝ }
 {
-    let read = shotfile::reader::read(bytes, coords);
+    let read = shotfile::read(bytes, coords);
     match read {
         ReadAnswer::Read {
             field,
@@ -107,7 +107,7 @@ pub fn list_file(bytes: &[u8], coords: &mut [u16], work: &mut [u32], buffer: &mu
     ensures { λ r. ⌜ FileListed (now (bytes .entry)) (now (coords .entry)) (now (work .entry)) (now (buffer .entry))
         r (now (coords .exit)) (now (work .exit)) (now (buffer .exit)) ⌝ }
 {
-    let read = shotfile::reader::read(bytes, coords);
+    let read = shotfile::read(bytes, coords);
     match read {
         ReadAnswer::Read {
             field,

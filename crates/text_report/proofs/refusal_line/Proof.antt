@@ -1,4 +1,4 @@
--- The word and the two numbers follow one another, split by spaces.
+-- The word and the two numbers follow one another, split by spaces; neither number has more than 20 digits.
 use native.Mathlib.Omega.{arith}
 use Rattle.buffer.proofs.WroteLaws.{wrote-then}
 use Rattle.text_report.proofs.LineLaws.{digits-length}
@@ -20,10 +20,10 @@ put-digits-requires : tie.Need-put-digits-requires
 put-digits-requires c κs = search needs
 
 put-byte-requires-2 : tie.Need-put-byte-requires-2
-put-byte-requires-2 c κs = let s = c .before .before .before .before .before .before .before .before .before .before .before .before .before .before .before in omega (arith, c .before .before .before .put-digits .ensures .next, c .before .before .before .put-digits .kept .0, c .before .before .before .before .before .before .before .put-byte .ensures .next, c .before .before .before .before .before .before .before .put-byte .kept .0, c .before .before .before .before .before .before .before .before .before .before .before .put-word .ensures .next, c .before .before .before .before .before .before .before .before .before .before .before .put-word .kept .0, digits-length 20 (s .args .number), s .pre)
+put-byte-requires-2 c κs = let s = c .before .before .before .before .before .before .before .before .before .before .before .before .before .before .before in omega (arith, c .before .before .before .put-digits .ensures .next, c .before .before .before .put-digits .kept .0, c .before .before .before .before .before .before .before .put-byte .ensures .next, c .before .before .before .before .before .before .before .put-byte .kept .0, c .before .before .before .before .before .before .before .before .before .before .before .put-word .ensures .next, c .before .before .before .before .before .before .before .before .before .before .before .put-word .kept .0, digits-length 20 (s .args .number), digits-length 20 (s .args .detail), s .pre)
 
 put-digits-requires-2 : tie.Need-put-digits-requires-2
-put-digits-requires-2 c κs = let s = c .before .before .before .before .before .before .before .before .before .before .before .before .before .before .before .before .before .before .before in omega (arith, c .before .before .before .put-byte2 .ensures .next, c .before .before .before .put-byte2 .kept .0, c .before .before .before .before .before .before .before .put-digits .ensures .next, c .before .before .before .before .before .before .before .put-digits .kept .0, c .before .before .before .before .before .before .before .before .before .before .before .put-byte .ensures .next, c .before .before .before .before .before .before .before .before .before .before .before .put-byte .kept .0, c .before .before .before .before .before .before .before .before .before .before .before .before .before .before .before .put-word .ensures .next, c .before .before .before .before .before .before .before .before .before .before .before .before .before .before .before .put-word .kept .0, digits-length 20 (s .args .number), s .pre)
+put-digits-requires-2 c κs = let s = c .before .before .before .before .before .before .before .before .before .before .before .before .before .before .before .before .before .before .before in omega (arith, c .before .before .before .put-byte2 .ensures .next, c .before .before .before .put-byte2 .kept .0, c .before .before .before .before .before .before .before .put-digits .ensures .next, c .before .before .before .before .before .before .before .put-digits .kept .0, c .before .before .before .before .before .before .before .before .before .before .before .put-byte .ensures .next, c .before .before .before .before .before .before .before .before .before .before .before .put-byte .kept .0, c .before .before .before .before .before .before .before .before .before .before .before .before .before .before .before .put-word .ensures .next, c .before .before .before .before .before .before .before .before .before .before .before .before .before .before .before .put-word .kept .0, digits-length 20 (s .args .number), digits-length 20 (s .args .detail), s .pre)
 
 put-byte-requires-3 : tie.Need-put-byte-requires-3
 put-byte-requires-3 c κs = let s = c .before .before .before .before .before .before .before .before .before .before .before .before .before .before .before .before .before .before .before .before .before .before .before in omega (arith, c .before .before .before .put-digits2 .ensures .next, c .before .before .before .put-digits2 .kept .0, c .before .before .before .before .before .before .before .put-byte2 .ensures .next, c .before .before .before .before .before .before .before .put-byte2 .kept .0, c .before .before .before .before .before .before .before .before .before .before .before .put-digits .ensures .next, c .before .before .before .before .before .before .before .before .before .before .before .put-digits .kept .0, c .before .before .before .before .before .before .before .before .before .before .before .before .before .before .before .put-byte .ensures .next, c .before .before .before .before .before .before .before .before .before .before .before .before .before .before .before .put-byte .kept .0, c .before .before .before .before .before .before .before .before .before .before .before .before .before .before .before .before .before .before .before .put-word .ensures .next, c .before .before .before .before .before .before .before .before .before .before .before .before .before .before .before .before .before .before .before .put-word .kept .0, digits-length 20 (s .args .number), digits-length 20 (s .args .detail), s .pre)

@@ -2,8 +2,8 @@
 use Prim.Native.Nat.{_≤_, _-_}
 use lib.ListN.{length}
 use borrow.Author.Needs.{needs}
-use Rattle.check_files.proofs.print_coords.Statement.{statement}
-use Rattle.check_files.proofs.print_coords.Tie as tie
+use Rattle.check_print.proofs.print_coords.Statement.{statement}
+use Rattle.check_print.proofs.print_coords.Tie as tie
 
 abbrev Inv-loop : tie.InvT-loop
 Inv-loop coords i₀ i = i ≤ length coords

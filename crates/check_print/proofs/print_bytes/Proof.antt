@@ -1,15 +1,15 @@
--- `print_coords` goes through the slice once. Assumes nothing.
+-- `print_bytes` goes through the slice once. Assumes nothing.
 use Prim.Native.Nat.{_≤_, _-_}
 use lib.ListN.{length}
 use borrow.Author.Needs.{needs}
-use Rattle.check_random.proofs.counts.print_coords.Statement.{statement}
-use Rattle.check_random.proofs.counts.print_coords.Tie as tie
+use Rattle.check_print.proofs.print_bytes.Statement.{statement}
+use Rattle.check_print.proofs.print_bytes.Tie as tie
 
 abbrev Inv-loop : tie.InvT-loop
-Inv-loop coords i₀ i = i ≤ length coords
+Inv-loop bytes i₀ i = i ≤ length bytes
 
 abbrev μ-loop : tie.MeasureT-loop
-μ-loop coords i₀ i = length coords - i
+μ-loop bytes i₀ i = length bytes - i
 
 slice-aggregate-write-all : tie.Need-slice-aggregate-write-all Inv-loop μ-loop
 slice-aggregate-write-all c = search needs
@@ -20,14 +20,11 @@ write-all-requires c κs = search needs
 loop-holds : tie.Need-loop-holds Inv-loop μ-loop
 loop-holds c = search needs
 
-mul-print-coord : tie.Need-mul-print-coord Inv-loop μ-loop
-mul-print-coord c = search needs
+shared-slice-read-print-byte : tie.Need-shared-slice-read-print-byte Inv-loop μ-loop
+shared-slice-read-print-byte c = search needs
 
-shared-slice-read-print-coord : tie.Need-shared-slice-read-print-coord Inv-loop μ-loop
-shared-slice-read-print-coord c = search needs
-
-print-coord-requires : tie.Need-print-coord-requires Inv-loop μ-loop
-print-coord-requires c κs = search needs
+print-byte-requires : tie.Need-print-byte-requires Inv-loop μ-loop
+print-byte-requires c κs = search needs
 
 add-i : tie.Need-add-i Inv-loop μ-loop
 add-i c = search needs
@@ -41,8 +38,8 @@ loop-again c = search needs
 returns : tie.Need-returns Inv-loop μ-loop
 returns c = search needs
 
-pub print-coords-spec : {M : Type 1} → statement M
-print-coords-spec =
+pub print-bytes-spec : {M : Type 1} → statement M
+print-bytes-spec =
     tie.close
     (tie.spec
     Inv-loop
@@ -50,9 +47,8 @@ print-coords-spec =
     slice-aggregate-write-all
     write-all-requires
     loop-holds
-    mul-print-coord
-    shared-slice-read-print-coord
-    print-coord-requires
+    shared-slice-read-print-byte
+    print-byte-requires
     add-i
     loop-less
     loop-again

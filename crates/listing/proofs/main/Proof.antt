@@ -1,0 +1,57 @@
+-- What was read is a part of the buffer.
+use mathlib.Core.Path.{sym}
+use native.Mathlib.Omega.{arith}
+use lib.Seq.{length-take-le}
+use Rattle.input.proofs.FilledLaws.{filled-within}
+use borrow.Author.Needs.{needs}
+use Rattle.listing.proofs.main.Statement.{statement}
+use Rattle.listing.proofs.main.Tie as tie
+
+slice-aggregate-fill : tie.Need-slice-aggregate-fill
+slice-aggregate-fill c = search needs
+
+fill-requires : tie.Need-fill-requires
+fill-requires c κs = search needs
+
+enum-known-filled : tie.Need-enum-known-filled
+enum-known-filled c = search needs
+
+array-share-prefix-bytes : tie.Need-array-share-prefix-bytes
+array-share-prefix-bytes c = let f = c .before .before .before .before .fill in omega (arith, filled-within (c .before .filled .given .1) (f .ensures), f .kept .0)
+
+slice-aggregate-print-with-room : tie.Need-slice-aggregate-print-with-room
+slice-aggregate-print-with-room c = let f = c .before .before .before .before .before .fill in sym (length-take-le (c .before .before .filled .given .0 .0) (f .last .0) (omega (arith, filled-within (c .before .before .filled .given .1) (f .ensures), f .kept .0)))
+
+print-with-room-requires : tie.Need-print-with-room-requires
+print-with-room-requires c κs = search needs
+
+enum-told : tie.Need-enum-told
+enum-told c = search needs
+
+slice-aggregate-say : tie.Need-slice-aggregate-say
+slice-aggregate-say c = search needs
+
+say-requires : tie.Need-say-requires
+say-requires c κs = search needs
+
+returns : tie.Need-returns
+returns c = search needs
+
+returns-2 : tie.Need-returns-2
+returns-2 c = search needs
+
+pub main-spec : {M : Type 1} → statement M
+main-spec =
+    tie.close
+    (tie.spec
+    slice-aggregate-fill
+    fill-requires
+    enum-known-filled
+    array-share-prefix-bytes
+    slice-aggregate-print-with-room
+    print-with-room-requires
+    enum-told
+    slice-aggregate-say
+    say-requires
+    returns
+    returns-2)
