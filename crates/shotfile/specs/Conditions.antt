@@ -20,7 +20,10 @@ endOf s at = endAt (getD s at 0) at
 pub data IsRecord (s : List ℕ) : ℕ → ℕ → Fields → Type 0 where
   header : IsRecord s 0 0 headerAbsent
   first-shot : endOf s 0 < length s → IsRecord s 1 (endOf s 0) firstAbsent
-  next-shot : {n at : ℕ} {absent : Fields} → IsRecord s (suc n) at absent → endOf s at < length s → IsRecord s (suc (suc n)) (endOf s at) (fieldsAt s (getD s at 0) at absent)
+  next-shot : {n at : ℕ} {absent : Fields}
+      → IsRecord s (suc n) at absent
+      → endOf s at < length s
+      → IsRecord s (suc (suc n)) (endOf s at) (fieldsAt s (getD s at 0) at absent)
 
 -- the condition of each refusal at record n with its map at a place, where the coordinate slice has places for so many shots. The header
 -- meets neither 2 nor 3. A file that has no header map ends before the end of record 0

@@ -51,6 +51,10 @@ recordsText places s (Refused r) = refusedLine r
 unfoldable pub plainText : ℕ → List ℕ → List ℕ
 plainText places s = recordsText places s (recordAt s 0 headerAbsent)
 
+-- why the list of the file is refused, if it is
+abbrev pub fileVerdict : List ℕ → List ℕ → List ℕ
+fileVerdict s coords = verdict (fileIn (shotCount coords) s)
+
 -- the coordinate slice then: what reading the file leaves in it
 abbrev pub coordsAfter : List ℕ → List ℕ → List ℕ
 coordsAfter s coords = readCoords (fileIn (shotCount coords) s) coords
