@@ -10,22 +10,22 @@ use native.Mathlib.Numerals.{add-one}
 use lib.Dec.{T, leb, leb→le, ltb, ltb→lt, eqb, eqb→eq, eqb-refl}
 use lib.ListN.{length, getD, take}
 use borrow.Author.Tests.{eqb-true, eqb-false}
-use Rattle.lattice.specs.Cells.{Within}
-use Rattle.lattice.specs.Shots.{Shot, any, cells, InField}
+use Rattle.lattice.proofs.JoinLaws.{join-nil, join-end}
+use Rattle.lattice.specs.Axes.{x-axis, NoFace}
 use Rattle.lattice.specs.Sums.{join}
+use Rattle.lattice.specs.Cells.{Within, linePoints, planePoints}
+use Rattle.lattice.specs.Shots.{Shot, any, cells, InField}
 use Rattle.lattice.specs.Listing.{here, corners}
 use Rattle.lattice.specs.Pattern.{corner}
 use Rattle.lattice_sums.specs.CornerSums.{Room, sumsOf}
 use Rattle.lattice_sums.specs.declared.sums.CornerSums.{CornerSums}
 use Rattle.lattice_sums.proofs.CornerSumLaws.{room-more}
 use Rattle.lattice.proofs.Inside.{empty, outside}
-use Rattle.lattice.specs.Axes.{x-axis, NoFace}
 use Rattle.lattice.proofs.PatternLaws.{still-no-corner}
 use Rattle.lattice.proofs.ShotLaws.{and-elim, or-elim, no-face-no-corner}
 use Rattle.lattice.proofs.Cases.{bool-ext}
-use Rattle.lattice.proofs.JoinLaws.{join-nil, join-end}
 use Rattle.lattice.proofs.SameSolid.{here-none}
-use Rattle.job.specs.Job.{Valid, shotsOf, shotAt, shotCount}
+use Rattle.job.specs.Job.{Valid, shotCount, shotsOf, shotAt}
 use Rattle.job.proofs.Tests.{or-left, or-right}
 use Rattle.job.proofs.Shots.{stay-at, any-at, at-any}
 use Rattle.job.proofs.Conditions.{valid-within}
@@ -37,34 +37,40 @@ use Rattle.grid.proofs.NumberLaws.{has-those}
 use Rattle.grid.proofs.CellLaws.{slab-few}
 use Rattle.grid.proofs.ShotLaws.{width-times}
 use Rattle.grid_runs.proofs.SlabLaws.{plane-meets, slab-has}
-use Rattle.sweep_rows.specs.Runs.{InRun, runTo, shotsIn}
-use Rattle.sweep_marks.specs.Marks.{MarkedMore, Marked}
+use Rattle.sweep_rows.specs.Runs.{InList, InRun, runTo, shotsIn}
+use Rattle.sweep_marks.specs.Marks.{marked, Marked}
+use Rattle.sweep_marks.proofs.Laws.{marked-other}
 use Rattle.sweep_selection.specs.Selection.{wanted}
 use Rattle.sweep_tally.specs.Found.{Found, state, found}
 use Rattle.sweep_tally.proofs.Laws.{found-append}
 use Rattle.sweep_line.proofs.Laws.{room-own}
 use Rattle.sweep_plane.specs.Plane.{linesTo, planeOf, PlaneOut}
 use Rattle.sweep_plane.proofs.Laws.{plane-same}
-use Rattle.sweep.specs.Sweep.{AllIn, MarkedList, BlankIf, Agree, planesTo, Swept, InSlab}
+use Rattle.sweep.specs.Sweep.{AllIn, MarkedList, MarkedAll, BlankIf, Agree, SlabRun, planesTo, Swept, InSlab}
 
 -- ---- marks
 pub list-none : (e : ℕ) (c row : List ℕ) → MarkedList e c 0 row
 list-none e c row = record { at = λ p h i l. absurd (omega arith) }
 
-pub list-more : (e : ℕ) (c : List ℕ) (n : ℕ) {row row' : List ℕ} → MarkedList e c n row → MarkedMore (shotAt e c n .x) e row row' → MarkedList e c (n + 1) row'
-list-more e c n {row} {row'} f g = record { at = λ p h i l. go p h i l (eqb i n) refl }
+pub list-more : (e : ℕ) (c : List ℕ) (n : ℕ) {row row' : List ℕ} {a b : ℕ} → InList e c n → length row ≡ 1026
+    → a ≡ shotAt e c n .x → b ≡ shotAt e c n .edge → row' ≡ marked a b row → MarkedList e c n row → MarkedList e c (n + 1) row'
+list-more e c n {row} {row'} j len ea eb er f = record { at = λ p h i l. go p (other p h) i l (eqb i n) refl }
   where
-    go : (p : ℕ) → getD row' p 0 ≡ 0 → (i : ℕ) → i < n + 1 → (b : Bool) → eqb i n ≡ b → (shotAt e c i .x ≢ p) × (shotAt e c i .x + e ≢ p)
-    go p h i l true k = rw (eqb-true i n k) (g .at p h .1, g .at p h .2)
-    go p h i l false k = f .at p (g .at p h .0) i (let m : (i ≡ n → ⊥) = eqb-false i n k in omega arith)
+    other : (p : ℕ) → getD row' p 0 ≡ 0 → (getD row p 0 ≡ 0) × (shotAt e c n .x ≢ p) × (shotAt e c n .x + shotAt e c n .edge ≢ p)
+    other p h = marked-other row (shotAt e c n .x) (shotAt e c n .edge) len (j .inside .x-in) p (rw (er, ea, eb) at h)
+
+    go : (p : ℕ) → (getD row p 0 ≡ 0) × (shotAt e c n .x ≢ p) × (shotAt e c n .x + shotAt e c n .edge ≢ p) → (i : ℕ) → i < n + 1 → (b : Bool) → eqb i n ≡ b
+        → (shotAt e c i .x ≢ p) × (shotAt e c i .x + shotAt e c i .edge ≢ p)
+    go p h i l true k = rw (eqb-true i n k) (h .1, h .2)
+    go p h i l false k = f .at p (h .0) i (let m : (i ≡ n → ⊥) = eqb-false i n k in omega arith)
 
 -- no shot of a run has a face where the list's shots have none
-no-faces : (e : ℕ) (c run : List ℕ) (p q : ℕ) → ((k : ℕ) → k < q → (shotAt e c (getD run k 0) .x ≢ p) × (shotAt e c (getD run k 0) .x + e ≢ p)) → NoFace x-axis p (runTo e c run q)
+no-faces : (e : ℕ) (c run : List ℕ) (p q : ℕ) → ((k : ℕ) → k < q → (shotAt e c (getD run k 0) .x ≢ p) × (shotAt e c (getD run k 0) .x + shotAt e c (getD run k 0) .edge ≢ p)) → NoFace x-axis p (runTo e c run q)
 unfolding runTo
 no-faces e c run p zero f = tt
 no-faces e c run p (suc q) f = (f q (omega arith) .0, f q (omega arith) .1, no-faces e c run p q (λ k l. f k (omega arith)))
 
-pub marked-run : (e : ℕ) (c run row : List ℕ) (n : ℕ) → ((k : ℕ) → k < length run → getD run k 0 < n) → MarkedList e c n row → Marked x-axis (shotsIn e c run) row
+marked-run : (e : ℕ) (c run row : List ℕ) (n : ℕ) → ((k : ℕ) → k < length run → getD run k 0 < n) → MarkedList e c n row → Marked x-axis (shotsIn e c run) row
 marked-run e c run row n f m = record { at = λ p h. no-faces e c run p (length run) (λ k l. m .at p h (getD run k 0) (f k l)) }
 
 module _ (row : List ℕ) (from : ℕ) where
@@ -81,11 +87,11 @@ module _ (row : List ℕ) (from : ℕ) where
 -- ---- plane after plane
 plane-bare : (n x : ℕ) (ts : List Shot) → NoFace x-axis x ts → planeOf n x ts ≡ []
 unfolding planeOf linesTo
-plane-bare n x ts h = join-nil (n + 1) (λ y. join-nil 1025 (λ z. here-none (cells ts) x y z (no-face-no-corner x-axis ts x y z h)))
+plane-bare n x ts h = join-nil (n + 1) (λ y. join-nil (linePoints 1024) (λ z. here-none (cells ts) x y z (no-face-no-corner x-axis ts x y z h)))
 
 pub plane-skip : (n x : ℕ) (ts : List Shot) (t : CornerSums) (b : List ℕ) {k : ℕ} → NoFace x-axis x ts → Room t k → PlaneOut n x ts (state t b) (state t b)
 unfolding found
-plane-skip n x ts t b {k} h r = record { is = sym (ap (found (state t b)) (plane-bare n x ts h)); room = room-own t k 1050625 r }
+plane-skip n x ts t b {k} h r = record { is = sym (ap (found (state t b)) (plane-bare n x ts h)); room = room-own t k (planePoints 1024) r }
 
 pub planes-none : (n : ℕ) (ts : List Shot) (f : Found) → f ≡ found f (planesTo n 0 ts)
 unfolding planesTo join found
@@ -96,13 +102,13 @@ unfolding planesTo join
 planes-more n x ts = rw (add-one x)
 
 module _ (n from : ℕ) (ts : List Shot) where
-  pub swept-none : (f : Found) → Room (f .sums) (from * 1050625) → Swept n from from ts f f
+  pub swept-none : (f : Found) → Room (f .sums) (from * planePoints 1024) → Swept n from from ts f f
   swept-none f r = record { on = λ h e. e; room = r }
 
   pub swept-more : (x : ℕ) (rs : List Shot) {f g h : Found} → Swept n from x ts f g → PlaneOut n x rs g h → planeOf n x rs ≡ planeOf n x ts → Swept n from (x + 1) ts f h
   swept-more x rs {f} {g} {h} s p e = record {
     on = λ k m. p .is ∙ ap₂ found (s .on k m) e ∙ sym (found-append k (planesTo n x ts) (planeOf n x ts)) ∙ ap (found k) (sym (planes-more n x ts));
-    room = room-more (h .sums) (g .sums .corners + 1050625) ((x + 1) * 1050625) (omega (arith, s .room .few)) (p .room);
+    room = room-more (h .sums) (g .sums .corners + planePoints 1024) ((x + 1) * planePoints 1024) (omega (arith, s .room .few)) (p .room);
   }
 
   planes-skip : (k : ℕ) → ((x : ℕ) → from ≤ x → x < from + k → planeOf n x ts ≡ []) → planesTo n (from + k) ts ≡ planesTo n from ts
@@ -112,20 +118,20 @@ module _ (n from : ℕ) (ts : List Shot) where
       ap (λ m. planesTo n m ts) m ∙ planes-more n (from + k) ts
       ∙ ap₂ _++_ (planes-skip k (λ x l i. h x l (omega arith))) (h (from + k) (omega arith) (omega arith)) ∙ append-nil (planesTo n from ts)
 
-  pub swept-skip : (end : ℕ) → from ≤ end → ((x : ℕ) → from ≤ x → x < end → planeOf n x ts ≡ []) → (f : Found) → Room (f .sums) (from * 1050625) → Swept n from end ts f f
+  swept-skip : (end : ℕ) → from ≤ end → ((x : ℕ) → from ≤ x → x < end → planeOf n x ts ≡ []) → (f : Found) → Room (f .sums) (from * planePoints 1024) → Swept n from end ts f f
   swept-skip end l h f r =
       let m : from + (end - from) ≡ end = omega arith in
       record {
         on = λ k e. e ∙ ap (found k) (sym (subst (λ p. planesTo n p ts ≡ planesTo n from ts) m (planes-skip (end - from) (λ x a b. h x a (omega arith)))));
-        room = room-more (f .sums) (from * 1050625) (end * 1050625) (omega arith) r;
+        room = room-more (f .sums) (from * planePoints 1024) (end * planePoints 1024) (omega arith) r;
       }
 
 -- all planes have all corners
-pub planes-all : (n : ℕ) (ts : List Shot) → n ≤ 1024 → Within n (cells ts) → planesTo n (n + 1) ts ≡ corners n (cells ts)
+planes-all : (n : ℕ) (ts : List Shot) → n ≤ 1024 → Within n (cells ts) → planesTo n (n + 1) ts ≡ corners n (cells ts)
 unfolding planesTo planeOf linesTo corners
 planes-all n ts h within = rw (add-one n) (ap (join (suc n)) (fun-ext λ x. ap (join (suc n)) (fun-ext λ y. line x y)))
   where
-    line : (x y : ℕ) → join 1025 (here (cells ts) x y) ≡ join (suc n) (here (cells ts) x y)
+    line : (x y : ℕ) → join (linePoints 1024) (here (cells ts) x y) ≡ join (suc n) (here (cells ts) x y)
     line x y =
         let m : 1024 - n + suc n ≡ 1025 = omega arith in
         ap (λ k. join k (here (cells ts) x y)) (sym m)
@@ -174,15 +180,16 @@ module _ (F E G : ℕ) (coords : List ℕ) (v : Valid F E G coords) where
   all-in i h =
       let s : InField F (shotAt E coords i) = stay-at F E coords (v .inside) i h in
       record {
-        there = omega (arith, h);
-        x-in = omega (arith, s .x-in, v .field-most);
-        y-in = omega (arith, s .y-in, v .field-most);
-        z-in = omega (arith, s .z-in, v .field-most);
-        field = omega arith;
+        there = h;
+        inside = record {
+          x-in = omega (arith, s .x-in, v .field-most);
+          y-in = omega (arith, s .y-in, v .field-most);
+          z-in = omega (arith, s .z-in, v .field-most);
+        };
       }
 
   module _ (gx : ℕ) where
-    pub slab-below : (k : ℕ) → k < length (slabOf F E G coords gx) → getD (slabOf F E G coords gx) k 0 < length coords / 3
+    slab-below : (k : ℕ) → k < length (slabOf F E G coords gx) → getD (slabOf F E G coords gx) k 0 < shotCount coords
     unfolding slabOf
     slab-below k h =
         let i : ℕ = getD (slabOf F E G coords gx) k 0 in
@@ -190,7 +197,7 @@ module _ (F E G : ℕ) (coords : List ℕ) (v : Valid F E G coords) where
         = subst T (has-those i (λ i. touchesSlab (F / G) gx (shotAt E coords i)) (shotCount coords)) (place-has (slabOf F E G coords gx) k h) in
         ltb→lt i (shotCount coords) (and-elim (ltb i (shotCount coords)) (touchesSlab (F / G) gx (shotAt E coords i)) t .0)
 
-    pub slab-in-run : InRun 1024 E coords (slabOf F E G coords gx)
+    slab-in-run : InRun E coords (slabOf F E G coords gx)
     slab-in-run k h = all-in (getD (slabOf F E G coords gx) k 0) (slab-below k h)
 
     slab-any : (x : ℕ) → gx * (F / G) ≤ x → x ≤ (gx + 1) * (F / G) → (f : Shot → Bool) → ((t : Shot) → T (f t) → T (wanted false x t))
@@ -210,40 +217,34 @@ module _ (F E G : ℕ) (coords : List ℕ) (v : Valid F E G coords) where
             let p = has-place (slabOf F E G coords gx) (r .0) (subst T (sym (slab-has F E G coords v gx (r .0) (r .1) ∙ m)) tt) in
             any-run E coords (slabOf F E G coords gx) f (length (slabOf F E G coords gx)) (p .0) (p .1) (subst (λ i. T (f (shotAt E coords i))) (sym (p .2)) (r .2))
 
-    pub slab-agree : (from end : ℕ) → InSlab F G gx from end → Agree F from end (shotsIn E coords (slabOf F E G coords gx)) (shotsOf E coords)
+    slab-agree : (from end : ℕ) → InSlab F G gx from end → Agree F from end (shotsIn E coords (slabOf F E G coords gx)) (shotsOf E coords)
     slab-agree from end s = record {
       at = λ x a b. plane-same F x (shotsIn E coords (slabOf F E G coords gx)) (shotsOf E coords)
           (slab-any x (omega (arith, s .lower)) (omega (arith, s .upper)));
     }
 
     -- a slab without marks has no corner
-    pub slab-skip : (from end : ℕ) → InSlab F G gx from end → {row : List ℕ} {t : Bool} → MarkedList E coords (length coords / 3) row → BlankIf t from end row → t ≡ true
-        → (f : Found) → Room (f .sums) (from * 1050625) → Swept F from end (shotsOf E coords) f f
+    pub slab-skip : (from end : ℕ) → InSlab F G gx from end → {row : List ℕ} {t : Bool} → MarkedAll E coords row → BlankIf t from end row → t ≡ true
+        → (f : Found) → Room (f .sums) (from * planePoints 1024) → Swept F from end (shotsOf E coords) f f
     slab-skip from end s {row} m b e = swept-skip F from (shotsOf E coords) end (s .order) (λ x l h.
         sym (slab-agree from end s .at x l h)
-        ∙ plane-bare F x (shotsIn E coords (slabOf F E G coords gx)) (marked-run E coords (slabOf F E G coords gx) row (length coords / 3) slab-below m .at x (b .yes e x l h)))
+        ∙ plane-bare F x (shotsIn E coords (slabOf F E G coords gx)) (marked-run E coords (slabOf F E G coords gx) row (shotCount coords) slab-below m .at x (b .yes e x l h)))
 
   -- the next slab lies in the field
-  pub next-within : (gx : ℕ) → gx < G → (gx + 1) * (F / G) ≤ F
+  next-within : (gx : ℕ) → gx < G → (gx + 1) * (F / G) ≤ F
   next-within gx h = subst (λ n. (gx + 1) * (F / G) ≤ n) (width-times v) (mul-le-mul (omega arith) (le-refl (F / G)))
 
-pub next-is : (gx w : ℕ) → (gx + 1) * w ≡ gx * w + w
+next-is : (gx w : ℕ) → (gx + 1) * w ≡ gx * w + w
 next-is gx w = rw (add-one gx) (suc-mul gx w)
 
--- what the planes of a slab need
+-- the run of a slab
 module _ (F E G : ℕ) (coords : List ℕ) (v : Valid F E G coords) where
-  pub record Ready (from end : ℕ) (row run : List ℕ) : Type 0 where
-    pub in-run : InRun 1024 E coords run
-    pub few : length run ≤ 4096
-    pub marked : Marked x-axis (shotsIn E coords run) row
-    pub agree : Agree F from end (shotsIn E coords run) (shotsOf E coords)
-
-  pub ready : (gx from end : ℕ) → InSlab F G gx from end → {row : List ℕ} → MarkedList E coords (length coords / 3) row
-      → {w w' : List ℕ} {n : ℕ} → Wrote w w' 0 n (slabOf F E G coords gx) → Ready from end row (take n w')
-  ready gx from end s {row} m r = rw (front-part r) (record {
+  pub slab-run : (gx from end : ℕ) → InSlab F G gx from end → {row : List ℕ} → MarkedAll E coords row
+      → {w w' : List ℕ} {n : ℕ} → Wrote w w' 0 n (slabOf F E G coords gx) → SlabRun F E coords from end row (take n w')
+  slab-run gx from end s {row} m r = rw (front-part r) (record {
     in-run = slab-in-run F E G coords v gx;
     few = slab-few F E G coords v gx;
-    marked = marked-run E coords (slabOf F E G coords gx) row (length coords / 3) (slab-below F E G coords v gx) m;
+    marked = marked-run E coords (slabOf F E G coords gx) row (shotCount coords) (slab-below F E G coords v gx) m;
     agree = slab-agree F E G coords v gx from end s;
   })
 

@@ -2,45 +2,32 @@
 // as a lent buffer has room. The planes of a slab of the grid take their shots from the index; planes on no face, and slabs without any
 // face, are passed over, so the cost does not depend on the field's volume. Stands on `sweep_plane`, `grid` and `grid_runs`.
 ghost use mathlib.Core.Path.{_≡_};
-ghost use Prim.Native.Nat.{_+_, _*_, _/_, _<_, _≤_};
+ghost use Prim.Native.Nat.{_*_, _≤_};
 ghost use lib.ListN.{length};
+ghost use Rattle.lattice.specs.Cells.{planePoints};
+ghost use Rattle.lattice.specs.Axes.{x-axis};
 ghost use Rattle.lattice.specs.Shots.{cells};
 ghost use Rattle.lattice.specs.Listing.{corners};
 ghost use Rattle.lattice_sums.specs.CornerSums.{Room, sumsOf};
-ghost use Rattle.lattice.specs.Axes.{x-axis};
-ghost use Rattle.job.specs.Job.{Valid, shotsOf, shotAt};
+ghost use Rattle.job.specs.Job.{Valid, shotsOf};
 ghost use Rattle.grid.specs.Grid.{Holds};
-ghost use Rattle.sweep_rows.specs.Runs.{InList, InRun, shotsIn};
-ghost use Rattle.sweep_marks.specs.Marks.{MarkedMore, Marked};
+ghost use Rattle.sweep_rows.specs.Runs.{shotsIn};
+ghost use Rattle.sweep_marks.specs.Marks.{Marked};
 ghost use Rattle.sweep_tally.specs.Found.{state, found};
-ghost use Rattle.sweep_plane.specs.Plane.{PlaneOut};
-ghost use Rattle.sweep.specs.Sweep.{AllIn, MarkedList, BlankIf, Agree, Swept, InSlab};
+ghost use Rattle.sweep_plane.specs.Plane.{PlaneIn, PlaneFound};
+ghost use Rattle.sweep.specs.Sweep.{AllIn, MarkedAll, BlankIf, SlabRun, Swept, AllFound, InSlab};
 ghost use mathlib.Core.List.{[]};
 use lattice_sums::sums::CornerSums;
 
-fn wide(x: u16) -> usize
-    ensures { λ r. ⌜ r ≡ x ⌝ }
-{
-    x as usize
-}
-
-// Marks both faces of shot i across x.
-fn mark_shot(c: &[u16], e: usize, i: usize, row: &mut [u8])
-    requires { ⌜ InList 1024 e (now c) i × (length (now row) ≡ 1026) ⌝ }
-    ensures { λ _. ⌜ MarkedMore (shotAt e (now (c .entry)) i .x) e (now (row .entry)) (now (row .exit)) ⌝ }
-{
-    sweep_marks::mark(row, wide(c[3 * i]), e);
-}
-
 // Marks the faces across x of the shots of a list.
-fn mark_list(c: &[u16], e: usize, row: &mut [u8])
-    requires { ⌜ AllIn e (now c) × (length (now row) ≡ 1026) ⌝ }
-    ensures { λ _. ⌜ MarkedList e (now (c .entry)) (length (now (c .entry)) / 3) (now (row .exit)) ⌝ }
+fn mark_list(c: &[u16], edge: u16, row: &mut [u8])
+    requires { ⌜ AllIn edge (now c) × (length (now row) ≡ 1026) ⌝ }
+    ensures { λ _. ⌜ MarkedAll edge (now (c .entry)) (now (row .exit)) ⌝ }
 {
-    let n = c.len() / 3;
+    let n = job::shot::count(c);
     let mut i = 0;
     while i < n {
-        mark_shot(c, e, i, row);
+        sweep_marks::mark(row, job::shot::x_of(c, i), job::shot::edge_of(edge, c, i));
         i += 1;
     }
 }
@@ -63,7 +50,7 @@ fn is_blank(row: &[u8], from: usize, end: usize) -> bool
 // The corners of the plane x, unless it is not marked and so has none.
 fn plane_if(
     c: &[u16],
-    e: usize,
+    edge: u16,
     field: u16,
     x: u16,
     row: &[u8],
@@ -74,20 +61,21 @@ fn plane_if(
     t: CornerSums,
     buf: &mut [u8],
 ) -> CornerSums
-    requires { ⌜ InRun 1024 e (now c) (now run) × (length (now run) ≤ 4096) × (length (now near) ≡ 4096) × (length (now faces) ≡ 4096) × (length (now links) ≡ 4096) × (x ≤ 1024) × (field ≤ 1024) × Room t 1075840000 ⌝ }
-    requires { ⌜ Marked x-axis (shotsIn e (now c) (now run)) (now row) × (length (now row) ≡ 1026) ⌝ }
-    ensures { λ r. ⌜ PlaneOut field x (shotsIn e (now (c .entry)) (now (run .entry))) (state t (now (buf .entry))) (state r (now (buf .exit))) ⌝ }
+    requires { ⌜ PlaneIn (now c) edge field x (now run) t ⌝ }
+    requires { ⌜ (length (now near) ≡ 4096) × (length (now faces) ≡ 4096) × (length (now links) ≡ 4096) ⌝ }
+    requires { ⌜ Marked x-axis (shotsIn edge (now c) (now run)) (now row) × (length (now row) ≡ 1026) ⌝ }
+    ensures { λ r. ⌜ PlaneFound field x edge (now (c .entry)) (now (run .entry)) t (now (buf .entry)) r (now (buf .exit)) ⌝ }
 {
     if row[x as usize] == 0 {
         return t;
     }
-    sweep_plane::across(c, e, field, x, run, near, faces, links, t, buf)
+    sweep_plane::across(c, edge, field, x, run, near, faces, links, t, buf)
 }
 
 // The planes from `from` up to `end`, from a run of shots that gives these planes the list's corners.
 fn planes(
     c: &[u16],
-    e: usize,
+    edge: u16,
     field: u16,
     from: u16,
     end: u16,
@@ -96,9 +84,9 @@ fn planes(
     t: CornerSums,
     buf: &mut [u8],
 ) -> CornerSums
-    requires { ⌜ InRun 1024 e (now c) (now run) × (length (now run) ≤ 4096) × (from ≤ end) × (end ≤ 1025) × (field ≤ 1024) × Room t (from * 1050625) ⌝ }
-    requires { ⌜ Marked x-axis (shotsIn e (now c) (now run)) (now row) × (length (now row) ≡ 1026) × Agree field from end (shotsIn e (now c) (now run)) (shotsOf e (now c)) ⌝ }
-    ensures { λ r. ⌜ Swept field from end (shotsOf e (now (c .entry))) (state t (now (buf .entry))) (state r (now (buf .exit))) ⌝ }
+    requires { ⌜ SlabRun field edge (now c) from end (now row) (now run) × (length (now row) ≡ 1026) ⌝ }
+    requires { ⌜ (from ≤ end) × (end ≤ 1025) × (field ≤ 1024) × Room t (from * planePoints 1024) ⌝ }
+    ensures { λ r. ⌜ Swept field from end (shotsOf edge (now (c .entry))) (state t (now (buf .entry))) (state r (now (buf .exit))) ⌝ }
 {
     let mut near = [0u16; 4096];
     let mut faces = [0u16; 4096];
@@ -108,7 +96,7 @@ fn planes(
     while x < end {
         s = plane_if(
             c,
-            e,
+            edge,
             field,
             x,
             row,
@@ -138,8 +126,9 @@ fn slab(
     t: CornerSums,
     buf: &mut [u8],
 ) -> CornerSums
-    requires { ⌜ Valid field edge grid (now coords) × Holds field edge grid (now coords) (now work) × InSlab field grid gx from end × Room t (from * 1050625) ⌝ }
-    requires { ⌜ MarkedList edge (now coords) (length (now coords) / 3) (now row) × (length (now row) ≡ 1026) ⌝ }
+    requires { ⌜ Valid field edge grid (now coords) × Holds field edge grid (now coords) (now work) ⌝ }
+    requires { ⌜ MarkedAll edge (now coords) (now row) × (length (now row) ≡ 1026) ⌝ }
+    requires { ⌜ InSlab field grid gx from end × Room t (from * planePoints 1024) ⌝ }
     ensures { λ r. ⌜ Swept field from end (shotsOf edge (now (coords .entry))) (state t (now (buf .entry))) (state r (now (buf .exit))) ⌝ }
 {
     if is_blank(row, from as usize, end as usize) {
@@ -147,17 +136,7 @@ fn slab(
     }
     let mut run = [0u16; 4096];
     let n = grid_runs::slab(field, edge, grid, coords, work, gx, &mut run);
-    planes(
-        coords,
-        edge as usize,
-        field,
-        from,
-        end,
-        row,
-        &run[..n],
-        t,
-        buf,
-    )
+    planes(coords, edge, field, from, end, row, &run[..n], t, buf)
 }
 
 // The slabs one after the other: each has the planes up to its upper side.
@@ -171,8 +150,8 @@ fn slabs(
     buf: &mut [u8],
 ) -> CornerSums
     requires { ⌜ Valid field edge grid (now coords) × Holds field edge grid (now coords) (now work) ⌝ }
-    requires { ⌜ MarkedList edge (now coords) (length (now coords) / 3) (now row) × (length (now row) ≡ 1026) ⌝ }
-    ensures { λ r. ⌜ state r (now (buf .exit)) ≡ found (state (sumsOf []) (now (buf .entry))) (corners field (cells (shotsOf edge (now (coords .entry))))) ⌝ }
+    requires { ⌜ MarkedAll edge (now coords) (now row) × (length (now row) ≡ 1026) ⌝ }
+    ensures { λ r. ⌜ AllFound field edge (now (coords .entry)) (now (buf .entry)) r (now (buf .exit)) ⌝ }
 {
     let width = field / grid;
     let mut t = CornerSums::new();
@@ -211,9 +190,11 @@ pub fn sweep(
     buf: &mut [u8],
 ) -> CornerSums
     requires { ⌜ Valid field edge grid (now coords) × Holds field edge grid (now coords) (now work) ⌝ }
-    ensures { λ r. ⌜ state r (now (buf .exit)) ≡ found (state (sumsOf []) (now (buf .entry))) (corners field (cells (shotsOf edge (now (coords .entry))))) ⌝ }
+    ensures { λ r. ⌜
+        state r (now (buf .exit))
+        ≡ found (state (sumsOf []) (now (buf .entry))) (corners field (cells (shotsOf edge (now (coords .entry))))) ⌝ }
 {
     let mut row = [0u8; 1026];
-    mark_list(coords, edge as usize, &mut row);
+    mark_list(coords, edge, &mut row);
     slabs(field, edge, grid, coords, work, &row, buf)
 }

@@ -2,16 +2,16 @@
 use mathlib.Core.Path.{_≡_, refl, sym, _∙_, ap}
 use mathlib.Core.Bool.{Bool, true, false}
 use mathlib.Core.List.{List}
-use Prim.Native.Nat.{ℕ, _+_, _*_, _<_, _≤_}
+use Prim.Native.Nat.{ℕ, _+_, _<_, _≤_}
 use native.Mathlib.Omega.{arith}
 use lib.Dec.{eqb}
-use lib.ListN.{length, getD, set}
-use lib.Seq.{getD-set-same, getD-set-other}
+use lib.ListN.{length, getD, set, drop}
+use lib.Seq.{getD-set-same, getD-set-other, take-set-le, drop-set-lt, drop-drop}
 use native.Mathlib.Decide.{decLe}
 use borrow.Author.Tests.{eqb-true, eqb-false}
 use Rattle.lattice.specs.Cells.{bit}
 use Rattle.sweep_rows.specs.Rows.{past}
-use Rattle.sweep_fours.specs.Fours.{lowOf, Filled, Bounded, Still, StillIf}
+use Rattle.sweep_fours.specs.Fours.{lowOf, Overlaid, Bounded, Still, StillIf}
 
 -- ---- filling
 -- what holds of each place written before, and of the one written now
@@ -24,11 +24,18 @@ at-place P l lo z v h f g k a b = go (eqb k z) refl
     go false e = rw (getD-set-other l z k v 0 (eqb-false k z e)) (f k a (let n : (k ≡ z → ⊥) = eqb-false k z e in omega arith))
 
 module _ (lo : ℕ) (f : ℕ → ℕ) where
-  pub filled-none : (l : List ℕ) → Filled lo lo f l
-  filled-none l = record { at = λ z a b. absurd (omega arith) }
+  pub overlaid-none : (l : List ℕ) → Overlaid lo lo f l l
+  overlaid-none l = record { at = λ z a b. absurd (omega arith); before = refl; after = refl }
 
-  pub filled-more : {l : List ℕ} (z : ℕ) {v : ℕ} → z < length l → Filled lo z f l → v ≡ f z → Filled lo (z + 1) f (set l z v)
-  filled-more {l} z {v} h r e = record { at = at-place (λ k n. n ≡ f k) l lo z v h (r .at) e }
+  pub overlaid-more : {l₀ l : List ℕ} (z : ℕ) {v : ℕ} → lo ≤ z → z < length l → Overlaid lo z f l₀ l → v ≡ f z → Overlaid lo (z + 1) f l₀ (set l z v)
+  overlaid-more {l₀} {l} z {v} k h r e = record {
+    at = at-place (λ k n. n ≡ f k) l lo z v h (r .at) e;
+    before = take-set-le lo l z v k ∙ r .before;
+    after = drop-set-lt (z + 1) l z v (omega arith) ∙ drop-later z l ∙ ap (drop 1) (r .after) ∙ sym (drop-later z l₀);
+  }
+    where
+      drop-later : (z : ℕ) (l : List ℕ) → drop (z + 1) l ≡ drop 1 (drop z l)
+      drop-later z l = sym (drop-drop 1 z l)
 
 module _ (lo m : ℕ) where
   pub bounded-none : (l : List ℕ) → Bounded lo lo m l
@@ -41,7 +48,7 @@ bit-le : (b : Bool) → bit b ≤ 1
 bit-le true = omega arith
 bit-le false = omega arith
 
-pub low-bounded : (lo end y : ℕ) (u0 u1 : List ℕ) {l : List ℕ} → Filled lo end (lowOf y u0 u1) l → Bounded lo end 17 l
+pub low-bounded : (lo end y : ℕ) (u0 u1 : List ℕ) {l₀ l : List ℕ} → Overlaid lo end (lowOf y u0 u1) l₀ l → Bounded lo end 17 l
 low-bounded lo end y u0 u1 r = record { at = λ z a b. omega (arith, r .at z a b, bit-le (past y u0 z), bit-le (past y u1 z)) }
 
 -- ---- staying the same

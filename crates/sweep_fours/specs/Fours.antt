@@ -4,7 +4,7 @@ use mathlib.Core.Logic.{_≢_}
 use mathlib.Core.Bool.{Bool, true}
 use mathlib.Core.List.{List}
 use Prim.Native.Nat.{ℕ, _+_, _*_, _<_, _≤_}
-use lib.ListN.{getD}
+use lib.ListN.{getD, take, drop}
 use Rattle.lattice.specs.Cells.{bit}
 use Rattle.sweep_rows.specs.Rows.{past}
 
@@ -16,9 +16,15 @@ lowOf y u0 u1 z = bit (past y u0 z) + 16 * bit (past y u1 z)
 abbrev pub fourOf : ℕ → List ℕ → List ℕ → List ℕ → ℕ → ℕ
 fourOf y low u0 u1 z = getD low z 0 + 4 * bit (past (y + 1) u0 z) + 64 * bit (past (y + 1) u1 z)
 
--- the places from lo up to end hold f
-pub record Filled (lo end : ℕ) (f : ℕ → ℕ) (l : List ℕ) : Type 0 where
+-- l is l₀ with f at the places from lo up to end
+pub record Overlaid (lo end : ℕ) (f : ℕ → ℕ) (l₀ l : List ℕ) : Type 0 where
   pub at : (z : ℕ) → lo ≤ z → z < end → getD l z 0 ≡ f z
+  pub before : take lo l ≡ take lo l₀
+  pub after : drop end l ≡ drop end l₀
+
+-- `after` is `before` with the four cells at these places
+abbrev pub WithFours : ℕ → ℕ → ℕ → List ℕ → List ℕ → List ℕ → List ℕ → List ℕ → Type 0
+WithFours lo end y low u0 u1 before after = Overlaid lo end (fourOf y low u0 u1) before after
 
 pub record Bounded (lo end m : ℕ) (l : List ℕ) : Type 0 where
   pub at : (z : ℕ) → lo ≤ z → z < end → getD l z 0 ≤ m

@@ -1,13 +1,14 @@
 // The four cells at each place of a line along z, as a byte: 1 and 4 stand for the cells of the lower layer below and above the line on
 // y, 16 and 64 for those of the upper layer. So the pattern of a point is the byte of the place below it and twice that of the place
-// above it. The bytes are read from two rows of ends, half of each before the shots of the line begin and half after. Stands on `sweep_rows`.
+// above it. The bytes are read from two rows of ends, half of each before the shots of the line begin and half after.
+// Stands on `sweep_rows`.
 ghost use mathlib.Core.Path.{_≡_};
 ghost use Prim.Native.Nat.{_+_, _*_, _<_, _≤_};
 ghost use lib.Dec.{ltb};
 ghost use lib.ListN.{length};
 ghost use mathlib.Core.Bool.{true, false};
 ghost use Rattle.lattice.specs.Cells.{bit};
-ghost use Rattle.sweep_fours.specs.Fours.{Filled, Bounded, Still, StillIf, FirstChange, lowOf, fourOf};
+ghost use Rattle.sweep_fours.specs.Fours.{Overlaid, Bounded, Still, StillIf, FirstChange, lowOf, WithFours};
 
 fn one(b: bool) -> u8
     ensures { λ r. ⌜ (r ≡ bit b) × (r ≤ 1) ⌝ }
@@ -28,10 +29,11 @@ fn four_byte(y: u16, low: u8, a: u16, b: u16) -> u8
     low + 4 * one(y + 1 < a) + 64 * one(y + 1 < b)
 }
 
-// The cells below y at the places from lo up to end, from the rows before the line's shots begin.
+// The cells below y at the places from lo up to end, from the rows before the line's shots begin; the other places keep their values.
 pub fn below(y: u16, lo: usize, end: usize, u0: &[u16], u1: &[u16], low: &mut [u8])
-    requires { ⌜ (lo ≤ end) × (end ≤ 1026) × (length (now u0) ≡ 1026) × (length (now u1) ≡ 1026) × (length (now low) ≡ 1026) ⌝ }
-    ensures { λ _. ⌜ Filled lo end (lowOf y (now (u0 .entry)) (now (u1 .entry))) (now (low .exit)) ⌝ }
+    requires { ⌜ (lo ≤ end) × (end ≤ 1026) × (length (now low) ≡ 1026) ⌝ }
+    requires { ⌜ (length (now u0) ≡ 1026) × (length (now u1) ≡ 1026) ⌝ }
+    ensures { λ _. ⌜ Overlaid lo end (lowOf y (now (u0 .entry)) (now (u1 .entry))) (now (low .entry)) (now (low .exit)) ⌝ }
 {
     let mut z = lo;
     while z < end {
@@ -40,11 +42,13 @@ pub fn below(y: u16, lo: usize, end: usize, u0: &[u16], u1: &[u16], low: &mut [u
     }
 }
 
-// All four cells at the places from lo up to end, from the cells below y and the rows after the line's shots have begun.
+// All four cells at the places from lo up to end, from the cells below y and the rows after the line's shots have begun; the other places
+// keep their values.
 pub fn above(y: u16, lo: usize, end: usize, u0: &[u16], u1: &[u16], low: &[u8], four: &mut [u8])
-    requires { ⌜ (y ≤ 1024) × (lo ≤ end) × (end ≤ 1026) × (length (now u0) ≡ 1026) × (length (now u1) ≡ 1026) × (length (now low) ≡ 1026) × (length (now four) ≡ 1026) ⌝ }
-    requires { ⌜ Bounded lo end 17 (now low) ⌝ }
-    ensures { λ _. ⌜ Filled lo end (fourOf y (now (low .entry)) (now (u0 .entry)) (now (u1 .entry))) (now (four .exit)) × Bounded lo end 85 (now (four .exit)) ⌝ }
+    requires { ⌜ (y ≤ 1024) × (lo ≤ end) × (end ≤ 1026) × (length (now low) ≡ 1026) × (length (now four) ≡ 1026) ⌝ }
+    requires { ⌜ (length (now u0) ≡ 1026) × (length (now u1) ≡ 1026) × Bounded lo end 17 (now low) ⌝ }
+    ensures { λ _. ⌜ WithFours lo end y (now (low .entry)) (now (u0 .entry)) (now (u1 .entry)) (now (four .entry)) (now (four .exit)) ⌝ }
+    ensures { λ _. ⌜ Bounded lo end 85 (now (four .exit)) ⌝ }
 {
     let mut z = lo;
     while z < end {

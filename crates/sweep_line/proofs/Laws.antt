@@ -9,21 +9,20 @@ use native.Mathlib.Numerals.{add-one}
 use native.Mathlib.Nat.{le-refl}
 use lib.ListN.{getD}
 use borrow.Author.Tests.{eq-eqb, ne-eqb, le-leb, lt-leb}
-use Rattle.lattice.specs.Shots.{Shot}
+use Rattle.lattice.specs.Cells.{linePoints, fieldPoints}
 use Rattle.lattice.specs.Sums.{join}
 use Rattle.lattice.specs.Listing.{Corner}
 use Rattle.lattice_sums.specs.CornerSums.{Room}
 use Rattle.lattice_sums.specs.declared.sums.CornerSums.{CornerSums}
 use Rattle.lattice_sums.proofs.CornerSumLaws.{room-more}
 use Rattle.sweep_rows.specs.Runs.{shotsIn}
-use Rattle.sweep_rows.specs.Rows.{Ends}
 use Rattle.sweep_chains.specs.Chains.{Started}
 use Rattle.sweep_chains.proofs.Laws.{ends-next}
-use Rattle.sweep_fours.specs.Fours.{lowOf, fourOf, Filled, Still}
+use Rattle.sweep_fours.specs.Fours.{lowOf, fourOf, Overlaid, Still}
 use Rattle.sweep_tally.specs.Found.{Found, state, found, spot}
 use Rattle.sweep_tally.proofs.Laws.{found-append, room-spot}
-use Rattle.sweep_line.specs.Line.{turn, since, lineFrom}
-use Rattle.sweep_line.specs.Promise.{LineIn, LineOut}
+use Rattle.sweep_line.specs.Line.{turn, since, lineFrom, lineTo}
+use Rattle.sweep_line.specs.Promise.{LineIn, NextRows, LineOut}
 use Rattle.sweep_line.proofs.Outside.{row-none, row-is}
 
 -- ---- the scan
@@ -80,25 +79,21 @@ room-point t b {t'} x y z p n m hx hy hz e h r =
 -- ---- a line
 module _ (c : List ℕ) (e x y lo hi : ℕ) (run : List ℕ) {heads links u0 u1 u0' u1' : List ℕ} {t : CornerSums} (a : LineIn c e x y lo hi run heads links u0 u1 t)
     (s0 : Started x y (shotsIn e c run) u0 u0') (s1 : Started (x + 1) y (shotsIn e c run) u1 u1') where
-  pub line-empty : hi < lo → (b : List ℕ) → LineOut x y (shotsIn e c run) u0' u1' (state t b) (state t b)
-  unfolding found
-  line-empty h b = record {
-    lower = ends-next x (shotsIn e c run) y (a .lower) s0;
-    upper = ends-next (x + 1) (shotsIn e c run) y (a .upper) s1;
-    is = sym (ap (found (state t b)) (row-none x y lo hi (shotsIn e c run) (a .window) h));
-    room = room-own t 1076889600 1025 (a .room);
+  pub next-rows : NextRows x y (shotsIn e c run) u0' u1'
+  next-rows = record { lower = ends-next x (shotsIn e c run) y (a .lower) s0; upper = ends-next (x + 1) (shotsIn e c run) y (a .upper) s1 }
+
+  pub line-full : {low₀ low four₀ four : List ℕ} → Overlaid lo (hi + 2) (lowOf y u0 u1) low₀ low → Overlaid lo (hi + 2) (fourOf y low u0' u1') four₀ four
+      → {t' : CornerSums} {b b' : List ℕ} → state t' b' ≡ found (state t b) (lineTo lo hi x y four) → Room t' (t .corners + linePoints 1024)
+      → LineOut x y (shotsIn e c run) (state t b) (state t' b')
+  line-full l f {t'} {b} {b'} r m = record {
+    is = r ∙ ap (found (state t b)) (row-is x y lo hi (shotsIn e c run) (a .window) (a .lower) (next-rows .lower) (a .upper) (next-rows .upper) l f (a .top));
+    room = m;
   }
 
-  pub line-full : {low four : List ℕ} → Filled lo (hi + 2) (lowOf y u0 u1) low → Filled lo (hi + 2) (fourOf y low u0' u1') four
-      → {t' : CornerSums} {b b' : List ℕ} → state t' b' ≡ found (state t b) (join (hi + 1) (lineFrom lo x y four)) → Room t' (t .corners + 1025)
-      → LineOut x y (shotsIn e c run) u0' u1' (state t b) (state t' b')
-  line-full l f {t'} {b} {b'} r m =
-      let ts : List Shot = shotsIn e c run in
-      let l0 : Ends x (y + 1) ts u0' = ends-next x ts y (a .lower) s0 in
-      let l1 : Ends (x + 1) (y + 1) ts u1' = ends-next (x + 1) ts y (a .upper) s1 in
-      record {
-        lower = l0;
-        upper = l1;
-        is = r ∙ ap (found (state t b)) (row-is x y lo hi ts (a .window) (a .lower) l0 (a .upper) l1 l f (a .top));
-        room = m;
-      }
+pub line-empty : (c : List ℕ) (e x y lo hi : ℕ) (run : List ℕ) {heads links u0 u1 : List ℕ} {t : CornerSums} → LineIn c e x y lo hi run heads links u0 u1 t
+    → hi < lo → (b : List ℕ) → LineOut x y (shotsIn e c run) (state t b) (state t b)
+unfolding found
+line-empty c e x y lo hi run {t = t} a h b = record {
+  is = sym (ap (found (state t b)) (row-none x y lo hi (shotsIn e c run) (a .window) h));
+  room = room-own t (fieldPoints 1024 - linePoints 1024) (linePoints 1024) (a .room);
+}

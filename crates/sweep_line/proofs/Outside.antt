@@ -9,19 +9,19 @@ use native.Mathlib.Decide.{decLe}
 use lib.Dec.{T, leb, ltb, leb→le, ltb→lt}
 use lib.ListN.{getD}
 use borrow.Author.Tests.{leb-true, leb-false}
-use Rattle.lattice.specs.Cells.{up}
+use Rattle.lattice.proofs.JoinLaws.{join-nil, join-end}
+use Rattle.lattice.specs.Axes.{x-axis}
+use Rattle.lattice.specs.Sums.{join}
+use Rattle.lattice.specs.Cells.{up, linePoints}
 use Rattle.lattice.specs.Pattern.{around}
 use Rattle.lattice.specs.Shots.{Shot, any, cells}
-use Rattle.lattice.specs.Sums.{join}
 use Rattle.lattice.specs.Listing.{Corner, here}
-use Rattle.lattice.specs.Axes.{x-axis}
 use Rattle.lattice.proofs.PatternLaws.{still-no-corner}
 use Rattle.lattice.proofs.ShotLaws.{and-elim, holds, below-cells, holds-still}
-use Rattle.lattice.proofs.JoinLaws.{join-nil, join-end}
 use Rattle.lattice.proofs.SameSolid.{here-none}
 use Rattle.sweep_rows.specs.Rows.{Ends}
-use Rattle.sweep_fours.specs.Fours.{lowOf, fourOf, Filled}
-use Rattle.sweep_line.specs.Line.{turn, since, lineFrom}
+use Rattle.sweep_fours.specs.Fours.{lowOf, fourOf, Overlaid}
+use Rattle.sweep_line.specs.Line.{turn, lineFrom, lineTo}
 use Rattle.sweep_windows.specs.Windows.{Frames, FaceAt, FramedAt}
 use Rattle.sweep_line.proofs.Patterns.{turn-here}
 
@@ -72,18 +72,18 @@ module _ (x y lo hi : ℕ) (ts : List Shot) (f : FramedAt x y lo hi ts) where
   here-out z out = here-none (cells ts) x y z (still-no-corner x-axis (around (cells ts) x y z) (λ b c.
       below-cells ts (suc x) (up b y) (up c z) ∙ still-all x y z lo hi out b c ts f ∙ sym (below-cells ts x (up b y) (up c z))))
 
-  pub row-none : hi < lo → join 1025 (here (cells ts) x y) ≡ []
-  row-none h = join-nil 1025 (λ z. here-out z (go z (decLe lo z)))
+  pub row-none : hi < lo → join (linePoints 1024) (here (cells ts) x y) ≡ []
+  row-none h = join-nil (linePoints 1024) (λ z. here-out z (go z (decLe lo z)))
     where
       go : (z : ℕ) → Dec (lo ≤ z) → (z < lo) ⊎ (hi < z)
       go z (yes l) = inr (omega arith)
       go z (no l) = inl (omega arith)
 
-  pub row-is : {p0 u0 p1 u1 low four : List ℕ} → Ends x y ts p0 → Ends x (y + 1) ts u0 → Ends (x + 1) y ts p1 → Ends (x + 1) (y + 1) ts u1
-      → Filled lo (hi + 2) (lowOf y p0 p1) low → Filled lo (hi + 2) (fourOf y low u0 u1) four → hi ≤ 1024
-      → join (hi + 1) (lineFrom lo x y four) ≡ join 1025 (here (cells ts) x y)
+  pub row-is : {p0 u0 p1 u1 low₀ low four₀ four : List ℕ} → Ends x y ts p0 → Ends x (y + 1) ts u0 → Ends (x + 1) y ts p1 → Ends (x + 1) (y + 1) ts u1
+      → Overlaid lo (hi + 2) (lowOf y p0 p1) low₀ low → Overlaid lo (hi + 2) (fourOf y low u0 u1) four₀ four → hi ≤ 1024
+      → lineTo lo hi x y four ≡ join (linePoints 1024) (here (cells ts) x y)
   unfolding lineFrom
-  row-is {p0} {u0} {p1} {u1} {low} {four} a b c d l g h =
+  row-is {four = four} a b c d l g h =
       let F : ℕ → List Corner = here (cells ts) x y in
       let k : 1024 - hi + (hi + 1) ≡ 1025 = omega arith in
       join-below (hi + 1) (λ z m. inside z m (leb lo z) refl)

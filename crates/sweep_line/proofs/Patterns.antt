@@ -1,27 +1,27 @@
 -- Between two places of a line, the bytes of the four cells below and above a point make its pattern.
-use mathlib.Core.Path.{_≡_, refl, sym, _∙_, ap, ap₂, subst}
-use mathlib.Core.Bool.{Bool, true, false, cond, not}
+use mathlib.Core.Path.{_≡_, refl, sym, _∙_, ap, ap₂}
+use mathlib.Core.Bool.{Bool, true, false, cond}
 use mathlib.Core.List.{List, [], _∷_}
 use Prim.Native.Nat.{ℕ, suc, _+_, _*_, _<_, _≤_}
 use native.Mathlib.Omega.{arith}
 use native.Mathlib.Numerals.{add-one}
-use lib.Dec.{T, eqb}
+use lib.Dec.{eqb}
 use lib.ListN.{getD}
 use borrow.Author.Tests.{eqb-true}
-use Rattle.lattice.specs.Cells.{Cells, below, up, bit}
-use Rattle.lattice.specs.Pattern.{Pattern, around, byte, ofByte, corner, someNonzero, w, ax, ay, az, ex, ey, ez}
-use Rattle.lattice.specs.Shots.{Shot, cells}
-use Rattle.lattice.specs.Listing.{Corner, here}
 use Rattle.lattice.specs.Axes.{z-axis}
+use Rattle.lattice.specs.Cells.{Cells, below, up, bit}
+use Rattle.lattice.specs.Pattern.{Pattern, around, byte, ofByte, corner}
+use Rattle.lattice.specs.Shots.{Shot, cells}
+use Rattle.lattice.specs.Listing.{here}
 use Rattle.lattice.proofs.PatternLaws.{ofByte-byte, still-no-corner}
 use Rattle.sweep_rows.specs.Rows.{past, Ends}
 use Rattle.sweep_rows.proofs.EndsLaws.{ends-cell}
-use Rattle.sweep_fours.specs.Fours.{lowOf, fourOf, Filled}
+use Rattle.sweep_fours.specs.Fours.{lowOf, fourOf, Overlaid}
 use Rattle.sweep_tally.specs.Found.{at, spot}
 use Rattle.sweep_line.specs.Line.{turn}
 
 -- the byte of four cells
-abbrev pub fourBy : (Bool → Bool → Bool) → ℕ
+abbrev fourBy : (Bool → Bool → Bool) → ℕ
 fourBy q = bit (q false false) + 4 * bit (q false true) + 16 * bit (q true false) + 64 * bit (q true true)
 
 byte-split : (p : Pattern) → fourBy (λ a b. p a b false) + 2 * fourBy (λ a b. p a b true) ≡ byte p
@@ -64,9 +64,9 @@ turn-is p x y z = go (eqb m n) refl
     go true e = sym (ap (λ c. cond c (at x y z (byte p) ∷ []) []) (still-no-corner z-axis p (λ a b. four-known (λ a b. p a b true) (λ a b. p a b false) (sym (eqb-true m n e)) a b)))
     go false e = ap (λ k. cond (corner (ofByte k)) (at x y z k ∷ []) []) (byte-split p) ∙ ap (λ q. cond (corner q) (at x y z (byte p) ∷ []) []) (ofByte-byte p)
 
-module _ (x y : ℕ) (ts : List Shot) {p0 u0 p1 u1 low four : List ℕ} (lo end : ℕ)
+module _ (x y : ℕ) (ts : List Shot) {p0 u0 p1 u1 low₀ low four₀ four : List ℕ} (lo end : ℕ)
     (a : Ends x y ts p0) (b : Ends x (y + 1) ts u0) (c : Ends (x + 1) y ts p1) (d : Ends (x + 1) (y + 1) ts u1)
-    (l : Filled lo end (lowOf y p0 p1) low) (f : Filled lo end (fourOf y low u0 u1) four) where
+    (l : Overlaid lo end (lowOf y p0 p1) low₀ low) (f : Overlaid lo end (fourOf y low u0 u1) four₀ four) where
   four-is : (z : ℕ) → lo ≤ z → z < end → getD four z 0 ≡ fourBy (λ a b. below (cells ts) (up a x) (up b y) z)
   four-is z h k =
       let s : Cells = cells ts in

@@ -1,53 +1,58 @@
 -- Lines that are skipped, line after line, and what a selection tells of a plane.
-use mathlib.Core.Path.{_≡_, refl, sym, _∙_, ap, ap₂, subst, fun-ext}
-use mathlib.Core.Logic.{_≢_, _⊎_, ⊎-elim, inl, inr}
+use mathlib.Core.Path.{_≡_, refl, sym, _∙_, ap, subst, fun-ext}
+use mathlib.Core.Logic.{_⊎_, ⊎-elim, inl, inr}
 use mathlib.Core.Bool.{Bool, true, false, cond, _&&_, _||_}
-use mathlib.Core.List.{List, [], _∷_, _++_}
-use Prim.Native.Nat.{ℕ, zero, suc, _+_, _-_, _*_, _<_, _≤_}
+use mathlib.Core.List.{List, [], _∷_}
+use Prim.Native.Nat.{ℕ, zero, suc, _+_, _-_, _*_, _≤_}
 use native.Mathlib.Omega.{arith}
 use native.Mathlib.Numerals.{add-one}
 use lib.Dec.{T, leb, eqb, le→leb}
-use lib.ListN.{length, getD, replicate, length-replicate, take}
+use lib.ListN.{length, getD, replicate, length-replicate, take, drop}
+use lib.Seq.{drop-drop}
 use borrow.Author.Tests.{eq-eqb, ne-eqb}
+use Rattle.lattice.proofs.JoinLaws.{join-nil}
+use Rattle.lattice.specs.Axes.{y-axis, NoFace}
+use Rattle.lattice.specs.Sums.{join}
+use Rattle.buffer.specs.Wrote.{Wrote}
+use Rattle.buffer.proofs.WroteLaws.{front-part}
 use Rattle.job.specs.Job.{shotAt}
-use Rattle.lattice.specs.Cells.{Cells, below, up}
+use Rattle.lattice.specs.Cells.{Cells, up, linePoints, planePoints, fieldPoints}
 use Rattle.lattice.specs.Pattern.{Pattern, around, byte, corner}
 use Rattle.lattice.specs.Shots.{Shot, any, cells}
-use Rattle.lattice.specs.Sums.{join}
-use Rattle.lattice.specs.Listing.{Corner, here}
+use Rattle.lattice.specs.Listing.{here}
 use Rattle.lattice_sums.specs.CornerSums.{Room}
 use Rattle.lattice_sums.specs.declared.sums.CornerSums.{CornerSums}
 use Rattle.lattice_sums.proofs.CornerSumLaws.{room-more}
-use Rattle.lattice.specs.Axes.{y-axis, NoFace}
 use Rattle.lattice.proofs.ShotLaws.{and-elim, holds, below-cells, no-face-no-corner}
-use Rattle.lattice.proofs.JoinLaws.{join-nil}
 use Rattle.lattice.proofs.SameSolid.{here-none}
-use Rattle.sweep_rows.specs.Runs.{InRun, InList, runTo, shotsIn}
+use Rattle.sweep_rows.specs.Runs.{InRun, InList, KeptPast, runTo, shotsIn}
 use Rattle.sweep_rows.specs.Rows.{Ends}
 use Rattle.sweep_rows.proofs.EndsLaws.{ends-none}
-use Rattle.sweep_chains.specs.Chains.{begins, Lines, Blank, Chained}
+use Rattle.sweep_chains.specs.Chains.{Lines, Blank}
 use Rattle.sweep_chains.proofs.Laws.{started-none, ends-next}
-use Rattle.sweep_selection.specs.Selection.{wanted, kept, Selected}
-use Rattle.sweep_selection.proofs.Laws.{selected-shots, selected-in, any-kept}
-use Rattle.sweep_marks.specs.Marks.{MarkedMore, Marked}
+use Rattle.sweep_selection.specs.Selection.{wanted, selected, wantedOf}
+use Rattle.sweep_selection.proofs.Laws.{selected-shots, selected-in, selected-few, any-wanted}
+use Rattle.sweep_marks.specs.Marks.{marked, Marked}
 use Rattle.sweep_marks.proofs.Laws as marks
 use Rattle.sweep_tally.specs.Found.{Found, state, found}
 use Rattle.sweep_tally.proofs.Laws.{found-append}
-use Rattle.sweep_windows.specs.Windows.{Frames, FaceAt, Framed, FramedAt, Rows, Windows}
-use Rattle.sweep_line.specs.Promise.{Prepared, LineIn, LineOut}
+use Rattle.sweep_windows.specs.Windows.{Framed, FramedAt, Windows}
+use Rattle.sweep_line.specs.Promise.{LineIn, NextRows, LineOut}
 use Rattle.sweep_line.proofs.Laws.{room-own}
 use Rattle.sweep_line.proofs.Outside.{touch, row-none}
-use Rattle.sweep_plane.specs.Plane.{linesTo, planeOf, Faces, WindowsAt, PlaneOut}
+use Rattle.sweep_plane.specs.Plane.{linesTo, planeOf, Faces, WindowsAt, PlaneIn, PlaneOut}
 
 -- ---- marks
 pub marked-start : (e : ℕ) (c run row : List ℕ) → Marked y-axis (runTo e c run 0) row
 unfolding runTo
 marked-start e c run row = marks.marked-none y-axis row
 
-pub marked-next : (e : ℕ) (c run : List ℕ) (q : ℕ) {row row' : List ℕ} → Marked y-axis (runTo e c run q) row
-    → MarkedMore (shotAt e c (getD run q 0) .y) e row row' → Marked y-axis (runTo e c run (q + 1)) row'
+pub marked-next : (e : ℕ) (c run : List ℕ) (q : ℕ) {row row' : List ℕ} {a b : ℕ} → InList e c (getD run q 0) → length row ≡ 1026
+    → a ≡ shotAt e c (getD run q 0) .y → b ≡ shotAt e c (getD run q 0) .edge → row' ≡ marked a b row
+    → Marked y-axis (runTo e c run q) row → Marked y-axis (runTo e c run (q + 1)) row'
 unfolding runTo
-marked-next e c run q f g = rw add-one (marks.marked-more y-axis (shotAt e c (getD run q 0)) (runTo e c run q) refl refl f g)
+marked-next e c run q {row} i l ea eb er f =
+    rw (add-one q, er, ea, eb) (marks.marked-more y-axis (shotAt e c (getD run q 0)) (runTo e c run q) l (i .inside .y-in) f)
 
 -- ---- a line with no face across y
 no-start : (y : ℕ) (ts : List Shot) → NoFace y-axis y ts → any (λ t. eqb (t .y) y) ts ≡ false
@@ -55,17 +60,22 @@ unfolding any
 no-start y [] h = refl
 no-start y (t ∷ ts) h = rw (ne-eqb (t .y) y (h .0)) (no-start y ts (h .2))
 
-pub line-skip : (c : List ℕ) (e x y lo hi : ℕ) (run : List ℕ) {heads links u0 u1 : List ℕ} {t : CornerSums} → LineIn c e x y lo hi run heads links u0 u1 t
-    → NoFace y-axis y (shotsIn e c run) → (b : List ℕ) → LineOut x y (shotsIn e c run) u0 u1 (state t b) (state t b)
-unfolding found
-line-skip c e x y lo hi run {heads} {links} {u0} {u1} {t} a h b =
-    let ts : List Shot = shotsIn e c run in
-    record {
-      lower = ends-next x ts y (a .lower) (started-none x y ts u0 (no-start y ts h));
-      upper = ends-next (x + 1) ts y (a .upper) (started-none (x + 1) y ts u1 (no-start y ts h));
-      is = sym (ap (found (state t b)) (join-nil 1025 (λ z. here-none (cells ts) x y z (no-face-no-corner y-axis ts x y z h))));
-      room = room-own t 1076889600 1025 (a .room);
-    }
+module _ (c : List ℕ) (e x y lo hi : ℕ) (run : List ℕ) {heads links u0 u1 : List ℕ} {t : CornerSums} (a : LineIn c e x y lo hi run heads links u0 u1 t)
+    (h : NoFace y-axis y (shotsIn e c run)) where
+  pub line-skip : (b : List ℕ) → LineOut x y (shotsIn e c run) (state t b) (state t b)
+  unfolding found
+  line-skip b = record {
+    is = sym (ap (found (state t b)) (join-nil (linePoints 1024) (λ z. here-none (cells (shotsIn e c run)) x y z (no-face-no-corner y-axis (shotsIn e c run) x y z h))));
+    room = room-own t (fieldPoints 1024 - linePoints 1024) (linePoints 1024) (a .room);
+  }
+
+  pub rows-skip : NextRows x y (shotsIn e c run) u0 u1
+  rows-skip =
+      let ts : List Shot = shotsIn e c run in
+      record {
+        lower = ends-next x ts y (a .lower) (started-none x y ts u0 (no-start y ts h));
+        upper = ends-next (x + 1) ts y (a .upper) (started-none (x + 1) y ts u1 (no-start y ts h));
+      }
 
 -- ---- line after line
 zeros : (n z : ℕ) → _≡_ {A = ℕ} (getD (replicate n 0) z 0) 0
@@ -83,19 +93,19 @@ pub lines-none : (x : ℕ) (ts : List Shot) (f : Found) → f ≡ found f (lines
 unfolding linesTo join found
 lines-none x ts f = refl
 
-pub lines-more : (x y : ℕ) (ts : List Shot) (f : Found) {g h : Found} → g ≡ found f (linesTo y x ts) → h ≡ found g (join 1025 (here (cells ts) x y))
+pub lines-more : (x y : ℕ) (ts : List Shot) (f : Found) {g h : Found} → g ≡ found f (linesTo y x ts) → h ≡ found g (join (linePoints 1024) (here (cells ts) x y))
     → h ≡ found f (linesTo (y + 1) x ts)
 unfolding linesTo join
 lines-more x y ts f {g} {h} a b =
-    rw (add-one y) (b ∙ ap (λ g. found g (join 1025 (here (cells ts) x y))) a ∙ sym (found-append f (linesTo y x ts) (join 1025 (here (cells ts) x y))))
+    rw (add-one y) (b ∙ ap (λ g. found g (join (linePoints 1024) (here (cells ts) x y))) a ∙ sym (found-append f (linesTo y x ts) (join (linePoints 1024) (here (cells ts) x y))))
 
-pub lines-all : (n x : ℕ) (ts : List Shot) (f : Found) (y : ℕ) {g : Found} → y ≡ n + 1 → n ≤ 1024 → g ≡ found f (linesTo y x ts) → Room (g .sums) (f .sums .corners + y * 1025)
+pub lines-all : (n x : ℕ) (ts : List Shot) (f : Found) (y : ℕ) {g : Found} → y ≡ n + 1 → n ≤ 1024 → g ≡ found f (linesTo y x ts) → Room (g .sums) (f .sums .corners + y * linePoints 1024)
     → PlaneOut n x ts f g
 unfolding planeOf
-lines-all n x ts f y {g} e h a r = record { is = a ∙ ap (λ m. found f (linesTo m x ts)) e; room = room-more (g .sums) (f .sums .corners + y * 1025) (f .sums .corners + 1050625) (omega arith) r }
+lines-all n x ts f y {g} e h a r = record { is = a ∙ ap (λ m. found f (linesTo m x ts)) e; room = room-more (g .sums) (f .sums .corners + y * linePoints 1024) (f .sums .corners + planePoints 1024) (omega arith) r }
 
-pub chain-lines : (e : ℕ) (c run : List ℕ) → InRun 1024 e c run → Lines c run
-chain-lines e c run h q l = let i : InList 1024 e c (getD run q 0) = h q l in (omega (arith, i .there), omega (arith, i .y-in))
+pub chain-lines : (e : ℕ) (c run : List ℕ) → InRun e c run → Lines c run
+chain-lines e c run h q l = let i : InList e c (getD run q 0) = h q l in (i .there, omega (arith, i .inside .y-in))
 
 -- ---- the shots with a face on the plane
 face-true : (a b : Bool) → (a || b) ≡ false → (a ≡ true) ⊎ (b ≡ true) → ⊥
@@ -103,33 +113,34 @@ face-true true b e h = absurd (subst T e tt)
 face-true false true e h = absurd (subst T e tt)
 face-true false false e h = ⊎-elim (λ k. subst T (sym k) tt) (λ k. subst T (sym k) tt) h
 
-framed-kept : (x y lo hi : ℕ) (ts : List Shot) → Framed y lo hi (kept (wanted true x) ts) → FramedAt x y lo hi ts
-unfolding kept
-framed-kept x y lo hi [] f = tt
-framed-kept x y lo hi (t ∷ ts) f = go (wanted true x t) refl (framed-kept x y lo hi ts) f
+framed-wanted : (x y lo hi : ℕ) (ts : List Shot) → Framed y lo hi (wantedOf true x ts) → FramedAt x y lo hi ts
+unfolding wantedOf
+framed-wanted x y lo hi [] f = tt
+framed-wanted x y lo hi (t ∷ ts) f = go (wanted true x t) refl (framed-wanted x y lo hi ts) f
   where
-    go : (w : Bool) → wanted true x t ≡ w → (Framed y lo hi (kept (wanted true x) ts) → FramedAt x y lo hi ts)
-        → Framed y lo hi (cond w (t ∷ kept (wanted true x) ts) (kept (wanted true x) ts)) → FramedAt x y lo hi (t ∷ ts)
+    go : (w : Bool) → wanted true x t ≡ w → (Framed y lo hi (wantedOf true x ts) → FramedAt x y lo hi ts)
+        → Framed y lo hi (cond w (t ∷ wantedOf true x ts) (wantedOf true x ts)) → FramedAt x y lo hi (t ∷ ts)
     go true w r f = ((λ k. f .0), r (f .1))
     go false w r f =
         ((λ k. absurd (face-true (eqb (t .x) x) (eqb (t .x + t .edge) x) w (⊎-elim (λ m. inl (eq-eqb (t .x) x m)) (λ m. inr (eq-eqb (t .x + t .edge) x m)) k))), r f)
 
-module _ (c : List ℕ) (e x : ℕ) (run faces : List ℕ) (n : ℕ) (h : n ≤ length faces) (s : Selected c e x true run faces n) where
-  pub faces-are : Faces c e x run (take n faces)
-  faces-are = record {
-    in-faces = selected-in c e x true run faces n h s;
-    faced = λ y lo hi f. framed-kept x y lo hi (shotsIn e c run) (subst (Framed y lo hi) (selected-shots c e x true run faces n h s) f);
-  }
+module _ (c : List ℕ) (e x : ℕ) (run : List ℕ) where
+  framed-selected : (y lo hi : ℕ) → Framed y lo hi (shotsIn e c (selected true x e c run)) → FramedAt x y lo hi (shotsIn e c run)
+  framed-selected y lo hi f = framed-wanted x y lo hi (shotsIn e c run) (subst (Framed y lo hi) (selected-shots e c true x run) f)
 
-  pub plane-none : n ≡ 0 → (m : ℕ) (t : CornerSums) (b : List ℕ) {k : ℕ} → Room t k → PlaneOut m x (shotsIn e c run) (state t b) (state t b)
-  unfolding planeOf linesTo found runTo
-  plane-none z m t b {k} r =
-      let ts : List Shot = shotsIn e c run in
-      let none : _≡_ {A = List Shot} [] (kept (wanted true x) ts) = subst (λ n. runTo e c faces n ≡ kept (wanted true x) ts) z (s .is) in
-      record {
-        is = sym (ap (found (state t b)) (join-nil (m + 1) (λ y. row-none x y 1 0 ts (framed-kept x y 1 0 ts (subst (Framed y 1 0) none tt)) (omega arith))));
-        room = room-own t k 1050625 r;
-      }
+  module _ {d d' : List ℕ} {n : ℕ} (w : Wrote d d' 0 n (selected true x e c run)) where
+    pub faces-are : InRun e c run → Faces c e x run (take n d')
+    faces-are h = rw (front-part w) (record { in-faces = selected-in e c true x run h; faced = framed-selected })
+
+    pub plane-none : n ≡ 0 → (m : ℕ) (t : CornerSums) (b : List ℕ) {k : ℕ} → Room t k → PlaneOut m x (shotsIn e c run) (state t b) (state t b)
+    unfolding planeOf linesTo found runTo
+    plane-none z m t b {k} r =
+        let none : selected true x e c run ≡ [] = sym (front-part w) ∙ ap (λ n. take n d') z in
+        record {
+          is = sym (ap (found (state t b)) (join-nil (m + 1) (λ y.
+              row-none x y 1 0 (shotsIn e c run) (framed-selected y 1 0 (subst (λ l. Framed y 1 0 (shotsIn e c l)) (sym none) tt)) (omega arith))));
+          room = room-own t k (planePoints 1024) r;
+        }
 
 -- the windows of the lines, from the shots with a face on the plane
 pub windows-blank : Windows (replicate 1026 0) (replicate 1026 0) []
@@ -164,7 +175,7 @@ here-same s r x y z h = ap (λ (p : Pattern). cond (corner p) (record { x = x; y
 -- two lists of shots that agree on each test which only shots that touch x pass have the same corners on the plane x
 pub plane-same : (n x : ℕ) (ts rs : List Shot) → ((f : Shot → Bool) → ((t : Shot) → T (f t) → T (wanted false x t)) → any f ts ≡ any f rs) → planeOf n x ts ≡ planeOf n x rs
 unfolding planeOf linesTo
-plane-same n x ts rs h = ap (join (n + 1)) (fun-ext λ y. ap (join 1025) (fun-ext λ z. here-ext y z))
+plane-same n x ts rs h = ap (join (n + 1)) (fun-ext λ y. ap (join (linePoints 1024)) (fun-ext λ z. here-ext y z))
   where
     cell : (a b c : Bool) (y z : ℕ) → around (cells ts) x y z a b c ≡ around (cells rs) x y z a b c
     cell a b c y z = below-cells ts (up a x) (up b y) (up c z)
@@ -174,10 +185,29 @@ plane-same n x ts rs h = ap (join (n + 1)) (fun-ext λ y. ap (join 1025) (fun-ex
     here-ext : (y z : ℕ) → here (cells ts) x y z ≡ here (cells rs) x y z
     here-ext y z = here-same (cells ts) (cells rs) x y z (λ a b c. cell a b c y z)
 
-pub plane-near : (c : List ℕ) (e x : ℕ) (run near : List ℕ) (n : ℕ) → n ≤ length near → Selected c e x false run near n → (m : ℕ) {f g : Found}
-    → PlaneOut m x (shotsIn e c (take n near)) f g → PlaneOut m x (shotsIn e c run) f g
-plane-near c e x run near n h s m {f} r = record {
-  is = r .is ∙ ap (found f) (plane-same m x (shotsIn e c (take n near)) (shotsIn e c run) (λ p q.
-      ap (any p) (selected-shots c e x false run near n h s) ∙ any-kept (wanted false x) p q (shotsIn e c run)));
-  room = r .room;
-}
+module _ (c : List ℕ) (e x : ℕ) (run : List ℕ) {d d' : List ℕ} {n : ℕ} (w : Wrote d d' 0 n (selected false x e c run)) where
+  pub near-few : length (take n d') ≤ length run
+  near-few = omega (arith, ap length (front-part w), selected-few e c false x run)
+
+  pub near-in : (m : ℕ) {t : CornerSums} → PlaneIn c e m x run t → PlaneIn c e m x (take n d') t
+  near-in m p = record {
+    in-run = rw (front-part w) (selected-in e c false x run (p .in-run));
+    few = omega (arith, near-few, p .few);
+    x-in = p .x-in;
+    field-in = p .field-in;
+    room = p .room;
+  }
+
+  pub plane-near : (m : ℕ) {f g : Found} → PlaneOut m x (shotsIn e c (take n d')) f g → PlaneOut m x (shotsIn e c run) f g
+  plane-near m {f} r = record {
+    is = r .is ∙ ap (found f) (plane-same m x (shotsIn e c (take n d')) (shotsIn e c run) (λ p q.
+        ap (λ l. any p (shotsIn e c l)) (front-part w) ∙ ap (any p) (selected-shots e c false x run) ∙ any-wanted false x p q (shotsIn e c run)));
+    room = r .room;
+  }
+
+  -- what is kept past the selected places is kept past those of the run
+  pub kept-near : (l l' : List ℕ) → KeptPast (take n d') l l' → KeptPast run l l'
+  kept-near l l' k =
+      let a : ℕ = length (take n d') in
+      let m : a + (length run - a) ≡ length run = omega (arith, near-few) in
+      ap (λ i. drop i l') (sym m) ∙ sym (drop-drop (length run - a) a l') ∙ ap (drop (length run - a)) k ∙ drop-drop (length run - a) a l ∙ ap (λ i. drop i l) m

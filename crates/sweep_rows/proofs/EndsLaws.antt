@@ -9,12 +9,12 @@ use lib.ListN.{length, getD}
 use Rattle.lattice.specs.Cells.{below}
 use Rattle.lattice.specs.Shots.{Shot, cells}
 use Rattle.lattice.proofs.ShotLaws.{any-false, any-ext, holds, below-cells}
-use Rattle.sweep_rows.specs.Rows.{past, hold, reach, Ends}
+use Rattle.sweep_rows.specs.Rows.{past, endsIn, reach, Ends}
 
 pub ends-none : (x : ℕ) (ts : List Shot) {u : List ℕ} → length u ≡ 1026 → ((z : ℕ) → getD u z 0 ≡ 0) → Ends x 0 ts u
 ends-none x ts l h = record { size = l; at = λ j z. rw (h z, leb·suc-zero j) (sym (any-ext ts (λ t. rw leb·suc-zero) ∙ any-false ts)) }
 
-holds-is : (e a p : ℕ) → holds e a p ≡ hold e a p
+holds-is : (e a p : ℕ) → holds e a p ≡ endsIn e a p
 unfolding holds
 holds-is e a zero = rw (add-one, leb·suc-zero)
 holds-is e a (suc i) = rw (add-one a, add-one (a + e), leb·suc-suc a i, leb·suc-suc (suc i) (a + e))
@@ -31,6 +31,6 @@ ends-cell x y ts {u} r z = r .at y z ∙ any-ext ts each ∙ sym (below-cells ts
     each : (t : Shot) → (ltb (t .y) y && reach x y z t) ≡ (holds (t .edge) (t .x) x && (holds (t .edge) (t .y) y && holds (t .edge) (t .z) z))
     each t =
         let e : ℕ = t .edge in
-        shuffle (ltb (t .y) y) (hold e (t .x) x) (leb (t .z + 1) z) (ltb z (t .z + e + 1)) (ltb y (t .y + e + 1))
+        shuffle (ltb (t .y) y) (endsIn e (t .x) x) (leb (t .z + 1) z) (ltb z (t .z + e + 1)) (ltb y (t .y + e + 1))
         ∙ ap₂ _&&_ (sym (holds-is e (t .x) x))
         (ap₂ _&&_ (ap (λ b. b && ltb y (t .y + e + 1)) (ap (λ n. leb n y) (sym (add-one (t .y)))) ∙ sym (holds-is e (t .y) y)) (sym (holds-is e (t .z) z)))

@@ -11,7 +11,7 @@ use borrow.Author.Tests.{eqb-true, eqb-false, lt-ltb, le-ltb, le-leb, lt-leb, le
 use Rattle.lattice.specs.Shots.{Shot}
 use Rattle.lattice.proofs.Cases.{bool-ext}
 use Rattle.lattice.proofs.ShotLaws.{or-elim}
-use Rattle.sweep_rows.specs.Rows.{past, Either, Raised, RaisedBy}
+use Rattle.sweep_rows.specs.Rows.{past, Greater, Raised, RaisedBy}
 
 -- ---- the greater of two ends
 absorb-left : (a b : Bool) → (T a → T b) → b ≡ (a || b)
@@ -25,11 +25,11 @@ absorb-right false true h = absurd (h tt)
 absorb-right false false h = refl
 
 module _ (a b : ℕ) where
-  pub either-right : a < b → Either a b b
-  either-right h = record { at = λ j. absorb-left (ltb j a) (ltb j b) (λ t. lt→ltb j b (omega (arith, ltb→lt j a t))) }
+  pub greater-right : a < b → Greater a b b
+  greater-right h = record { at = λ j. absorb-left (ltb j a) (ltb j b) (λ t. lt→ltb j b (omega (arith, ltb→lt j a t))) }
 
-  pub either-left : b ≤ a → Either a b a
-  either-left h = record { at = λ j. absorb-right (ltb j a) (ltb j b) (λ t. lt→ltb j a (omega (arith, ltb→lt j b t))) }
+  pub greater-left : b ≤ a → Greater a b a
+  greater-left h = record { at = λ j. absorb-right (ltb j a) (ltb j b) (λ t. lt→ltb j a (omega (arith, ltb→lt j b t))) }
 
 -- ---- the places from a on, one more
 -- below k + 1 is below k or at k
@@ -62,7 +62,7 @@ module _ (a v : ℕ) (u : List ℕ) where
       go j z true e = rw (le-ltb z a (leb-true a z e), or-false)
       go j z false e = or-false (past j u z)
 
-  pub raised-more : {w : List ℕ} (k : ℕ) {r : ℕ} → a ≤ k → k < length w → Raised u a k v w → Either (getD w k 0) v r → Raised u a (k + 1) v (set w k r)
+  pub raised-more : {w : List ℕ} (k : ℕ) {r : ℕ} → a ≤ k → k < length w → Raised u a k v w → Greater (getD w k 0) v r → Raised u a (k + 1) v (set w k r)
   raised-more {w} k {r} h l s m = record {
     size = length-set w k r ∙ s .size;
     at = λ j z. (at-place j z (eqb z k) refl) ∙ (rw (s .at j z, ltb-next z k)
@@ -81,5 +81,8 @@ module _ (x : ℕ) (t : Shot) (u : List ℕ) where
   pub raised-by-after : t .x + t .edge < x → RaisedBy x t u u
   raised-by-after h = record { size = refl; at = λ j z. simp (le-ltb x (t .x + t .edge + 1) (omega arith), and-false, or-false) }
 
-  pub raised-by-here : {u' : List ℕ} → (x ≤ t .x → ⊥) → (t .x + t .edge < x → ⊥) → Raised u (t .z + 1) (t .z + t .edge + 1) (t .y + t .edge + 1) u' → RaisedBy x t u u'
-  raised-by-here h h' r = record { size = r .size; at = λ j z. r .at j z ∙ sym (simp (le-leb (t .x + 1) x (omega arith), lt-ltb x (t .x + t .edge + 1) (omega arith))) }
+  pub raised-by-here : {y z e : ℕ} {u' : List ℕ} → (x ≤ t .x → ⊥) → (t .x + t .edge < x → ⊥) → y ≡ t .y → z ≡ t .z → e ≡ t .edge
+      → Raised u (z + 1) (z + e + 1) (y + e + 1) u' → RaisedBy x t u u'
+  raised-by-here {y} {z} {e} {u'} h h' ey ez ee r =
+      let s : Raised u (t .z + 1) (t .z + t .edge + 1) (t .y + t .edge + 1) u' = rw (ey, ez, ee) at r in
+      record { size = s .size; at = λ j z. s .at j z ∙ sym (simp (le-leb (t .x + 1) x (omega arith), lt-ltb x (t .x + t .edge + 1) (omega arith))) }

@@ -6,17 +6,11 @@ ghost use Prim.Native.Nat.{_+_, _<_, _≤_};
 ghost use lib.ListN.{length};
 ghost use Rattle.job.specs.Job.{shotAt};
 ghost use Rattle.sweep_rows.specs.Runs.{InList};
-ghost use Rattle.sweep_rows.specs.Rows.{Either, Raised, RaisedBy};
-
-fn wide(x: u16) -> usize
-    ensures { λ r. ⌜ r ≡ x ⌝ }
-{
-    x as usize
-}
+ghost use Rattle.sweep_rows.specs.Rows.{Greater, Raised, RaisedBy};
 
 // The greater of two ends: what lies before it lies before one of them.
 fn greater(a: u16, b: u16) -> u16
-    ensures { λ r. ⌜ Either a b r ⌝ }
+    ensures { λ r. ⌜ Greater a b r ⌝ }
 {
     if a < b { b } else { a }
 }
@@ -34,18 +28,19 @@ pub fn raise(u: &mut [u16], a: usize, b: usize, v: u16)
 }
 
 // Raises the row of layer x by shot i: its cells there are covered from now on, up to where the shot ends on y.
-pub fn raise_by(c: &[u16], e: usize, x: usize, i: usize, u: &mut [u16])
-    requires { ⌜ InList 1024 e (now c) i × (length (now u) ≡ 1026) ⌝ }
-    ensures { λ _. ⌜ RaisedBy x (shotAt e (now (c .entry)) i) (now (u .entry)) (now (u .exit)) ⌝ }
+pub fn raise_by(c: &[u16], edge: u16, x: usize, i: usize, u: &mut [u16])
+    requires { ⌜ InList edge (now c) i × (length (now u) ≡ 1026) ⌝ }
+    ensures { λ _. ⌜ RaisedBy x (shotAt edge (now (c .entry)) i) (now (u .entry)) (now (u .exit)) ⌝ }
 {
-    let a = wide(c[3 * i]);
+    let e = job::shot::edge_of(edge, c, i) as usize;
+    let a = job::shot::x_of(c, i) as usize;
     if x <= a {
         return;
     }
     if a + e < x {
         return;
     }
-    let y = wide(c[3 * i + 1]);
-    let z = wide(c[3 * i + 2]);
+    let y = job::shot::y_of(c, i) as usize;
+    let z = job::shot::z_of(c, i) as usize;
     raise(u, z + 1, z + e + 1, (y + e + 1) as u16);
 }

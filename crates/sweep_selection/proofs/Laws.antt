@@ -1,18 +1,21 @@
 -- One shot more of a selection, and what a selection keeps.
-use mathlib.Core.Path.{_≡_, refl, sym, _∙_, ap, ap₂, subst}
-use mathlib.Core.Bool.{Bool, true, false, cond, _&&_, _||_}
-use mathlib.Core.List.{List, [], _∷_}
-use Prim.Native.Nat.{ℕ, zero, suc, _+_, _*_, _<_, _≤_}
+use mathlib.Core.Path.{_≡_, refl, sym, _∙_, ap, ap₂}
+use mathlib.Core.Bool.{Bool, true, false, cond, _||_}
+use mathlib.Core.List.{List, [], _∷_, _++_, append-nil}
+use Prim.Native.Nat.{ℕ, zero, suc, _+_, _-_, _<_, _≤_}
 use native.Mathlib.Omega.{arith}
-use native.Mathlib.Numerals.{add-one}
 use lib.Dec.{T, leb, eqb}
-use lib.ListN.{length, getD, set, take}
-use lib.Seq.{getD-set-same, getD-set-other, getD-take, length-take-le}
-use borrow.Author.Tests.{eqb-true, eqb-false, lt-leb, le-leb}
+use lib.ListN.{length, getD, set, take, drop}
+use lib.Seq.{length-take-le, take-all, drop-append-add, drop-drop}
+use borrow.Author.Tests.{lt-leb, le-leb}
+use Rattle.buffer.specs.Wrote.{Wrote}
+use Rattle.buffer.proofs.WroteLaws.{wrote-none, wrote-one, wrote-then, wrote-as, wrote-length}
 use Rattle.job.specs.Job.{shotAt}
 use Rattle.lattice.specs.Shots.{Shot, any}
-use Rattle.sweep_rows.specs.Runs.{InList, InRun, runTo, shotsIn}
-use Rattle.sweep_selection.specs.Selection.{wantedAt, wanted, kept, Selected}
+use Rattle.grid.specs.Numbers.{those}
+use Rattle.grid.proofs.NumberLaws.{those-next, those-length}
+use Rattle.sweep_rows.specs.Runs.{InRun, KeptPast, runTo, shotsIn}
+use Rattle.sweep_selection.specs.Selection.{wantedAt, wanted, isWanted, selected, wantedOf}
 
 -- ---- one shot
 pub wanted-face : (face : Bool) (e x a : ℕ) {r : Bool} → face ≡ true → r ≡ (eqb a x || eqb (a + e) x) → r ≡ wantedAt face e x a
@@ -24,81 +27,93 @@ wanted-below face e x a h k = rw (h, lt-leb a x k)
 pub wanted-above : (face : Bool) (e x a : ℕ) → face ≡ false → a ≤ x → leb x (a + e) ≡ wantedAt face e x a
 wanted-above face e x a h k = rw (h, le-leb a x k)
 
-pub picked : (w v : Bool) → w ≡ v → (n i : ℕ) (d : List ℕ) → (cond v (n + 1) n ≡ cond w (n + 1) n) × (cond v (set d n i) d ≡ cond w (set d n i) d)
-picked w v h n i d = (rw h, rw h)
+module _ (face : Bool) (x edge : ℕ) (c : List ℕ) (i : ℕ) {a e : ℕ} {b : Bool} (ea : a ≡ shotAt edge c i .x) (ee : e ≡ shotAt edge c i .edge) (w : b ≡ wantedAt face e x a) where
+  test-is : b ≡ isWanted face x edge c i
+  test-is = w ∙ ap (λ e. wantedAt face e x a) ee ∙ ap (wantedAt face (shotAt edge c i .edge) x) ea
+
+  pub picked : (d : List ℕ) (n : ℕ) → n < length d → b ≡ true → Wrote d (set d n i) n (n + 1) (cond (isWanted face x edge c i) (i ∷ []) [])
+  picked d n h t = wrote-as (sym (ap (λ b. cond b (i ∷ []) []) (sym test-is ∙ t))) (wrote-one d n i h)
+
+  pub passed : (d : List ℕ) (n : ℕ) → n < length d → b ≡ false → Wrote d d n n (cond (isWanted face x edge c i) (i ∷ []) [])
+  passed d n h t = wrote-as (sym (ap (λ b. cond b (i ∷ []) []) (sym test-is ∙ t))) (wrote-none d n (omega arith))
 
 -- ---- shot after shot
-run-set : (e : ℕ) (c d : List ℕ) (n i k : ℕ) → k ≤ n → runTo e c (set d n i) k ≡ runTo e c d k
-unfolding runTo
-run-set e c d n i zero h = refl
-run-set e c d n i (suc k) h = ap₂ (λ j ts. shotAt e c j ∷ ts) (getD-set-other d n k i 0 (λ e. omega arith)) (run-set e c d n i k (omega arith))
+module _ (face : Bool) (x e : ℕ) (c run : List ℕ) where
+  -- the first q shots of the run are done
+  abbrev pub Selecting : List ℕ → ℕ → ℕ → List ℕ → Type 0
+  Selecting d q n d' = Wrote d d' 0 n (selected face x e c (take q run))
 
--- the same of the first q shots of the run
-pub record Selecting (c : List ℕ) (e x : ℕ) (face : Bool) (run : List ℕ) (q : ℕ) (to : List ℕ) (n : ℕ) : Type 0 where
-  pub few : n ≤ q
-  pub is : runTo e c to n ≡ kept (wanted face x) (runTo e c run q)
-  pub in-list : (k : ℕ) → k < n → InList 1024 e c (getD to k 0)
+  pub select-none : (d : List ℕ) → Selecting d 0 0 d
+  unfolding those
+  select-none d = wrote-none d 0 (omega arith)
 
-pub select-none : (c : List ℕ) (e x : ℕ) (face : Bool) (run to : List ℕ) → Selecting c e x face run 0 to 0
-unfolding runTo kept
-select-none c e x face run to = record { few = omega arith; is = refl; in-list = λ k h. absurd (omega arith) }
+  module _ (d : List ℕ) (q : ℕ) {n : ℕ} {d' : List ℕ} (s : Selecting d q n d') where
+    pub select-room : q < length run → length run ≤ length d → n < length d'
+    select-room h l =
+        omega (arith, s .next, those-length (isWanted face x e c) (take q run), length-take-le q run (omega arith), wrote-length s)
 
-pub select-more : (c : List ℕ) (e x : ℕ) (face : Bool) (run : List ℕ) (q : ℕ) (d : List ℕ) (n : ℕ) (d' : List ℕ) (n' : ℕ) → n < length d → InList 1024 e c (getD run q 0)
-    → Selecting c e x face run q d n → n' ≡ cond (wantedAt face e x (getD c (3 * getD run q 0) 0)) (n + 1) n
-    → d' ≡ cond (wantedAt face e x (getD c (3 * getD run q 0) 0)) (set d n (getD run q 0)) d → Selecting c e x face run (q + 1) d' n'
-unfolding runTo kept
-select-more c e x face run q d n d' n' room here s a b = go (wantedAt face e x (getD c (3 * getD run q 0) 0)) refl
-  where
-    i : ℕ
-    i = getD run q 0
+    pub select-more : q < length run → {n' : ℕ} {d'' : List ℕ} → Wrote d' d'' n n' (cond (isWanted face x e c (getD run q 0)) (getD run q 0 ∷ []) []) → Selecting d (q + 1) n' d''
+    select-more h w = wrote-as (sym (those-next (isWanted face x e c) run q h)) (wrote-then s w)
 
-    yes-is : wantedAt face e x (getD c (3 * i) 0) ≡ true → runTo e c (set d n i) (n + 1) ≡ kept (wanted face x) (runTo e c run (q + 1))
-    yes-is w = rw (add-one n, add-one q, w) (ap₂ (λ j ts. shotAt e c j ∷ ts) (getD-set-same d n i 0 room) (run-set e c d n i n (omega arith) ∙ s .is))
-
-    no-is : wantedAt face e x (getD c (3 * i) 0) ≡ false → runTo e c d n ≡ kept (wanted face x) (runTo e c run (q + 1))
-    no-is w = rw (add-one q, w) (s .is)
-
-    yes-in : (k : ℕ) → k < n + 1 → InList 1024 e c (getD (set d n i) k 0)
-    yes-in k h = pick (eqb k n) refl
-      where
-        pick : (b : Bool) → eqb k n ≡ b → InList 1024 e c (getD (set d n i) k 0)
-        pick true m = rw (eqb-true k n m, getD-set-same d n i 0 room) here
-        pick false m = rw (getD-set-other d n k i 0 (eqb-false k n m)) (s .in-list k (let z : (k ≡ n → ⊥) = eqb-false k n m in omega arith))
-
-    go : (w : Bool) → wantedAt face e x (getD c (3 * i) 0) ≡ w → Selecting c e x face run (q + 1) d' n'
-    go true w = rw (b, a, w) (record { few = omega (arith, s .few); is = yes-is w; in-list = yes-in })
-    go false w = rw (b, a, w) (record { few = omega (arith, s .few); is = no-is w; in-list = s .in-list })
-
-pub selected : {c : List ℕ} {e x : ℕ} {face : Bool} {run : List ℕ} (q : ℕ) {to : List ℕ} {n : ℕ} → q ≡ length run → Selecting c e x face run q to n → Selected c e x face run to n
-selected {c} {e} {x} {face} {run} q {to} {n} h s =
-    record { few = omega (arith, s .few); is = s .is ∙ ap (λ k. kept (wanted face x) (runTo e c run k)) h; in-list = s .in-list }
+    pub select-all : length run ≤ q → Wrote d d' 0 n (selected face x e c run)
+    select-all h = wrote-as (ap (selected face x e c) (take-all q run h)) s
 
 -- ---- the selection as a run of its own
-run-take : (e : ℕ) (c d : List ℕ) (n k : ℕ) → k ≤ n → runTo e c (take n d) k ≡ runTo e c d k
-unfolding runTo
-run-take e c d n zero h = refl
-run-take e c d n (suc k) h = ap₂ (λ j ts. shotAt e c j ∷ ts) (getD-take n d k 0 (omega arith)) (run-take e c d n k (omega arith))
+module _ (e : ℕ) (c : List ℕ) where
+  run-first : (i : ℕ) (run : List ℕ) (n : ℕ) → runTo e c (i ∷ run) (suc n) ≡ runTo e c run n ++ shotAt e c i ∷ []
+  unfolding runTo
+  run-first i run zero = refl
+  run-first i run (suc n) = ap (λ ts. shotAt e c (getD run n 0) ∷ ts) (run-first i run n)
 
-module _ (c : List ℕ) (e x : ℕ) (face : Bool) (run to : List ℕ) (n : ℕ) (h : n ≤ length to) (s : Selected c e x face run to n) where
-  pub selected-shots : shotsIn e c (take n to) ≡ kept (wanted face x) (shotsIn e c run)
-  selected-shots = ap (runTo e c (take n to)) (length-take-le n to h) ∙ run-take e c to n n (omega arith) ∙ s .is
+  module _ (face : Bool) (x : ℕ) where
+    wanted-append : (ts us : List Shot) → wantedOf face x (ts ++ us) ≡ wantedOf face x ts ++ wantedOf face x us
+    unfolding wantedOf
+    wanted-append [] us = refl
+    wanted-append (t ∷ ts) us = rw (wanted-append ts us) (one (wanted face x t))
+      where
+        one : (b : Bool) → cond b (t ∷ (wantedOf face x ts ++ wantedOf face x us)) (wantedOf face x ts ++ wantedOf face x us) ≡ cond b (t ∷ wantedOf face x ts) (wantedOf face x ts) ++ wantedOf face x us
+        one true = refl
+        one false = refl
 
-  pub selected-in : InRun 1024 e c (take n to)
-  selected-in k l = let m : k < n = omega (arith, length-take-le n to h) in rw (getD-take n to k 0 m) (s .in-list k m)
+    pub selected-shots : (run : List ℕ) → shotsIn e c (selected face x e c run) ≡ wantedOf face x (shotsIn e c run)
+    unfolding those wantedOf runTo
+    selected-shots [] = refl
+    selected-shots (i ∷ run) = one (isWanted face x e c i) (selected-shots run) ∙ sym (ap (wantedOf face x) (run-first i run (length run)) ∙ wanted-append (shotsIn e c run) (shotAt e c i ∷ []))
+      where
+        one : (b : Bool) → shotsIn e c (selected face x e c run) ≡ wantedOf face x (shotsIn e c run)
+            → shotsIn e c (cond b (i ∷ selected face x e c run) (selected face x e c run)) ≡ wantedOf face x (shotsIn e c run) ++ cond b (shotAt e c i ∷ []) []
+        one true h = run-first i (selected face x e c run) (length (selected face x e c run)) ∙ ap (λ ts. ts ++ shotAt e c i ∷ []) h
+        one false h = h ∙ sym (append-nil (wantedOf face x (shotsIn e c run)))
 
-  pub selected-few : length (take n to) ≤ length run
-  selected-few = omega (arith, length-take-le n to h, s .few)
+    pub selected-in : (run : List ℕ) → InRun e c run → InRun e c (selected face x e c run)
+    unfolding those
+    selected-in [] h = λ k l. absurd (omega arith)
+    selected-in (i ∷ run) h = one (isWanted face x e c i) (selected-in run (λ k l. h (suc k) (omega arith)))
+      where
+        one : (b : Bool) → InRun e c (selected face x e c run) → InRun e c (cond b (i ∷ selected face x e c run) (selected face x e c run))
+        one true f zero l = h 0 (omega arith)
+        one true f (suc k) l = f k (omega arith)
+        one false f k l = f k l
 
-  pub selected-count : n ≡ length (take n to)
-  selected-count = sym (length-take-le n to h)
+    pub selected-few : (run : List ℕ) → length (selected face x e c run) ≤ length run
+    selected-few run = those-length (isWanted face x e c) run
+
+    -- the places past those of the run keep their values
+    pub selected-past : (run : List ℕ) {d d' : List ℕ} {n : ℕ} → Wrote d d' 0 n (selected face x e c run) → KeptPast run d d'
+    selected-past run {d} {d'} {n} w =
+        let xs : List ℕ = selected face x e c run in
+        let m : length run ≡ length xs + (length run - n) = omega (arith, w .next, selected-few run) in
+        let k : n + (length run - n) ≡ length run = omega (arith, w .next, selected-few run) in
+        ap₂ drop m (w .is) ∙ drop-append-add xs (drop n d) (length run - n) ∙ drop-drop (length run - n) n d ∙ ap (λ i. drop i d) k
 
 -- ---- what a selection keeps
-pub any-kept : (p f : Shot → Bool) → ((t : Shot) → T (f t) → T (p t)) → (ts : List Shot) → any f (kept p ts) ≡ any f ts
-unfolding any kept
-any-kept p f h [] = refl
-any-kept p f h (t ∷ ts) = go (p t) (f t) refl (h t) (any-kept p f h ts)
-  where
-    go : (a b : Bool) → f t ≡ b → (T b → T a) → any f (kept p ts) ≡ any f ts → any f (cond a (t ∷ kept p ts) (kept p ts)) ≡ (b || any f ts)
-    go true b m k r = rw m (ap (λ c. b || c) r)
-    go false true m k r = absurd (k tt)
-    go false false m k r = r
+module _ (face : Bool) (x : ℕ) (f : Shot → Bool) (h : (t : Shot) → T (f t) → T (wanted face x t)) where
+  pub any-wanted : (ts : List Shot) → any f (wantedOf face x ts) ≡ any f ts
+  unfolding any wantedOf
+  any-wanted [] = refl
+  any-wanted (t ∷ ts) = go (wanted face x t) (f t) refl (h t) (any-wanted ts)
+    where
+      go : (a b : Bool) → f t ≡ b → (T b → T a) → any f (wantedOf face x ts) ≡ any f ts → any f (cond a (t ∷ wantedOf face x ts) (wantedOf face x ts)) ≡ (b || any f ts)
+      go true b m k r = rw m (ap (λ c. b || c) r)
+      go false true m k r = absurd (k tt)
+      go false false m k r = r

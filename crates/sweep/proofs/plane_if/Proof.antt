@@ -11,7 +11,7 @@ shared-slice-read-if1 : tie.Need-shared-slice-read-if1
 shared-slice-read-if1 c = search needs
 
 returns : tie.Need-returns
-returns c = plane-skip _ _ _ _ _ (c .before .before .before .before .before .before .before .before .before .pre .1 .0 .at _ (c .if1 .taken)) (c .before .before .before .before .before .before .before .before .before .pre .0 .7)
+returns c = plane-skip _ _ _ _ _ (c .before .before .before .before .before .before .before .before .before .pre .1 .1 .0 .at _ (c .if1 .taken)) (c .before .before .before .before .before .before .before .before .before .pre .0 .room)
 
 across-requires : tie.Need-across-requires
 across-requires c κs = search needs

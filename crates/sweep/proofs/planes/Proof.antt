@@ -1,9 +1,8 @@
 -- Plane after plane.
-use lib.ListN.{length-replicate}
 use mathlib.Core.Path.{_≡_, refl}
-use Prim.Native.Nat.{ℕ, _≤_, _-_, _+_}
+use Prim.Native.Nat.{ℕ, _≤_, _-_}
 use native.Mathlib.Omega.{arith}
-use lib.ListN.{length}
+use lib.ListN.{length, length-replicate}
 use Rattle.lattice_sums.proofs.CornerSumLaws.{room-more}
 use Rattle.job.specs.Job.{shotsOf}
 use Rattle.sweep_tally.specs.Found.{state}
@@ -17,13 +16,13 @@ use Rattle.sweep.proofs.planes.Lts as lts
 use Rattle.sweep.proofs.plane_if.Reads as plane-if-reads
 
 abbrev Inv-loop : tie.InvT-loop
-Inv-loop c e field from end row run buf₀ near₀ faces₀ links₀ s₀ x₀ buf near faces links s x = (from ≤ x) × (x ≤ end) × Swept field from x (shotsOf e c) (state s₀ buf₀) (state s buf) × (length buf ≡ length buf₀) × (length near ≡ 4096) × (length faces ≡ 4096) × (length links ≡ 4096)
+Inv-loop c edge field from end row run buf₀ near₀ faces₀ links₀ s₀ x₀ buf near faces links s x = (from ≤ x) × (x ≤ end) × Swept field from x (shotsOf edge c) (state s₀ buf₀) (state s buf) × (length buf ≡ length buf₀) × (length near ≡ 4096) × (length faces ≡ 4096) × (length links ≡ 4096)
 
 abbrev μ-loop : tie.MeasureT-loop
-μ-loop c e field from end row run buf₀ near₀ faces₀ links₀ s₀ x₀ buf near faces links s x = end - x
+μ-loop c edge field from end row run buf₀ near₀ faces₀ links₀ s₀ x₀ buf near faces links s x = end - x
 
 loop-holds : tie.Need-loop-holds Inv-loop μ-loop
-loop-holds c = (omega arith, omega arith, swept-none _ _ _ _ (c .before .before .before .before .pre .0 .5), refl, length-replicate {A = ℕ} 4096 0, length-replicate {A = ℕ} 4096 0, length-replicate {A = ℕ} 4096 0)
+loop-holds c = (omega arith, omega arith, swept-none _ _ _ _ (c .before .before .before .before .pre .1 .3), refl, length-replicate {A = ℕ} 4096 0, length-replicate {A = ℕ} 4096 0, length-replicate {A = ℕ} 4096 0)
 
 slice-aggregate-plane-if : tie.Need-slice-aggregate-plane-if Inv-loop μ-loop
 slice-aggregate-plane-if c = search needs
@@ -35,7 +34,7 @@ slice-aggregate-plane-if-3 : tie.Need-slice-aggregate-plane-if-3 Inv-loop μ-loo
 slice-aggregate-plane-if-3 c = search needs
 
 plane-if-requires : tie.Need-plane-if-requires Inv-loop μ-loop
-plane-if-requires c κs = ((c .before .before .before .before .before .before .before .before .before .before .pre .0 .0, c .before .before .before .before .before .before .before .before .before .before .pre .0 .1, search needs, search needs, search needs, omega arith, c .before .before .before .before .before .before .before .before .before .before .pre .0 .4, room-more _ _ _ (omega arith) (c .before .before .before .before .before .loop .inv .2 .room)), (c .before .before .before .before .before .before .before .before .before .before .pre .1 .0, c .before .before .before .before .before .before .before .before .before .before .pre .1 .1))
+plane-if-requires c κs = (record { in-run = c .before .before .before .before .before .before .before .before .before .before .pre .0 .0 .in-run; few = c .before .before .before .before .before .before .before .before .before .before .pre .0 .0 .few; x-in = omega arith; field-in = c .before .before .before .before .before .before .before .before .before .before .pre .1 .2; room = room-more _ _ _ (omega arith) (c .before .before .before .before .before .loop .inv .2 .room) }, ((search needs, search needs, search needs), (c .before .before .before .before .before .before .before .before .before .before .pre .0 .0 .marked, c .before .before .before .before .before .before .before .before .before .before .pre .0 .1)))
 
 add-x : tie.Need-add-x Inv-loop μ-loop
 add-x c = search needs
@@ -44,7 +43,7 @@ loop-less : tie.Need-loop-less Inv-loop μ-loop
 loop-less c = search needs
 
 loop-again : tie.Need-loop-again Inv-loop μ-loop
-loop-again c = (omega arith, omega arith, swept-more _ _ _ _ _ (c .before .before .before .before .before .before .before .before .before .before .before .loop .inv .2) (c .before .before .before .before .before .plane-if .ensures) (c .before .before .before .before .before .before .before .before .before .before .before .before .before .before .before .before .pre .1 .2 .at _ (c .before .before .before .before .before .before .before .before .before .before .before .loop .inv .0) (c .before .before .before .before .before .before .before .before .before .before .loop-test .taken)), search needs, search needs, search needs, search needs)
+loop-again c = (omega arith, omega arith, swept-more _ _ _ _ _ (c .before .before .before .before .before .before .before .before .before .before .before .loop .inv .2) (c .before .before .before .before .before .plane-if .ensures) (c .before .before .before .before .before .before .before .before .before .before .before .before .before .before .before .before .pre .0 .0 .agree .at _ (c .before .before .before .before .before .before .before .before .before .before .before .loop .inv .0) (c .before .before .before .before .before .before .before .before .before .before .loop-test .taken)), search needs, search needs, search needs, search needs)
 
 same-length : tie.Need-same-length Inv-loop μ-loop
 same-length c = search needs

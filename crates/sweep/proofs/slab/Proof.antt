@@ -1,7 +1,7 @@
 -- The slab's shots give its planes the list's corners.
 use native.Mathlib.Omega.{arith}
 use Rattle.buffer.proofs.WroteLaws.{front-count}
-use Rattle.sweep.proofs.Laws.{slab-skip, ready}
+use Rattle.sweep.proofs.Laws.{slab-skip, slab-run}
 use borrow.Author.Needs.{needs}
 use Rattle.sweep.proofs.slab.Statement.{statement}
 use Rattle.sweep.proofs.slab.Tie as tie
@@ -12,10 +12,10 @@ use Rattle.sweep.proofs.is_blank.Reads as is-blank-reads
 use Rattle.sweep.proofs.planes.Reads as planes-reads
 
 is-blank-requires : tie.Need-is-blank-requires
-is-blank-requires c κs = (omega (arith, c .before .before .before .before .pre .0 .2 .order), omega (arith, c .before .before .before .before .pre .0 .2 .top, c .before .before .before .before .pre .0 .0 .field-most))
+is-blank-requires c κs = (omega (arith, c .before .before .before .before .pre .1 .1 .0 .order), omega (arith, c .before .before .before .before .pre .1 .1 .0 .top, c .before .before .before .before .pre .0 .0 .field-most))
 
 returns : tie.Need-returns
-returns c = slab-skip _ _ _ _ (c .before .before .before .before .before .before .pre .0 .0) _ _ _ (c .before .before .before .before .before .before .pre .0 .2) (c .before .before .before .before .before .before .pre .1 .0) (c .before .is-blank .ensures) (c .if1 .taken) _ (c .before .before .before .before .before .before .pre .0 .3)
+returns c = slab-skip _ _ _ _ (c .before .before .before .before .before .before .pre .0 .0) _ _ _ (c .before .before .before .before .before .before .pre .1 .1 .0) (c .before .before .before .before .before .before .pre .1 .0 .0) (c .before .is-blank .ensures) (c .if1 .taken) _ (c .before .before .before .before .before .before .pre .1 .1 .1)
 
 slice-aggregate-slab : tie.Need-slice-aggregate-slab
 slice-aggregate-slab c = search needs
@@ -30,7 +30,7 @@ slice-aggregate-planes : tie.Need-slice-aggregate-planes
 slice-aggregate-planes c = front-count (c .before .before .slab .ensures)
 
 planes-requires : tie.Need-planes-requires
-planes-requires c κs = let k = ready _ _ _ _ (c .before .before .before .before .before .before .before .before .before .before .before .pre .0 .0) _ _ _ (c .before .before .before .before .before .before .before .before .before .before .before .pre .0 .2) (c .before .before .before .before .before .before .before .before .before .before .before .pre .1 .0) (c .before .before .before .slab .ensures) in ((k .in-run, k .few, omega (arith, c .before .before .before .before .before .before .before .before .before .before .before .pre .0 .2 .order), omega (arith, c .before .before .before .before .before .before .before .before .before .before .before .pre .0 .2 .top, c .before .before .before .before .before .before .before .before .before .before .before .pre .0 .0 .field-most), omega (arith, c .before .before .before .before .before .before .before .before .before .before .before .pre .0 .0 .field-most), c .before .before .before .before .before .before .before .before .before .before .before .pre .0 .3), (k .marked, c .before .before .before .before .before .before .before .before .before .before .before .pre .1 .1, k .agree))
+planes-requires c κs = ((slab-run _ _ _ _ (c .before .before .before .before .before .before .before .before .before .before .before .pre .0 .0) _ _ _ (c .before .before .before .before .before .before .before .before .before .before .before .pre .1 .1 .0) (c .before .before .before .before .before .before .before .before .before .before .before .pre .1 .0 .0) (c .before .before .before .slab .ensures), c .before .before .before .before .before .before .before .before .before .before .before .pre .1 .0 .1), (omega (arith, c .before .before .before .before .before .before .before .before .before .before .before .pre .1 .1 .0 .order), omega (arith, c .before .before .before .before .before .before .before .before .before .before .before .pre .1 .1 .0 .top, c .before .before .before .before .before .before .before .before .before .before .before .pre .0 .0 .field-most), omega (arith, c .before .before .before .before .before .before .before .before .before .before .before .pre .0 .0 .field-most), c .before .before .before .before .before .before .before .before .before .before .before .pre .1 .1 .1))
 
 same-length : tie.Need-same-length
 same-length c = search needs

@@ -1,9 +1,9 @@
 -- Slab after slab, each from the plane after the last.
-use mathlib.Core.Path.{_≡_, refl, sym, _∙_}
-use mathlib.Core.List.{[]}
+use mathlib.Core.Path.{_≡_, refl}
 use Prim.Native.Nat.{_≤_, _<_, _-_, _+_, _*_, _/_}
 use native.Mathlib.Omega.{arith}
 use lib.ListN.{length}
+use Rattle.lattice.specs.Cells.{planePoints}
 use Rattle.lattice_sums.specs.CornerSums.{Room}
 use Rattle.lattice_sums.proofs.CornerSumLaws.{room-more, no-room}
 use Rattle.job.specs.Job.{shotsOf}
@@ -19,7 +19,7 @@ use Rattle.lattice_sums.proofs.sums.CornerSums.new.Reads as new-reads
 use Rattle.sweep.proofs.slab.Reads as slab-reads
 
 abbrev Inv-loop : tie.InvT-loop
-Inv-loop field edge grid coords work row buf₀ width t₀ from₀ low₀ gx₀ buf t from low gx = (gx ≤ grid) × (low ≡ gx * (field / grid)) × (low ≤ from) × (from ≤ low + 1) × (0 < gx → from ≡ low + 1) × (state t buf ≡ found (state t₀ buf₀) (planesTo field from (shotsOf edge coords))) × Room t (from * 1050625) × (length buf ≡ length buf₀)
+Inv-loop field edge grid coords work row buf₀ width t₀ from₀ low₀ gx₀ buf t from low gx = (gx ≤ grid) × (low ≡ gx * (field / grid)) × (low ≤ from) × (from ≤ low + 1) × (0 < gx → from ≡ low + 1) × (state t buf ≡ found (state t₀ buf₀) (planesTo field from (shotsOf edge coords))) × Room t (from * planePoints 1024) × (length buf ≡ length buf₀)
 
 abbrev μ-loop : tie.MeasureT-loop
 μ-loop field edge grid coords work row buf₀ width t₀ from₀ low₀ gx₀ buf t from low gx = grid - gx
@@ -34,16 +34,16 @@ loop-holds : tie.Need-loop-holds Inv-loop μ-loop
 loop-holds c = (omega arith, omega arith, omega arith, omega arith, λ h. absurd (omega arith), planes-none _ _ _, rw (c .new .ensures) (room-more _ _ _ (omega arith) no-room), refl)
 
 add-high : tie.Need-add-high Inv-loop μ-loop
-add-high c = let k = high-in _ _ _ _ (c .before .before .before .before .before .before .before .pre .0 .0) _ _ (c .loop-test .taken) (c .before .loop .inv .1) in omega (arith, k, c .before .before .before .before .before .before .before .pre .0 .0 .field-most)
+add-high c = let k = high-in _ _ _ _ (c .before .before .before .before .before .before .before .pre .0 .0) _ _ (omega (arith, c .before .before .before .before .before .before .before .pre .0 .0 .grid-least)) (c .before .loop .inv .1) in omega (arith, k, c .before .before .before .before .before .before .before .pre .0 .0 .field-most)
 
 add-slab : tie.Need-add-slab Inv-loop μ-loop
-add-slab c = let k = high-in _ _ _ _ (c .before .before .before .before .before .before .before .pre .0 .0) _ _ (c .loop-test .taken) (c .before .loop .inv .1) in omega (arith, k, c .before .before .before .before .before .before .before .pre .0 .0 .field-most)
+add-slab c = let k = high-in _ _ _ _ (c .before .before .before .before .before .before .before .pre .0 .0) _ _ (omega (arith, c .before .before .before .before .before .before .before .pre .0 .0 .grid-least)) (c .before .loop .inv .1) in omega (arith, k, c .before .before .before .before .before .before .before .pre .0 .0 .field-most)
 
 slab-requires : tie.Need-slab-requires Inv-loop μ-loop
-slab-requires c κs = ((c .before .before .before .before .before .before .before .before .pre .0 .0, c .before .before .before .before .before .before .before .before .pre .0 .1, in-slab _ _ _ _ (c .before .before .before .before .before .before .before .before .pre .0 .0) _ _ (c .before .loop-test .taken) (c .before .before .loop .inv .1) _ (c .before .before .loop .inv .2) (c .before .before .loop .inv .3), c .before .before .loop .inv .6), c .before .before .before .before .before .before .before .before .pre .1)
+slab-requires c κs = ((c .before .before .before .before .before .before .before .before .pre .0 .0, c .before .before .before .before .before .before .before .before .pre .0 .1), (c .before .before .before .before .before .before .before .before .pre .1, (in-slab _ _ _ _ (c .before .before .before .before .before .before .before .before .pre .0 .0) _ _ (omega (arith, c .before .before .before .before .before .before .before .before .pre .0 .0 .grid-least)) (c .before .before .loop .inv .1) _ (c .before .before .loop .inv .2) (c .before .before .loop .inv .3), c .before .before .loop .inv .6)))
 
 add-from : tie.Need-add-from Inv-loop μ-loop
-add-from c = let k = high-in _ _ _ _ (c .before .before .before .before .before .before .before .before .before .before .before .pre .0 .0) _ _ (c .before .before .before .before .loop-test .taken) (c .before .before .before .before .before .loop .inv .1) in omega (arith, k, c .before .before .before .before .before .before .before .before .before .before .before .pre .0 .0 .field-most)
+add-from c = let k = high-in _ _ _ _ (c .before .before .before .before .before .before .before .before .before .before .before .pre .0 .0) _ _ (omega (arith, c .before .before .before .before .before .before .before .before .before .before .before .pre .0 .0 .grid-least)) (c .before .before .before .before .before .loop .inv .1) in omega (arith, k, c .before .before .before .before .before .before .before .before .before .before .before .pre .0 .0 .field-most)
 
 add-gx : tie.Need-add-gx Inv-loop μ-loop
 add-gx c = search needs
@@ -52,7 +52,7 @@ loop-less : tie.Need-loop-less Inv-loop μ-loop
 loop-less c = search needs
 
 loop-again : tie.Need-loop-again Inv-loop μ-loop
-loop-again c = (omega arith, next-low _ _ _ _ (c .before .before .before .before .before .before .before .before .before .before .before .pre .0 .0) _ _ (c .before .before .before .before .loop-test .taken) (c .before .before .before .before .before .loop .inv .1), omega arith, omega arith, λ h. refl, c .before .before .slab .ensures .on _ (c .before .before .before .before .before .loop .inv .5), c .before .before .slab .ensures .room, search needs)
+loop-again c = (omega (arith, c .before .before .before .before .before .before .before .before .before .before .before .pre .0 .0 .grid-least), next-low _ _ _ _ (c .before .before .before .before .before .before .before .before .before .before .before .pre .0 .0) _ _ (omega (arith, c .before .before .before .before .before .before .before .before .before .before .before .pre .0 .0 .grid-least)) (c .before .before .before .before .before .loop .inv .1), omega arith, omega arith, λ h. refl, c .before .before .slab .ensures .on _ (c .before .before .before .before .before .loop .inv .5), c .before .before .slab .ensures .room, search needs)
 
 same-length : tie.Need-same-length Inv-loop μ-loop
 same-length c = search needs

@@ -1,10 +1,10 @@
 -- The places so far hold all four cells.
-use Prim.Native.Nat.{_≤_, _-_, _+_}
+use Prim.Native.Nat.{_≤_, _-_}
 use mathlib.Core.Path.{_≡_, refl}
 use native.Mathlib.Omega.{arith}
 use lib.ListN.{length}
-use Rattle.sweep_fours.specs.Fours.{Filled, Bounded, fourOf}
-use Rattle.sweep_fours.proofs.Laws.{filled-none, filled-more, bounded-none, bounded-more}
+use Rattle.sweep_fours.specs.Fours.{Overlaid, Bounded, fourOf}
+use Rattle.sweep_fours.proofs.Laws.{overlaid-none, overlaid-more, bounded-none, bounded-more}
 use borrow.Author.Needs.{needs}
 use Rattle.sweep_fours.proofs.above.Statement.{statement}
 use Rattle.sweep_fours.proofs.above.Tie as tie
@@ -13,13 +13,13 @@ use Rattle.sweep_fours.proofs.above.Lts as lts
 use Rattle.sweep_fours.proofs.four_byte.Reads as four-byte-reads
 
 abbrev Inv-loop : tie.InvT-loop
-Inv-loop y lo end u0 u1 low four₀ z₀ four z = (lo ≤ z) × (z ≤ end) × Filled lo z (fourOf y low u0 u1) four × Bounded lo z 85 four × (length four ≡ length four₀)
+Inv-loop y lo end u0 u1 low four₀ z₀ four z = (lo ≤ z) × (z ≤ end) × Overlaid lo z (fourOf y low u0 u1) four₀ four × Bounded lo z 85 four × (length four ≡ length four₀)
 
 abbrev μ-loop : tie.MeasureT-loop
 μ-loop y lo end u0 u1 low four₀ z₀ four z = end - z
 
 loop-holds : tie.Need-loop-holds Inv-loop μ-loop
-loop-holds c = (omega arith, omega arith, filled-none _ _ _, bounded-none _ _ _, refl)
+loop-holds c = (omega arith, omega arith, overlaid-none _ _ _, bounded-none _ _ _, refl)
 
 shared-slice-read-four-byte : tie.Need-shared-slice-read-four-byte Inv-loop μ-loop
 shared-slice-read-four-byte c = search needs
@@ -37,7 +37,7 @@ shared-slice-read-four-byte-3 : tie.Need-shared-slice-read-four-byte-3 Inv-loop 
 shared-slice-read-four-byte-3 c = search needs
 
 four-byte-requires : tie.Need-four-byte-requires Inv-loop μ-loop
-four-byte-requires c κs = (omega arith, c .before .before .before .before .before .before .before .before .before .pre .1 .at _ (c .before .before .before .before .loop .inv .0) (omega arith))
+four-byte-requires c κs = (omega arith, c .before .before .before .before .before .before .before .before .before .pre .1 .2 .at _ (c .before .before .before .before .loop .inv .0) (omega arith))
 
 slice-write-four : tie.Need-slice-write-four Inv-loop μ-loop
 slice-write-four c = search needs
@@ -49,7 +49,7 @@ loop-less : tie.Need-loop-less Inv-loop μ-loop
 loop-less c = search needs
 
 loop-again : tie.Need-loop-again Inv-loop μ-loop
-loop-again c = (omega arith, omega arith, filled-more _ _ _ (omega arith) (c .before .before .before .before .before .loop .inv .2) (c .four-byte .ensures .0), bounded-more _ _ _ (omega arith) (c .before .before .before .before .before .loop .inv .3) (c .four-byte .ensures .1), search needs)
+loop-again c = (omega arith, omega arith, overlaid-more _ _ _ (c .before .before .before .before .before .loop .inv .0) (omega arith) (c .before .before .before .before .before .loop .inv .2) (c .four-byte .ensures .0), bounded-more _ _ _ (omega arith) (c .before .before .before .before .before .loop .inv .3) (c .four-byte .ensures .1), search needs)
 
 same-length : tie.Need-same-length Inv-loop μ-loop
 same-length c = search needs

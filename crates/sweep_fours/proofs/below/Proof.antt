@@ -1,10 +1,10 @@
 -- The places so far hold the two cells below the line.
-use Prim.Native.Nat.{_≤_, _-_, _+_}
+use Prim.Native.Nat.{_≤_, _-_}
 use mathlib.Core.Path.{_≡_, refl}
 use native.Mathlib.Omega.{arith}
 use lib.ListN.{length}
-use Rattle.sweep_fours.specs.Fours.{Filled, lowOf}
-use Rattle.sweep_fours.proofs.Laws.{filled-none, filled-more}
+use Rattle.sweep_fours.specs.Fours.{Overlaid, lowOf}
+use Rattle.sweep_fours.proofs.Laws.{overlaid-none, overlaid-more}
 use borrow.Author.Needs.{needs}
 use Rattle.sweep_fours.proofs.below.Statement.{statement}
 use Rattle.sweep_fours.proofs.below.Tie as tie
@@ -13,13 +13,13 @@ use Rattle.sweep_fours.proofs.below.Lts as lts
 use Rattle.sweep_fours.proofs.low_byte.Reads as low-byte-reads
 
 abbrev Inv-loop : tie.InvT-loop
-Inv-loop y lo end u0 u1 low₀ z₀ low z = (lo ≤ z) × (z ≤ end) × Filled lo z (lowOf y u0 u1) low × (length low ≡ length low₀)
+Inv-loop y lo end u0 u1 low₀ z₀ low z = (lo ≤ z) × (z ≤ end) × Overlaid lo z (lowOf y u0 u1) low₀ low × (length low ≡ length low₀)
 
 abbrev μ-loop : tie.MeasureT-loop
 μ-loop y lo end u0 u1 low₀ z₀ low z = end - z
 
 loop-holds : tie.Need-loop-holds Inv-loop μ-loop
-loop-holds c = (omega arith, omega arith, filled-none _ _ _, refl)
+loop-holds c = (omega arith, omega arith, overlaid-none _ _ _, refl)
 
 mul-low-byte : tie.Need-mul-low-byte Inv-loop μ-loop
 mul-low-byte c = search needs
@@ -46,7 +46,7 @@ loop-less : tie.Need-loop-less Inv-loop μ-loop
 loop-less c = search needs
 
 loop-again : tie.Need-loop-again Inv-loop μ-loop
-loop-again c = (omega arith, omega arith, filled-more _ _ _ (omega arith) (c .before .before .before .before .loop .inv .2) (c .low-byte .ensures), search needs)
+loop-again c = (omega arith, omega arith, overlaid-more _ _ _ (c .before .before .before .before .loop .inv .0) (omega arith) (c .before .before .before .before .loop .inv .2) (c .low-byte .ensures), search needs)
 
 same-length : tie.Need-same-length Inv-loop μ-loop
 same-length c = search needs

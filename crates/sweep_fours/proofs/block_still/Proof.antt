@@ -1,6 +1,6 @@
 -- The places so far are all alike if the answer is yes.
 use Prim.Native.Nat.{_≤_, _-_, _+_}
-use mathlib.Core.Path.{_≡_, refl}
+use mathlib.Core.Path.{_≡_}
 use native.Mathlib.Omega.{arith}
 use Rattle.sweep_fours.specs.Fours.{StillIf}
 use Rattle.sweep_fours.proofs.Laws.{if-none, if-more}

@@ -1,6 +1,5 @@
 -- The blocks that are passed over are still.
 use Prim.Native.Nat.{_≤_, _-_, _+_}
-use mathlib.Core.Path.{_≡_, refl}
 use native.Mathlib.Omega.{arith}
 use Rattle.sweep_fours.specs.Fours.{Still}
 use Rattle.sweep_fours.proofs.Laws.{still-none, still-on}

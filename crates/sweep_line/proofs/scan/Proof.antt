@@ -29,7 +29,7 @@ next-change-requires : tie.Need-next-change-requires Inv-loop μ-loop
 next-change-requires c κs = search needs
 
 loop-holds : tie.Need-loop-holds Inv-loop μ-loop
-loop-holds c = let n = c .next-change .ensures in (n .from, n .to, n .turns, scan-still _ _ _ _ _ _ _ (omega arith) (n .from) (n .still) (scan-none _ _ _ _ _), room-own _ _ _ (c .before .before .before .pre .4), refl)
+loop-holds c = let n = c .next-change .ensures in (n .from, n .to, n .turns, scan-still _ _ _ _ _ _ _ (omega arith) (n .from) (n .still) (scan-none _ _ _ _ _), room-own _ _ _ (c .before .before .before .pre .0 .4), refl)
 
 cast-point : tie.Need-cast-point Inv-loop μ-loop
 cast-point c = search needs
@@ -44,10 +44,10 @@ shared-slice-read-between-2 : tie.Need-shared-slice-read-between-2 Inv-loop μ-l
 shared-slice-read-between-2 c = search needs
 
 between-requires : tie.Need-between-requires Inv-loop μ-loop
-between-requires c κs = (c .before .before .before .before .before .before .before .before .pre .6 .at _ (c .before .before .before .before .loop .inv .0) (omega arith), c .before .before .before .before .before .before .before .before .pre .6 .at _ (omega arith) (omega arith))
+between-requires c κs = (c .before .before .before .before .before .before .before .before .pre .1 .1 .at _ (c .before .before .before .before .loop .inv .0) (omega arith), c .before .before .before .before .before .before .before .before .pre .1 .1 .at _ (omega arith) (omega arith))
 
 point-requires : tie.Need-point-requires Inv-loop μ-loop
-point-requires c κs = (c .before .before .before .before .before .before .before .before .before .pre .0, c .before .before .before .before .before .before .before .before .before .pre .1, omega arith, room-more _ _ _ (omega (arith, c .before .before .before .before .before .before .before .before .before .pre .4 .few)) (c .before .before .before .before .before .loop .inv .4))
+point-requires c κs = (c .before .before .before .before .before .before .before .before .before .pre .0 .0, c .before .before .before .before .before .before .before .before .before .pre .0 .1, omega arith, room-more _ _ _ (omega (arith, c .before .before .before .before .before .before .before .before .before .pre .0 .4 .few)) (c .before .before .before .before .before .loop .inv .4))
 
 add-next-change : tie.Need-add-next-change Inv-loop μ-loop
 add-next-change c = search needs
@@ -59,7 +59,7 @@ loop-less : tie.Need-loop-less Inv-loop μ-loop
 loop-less c = search needs
 
 loop-again : tie.Need-loop-again Inv-loop μ-loop
-loop-again c = let n = c .next-change2 .ensures in (omega (arith, n .from), n .to, n .turns, scan-still _ _ _ _ _ _ _ (omega arith) (n .from) (n .still) (scan-more _ _ _ _ _ _ (c .before .before .before .before .before .before .before .before .before .loop .inv .0) (c .before .before .before .before .before .before .before .before .before .loop .inv .2 (c .before .before .before .before .before .before .before .before .loop-test .taken)) (c .before .before .before .before .between .ensures) (c .before .before .before .before .before .before .before .before .before .loop .inv .3) (c .before .before .before .point .ensures)), room-point _ _ _ _ _ _ _ _ (c .before .before .before .before .before .before .before .before .before .before .before .before .before .pre .0) (c .before .before .before .before .before .before .before .before .before .before .before .before .before .pre .1) (omega arith) (c .before .before .before .point .ensures) (omega (arith, n .from)) (c .before .before .before .before .before .before .before .before .before .loop .inv .4), search needs)
+loop-again c = let n = c .next-change2 .ensures in (omega (arith, n .from), n .to, n .turns, scan-still _ _ _ _ _ _ _ (omega arith) (n .from) (n .still) (scan-more _ _ _ _ _ _ (c .before .before .before .before .before .before .before .before .before .loop .inv .0) (c .before .before .before .before .before .before .before .before .before .loop .inv .2 (c .before .before .before .before .before .before .before .before .loop-test .taken)) (c .before .before .before .before .between .ensures) (c .before .before .before .before .before .before .before .before .before .loop .inv .3) (c .before .before .before .point .ensures)), room-point _ _ _ _ _ _ _ _ (c .before .before .before .before .before .before .before .before .before .before .before .before .before .pre .0 .0) (c .before .before .before .before .before .before .before .before .before .before .before .before .before .pre .0 .1) (omega arith) (c .before .before .before .point .ensures) (omega (arith, n .from)) (c .before .before .before .before .before .before .before .before .before .loop .inv .4), search needs)
 
 same-length : tie.Need-same-length Inv-loop μ-loop
 same-length c = search needs

@@ -1,8 +1,9 @@
 -- The shots that touch the plane have its corners.
+use mathlib.Core.Bool.{false}
 use native.Mathlib.Omega.{arith}
-use native.Mathlib.Nat.{le-trans}
-use Rattle.sweep_selection.proofs.Laws.{selected-count, selected-in, selected-few}
-use Rattle.sweep_plane.proofs.Laws.{plane-near}
+use Rattle.buffer.proofs.WroteLaws.{front-count}
+use Rattle.sweep_selection.proofs.Laws.{selected-past}
+use Rattle.sweep_plane.proofs.Laws.{near-few, near-in, plane-near, kept-near}
 use borrow.Author.Needs.{needs}
 use Rattle.sweep_plane.proofs.across.Statement.{statement}
 use Rattle.sweep_plane.proofs.across.Tie as tie
@@ -18,10 +19,10 @@ slice-reshare-prefix-plane-if : tie.Need-slice-reshare-prefix-plane-if
 slice-reshare-prefix-plane-if c = search needs
 
 slice-aggregate-plane-if : tie.Need-slice-aggregate-plane-if
-slice-aggregate-plane-if c = selected-count _ _ _ _ _ _ _ (omega (arith, c .before .before .before .select .ensures .few, c .before .before .before .select .kept .1 .1 .1 .1 .1 .0)) (c .before .before .before .select .ensures)
+slice-aggregate-plane-if c = front-count (c .before .before .before .select .ensures)
 
 plane-if-requires : tie.Need-plane-if-requires
-plane-if-requires c κs = let h = selected-few _ _ _ _ _ _ _ (omega (arith, c .before .before .before .before .before .before .select .ensures .few, c .before .before .before .before .before .before .select .kept .1 .1 .1 .1 .1 .0)) (c .before .before .before .before .before .before .select .ensures) in (selected-in _ _ _ _ _ _ _ (omega (arith, c .before .before .before .before .before .before .select .ensures .few, c .before .before .before .before .before .before .select .kept .1 .1 .1 .1 .1 .0)) (c .before .before .before .before .before .before .select .ensures), omega (arith, h), omega (arith, h), omega (arith, h), c .before .before .before .before .before .before .before .before .before .before .before .before .before .before .pre .5, c .before .before .before .before .before .before .before .before .before .before .before .before .before .before .pre .6, c .before .before .before .before .before .before .before .before .before .before .before .before .before .before .pre .7)
+plane-if-requires c κs = let h = near-few (c .before .before .before .before .before .before .before .before .before .before .before .before .before .before .args .c .now) (c .before .before .before .before .before .before .before .before .before .before .before .before .before .before .args .edge) (c .before .before .before .before .before .before .before .before .before .before .before .before .before .before .args .x) (c .before .before .before .before .before .before .before .before .before .before .before .before .before .before .args .run .now) (c .before .before .before .before .before .before .select .ensures) in (near-in (c .before .before .before .before .before .before .before .before .before .before .before .before .before .before .args .c .now) (c .before .before .before .before .before .before .before .before .before .before .before .before .before .before .args .edge) (c .before .before .before .before .before .before .before .before .before .before .before .before .before .before .args .x) (c .before .before .before .before .before .before .before .before .before .before .before .before .before .before .args .run .now) (c .before .before .before .before .before .before .select .ensures) _ (c .before .before .before .before .before .before .before .before .before .before .before .before .before .before .pre .0), (omega (arith, h, c .before .before .before .before .before .before .before .before .before .before .before .before .before .before .pre .0 .few), omega (arith, h, c .before .before .before .before .before .before .before .before .before .before .before .before .before .before .pre .0 .few)))
 
 same-length : tie.Need-same-length
 same-length c = search needs
@@ -36,7 +37,7 @@ same-length-4 : tie.Need-same-length-4
 same-length-4 c = search needs
 
 returns : tie.Need-returns
-returns c = plane-near _ _ _ _ _ _ (omega (arith, c .before .before .before .before .before .before .before .before .before .before .before .before .before .select .ensures .few, c .before .before .before .before .before .before .before .before .before .before .before .before .before .select .kept .1 .1 .1 .1 .1 .0)) (c .before .before .before .before .before .before .before .before .before .before .before .before .before .select .ensures) _ (c .before .before .before .before .before .before .plane-if .ensures)
+returns c = (plane-near (c .before .before .before .before .before .before .before .before .before .before .before .before .before .before .before .before .before .before .before .before .before .args .c .now) (c .before .before .before .before .before .before .before .before .before .before .before .before .before .before .before .before .before .before .before .before .before .args .edge) (c .before .before .before .before .before .before .before .before .before .before .before .before .before .before .before .before .before .before .before .before .before .args .x) (c .before .before .before .before .before .before .before .before .before .before .before .before .before .before .before .before .before .before .before .before .before .args .run .now) (c .before .before .before .before .before .before .before .before .before .before .before .before .before .select .ensures) _ (c .before .before .before .before .before .before .plane-if .ensures .0), (selected-past (c .before .before .before .before .before .before .before .before .before .before .before .before .before .before .before .before .before .before .before .before .before .args .edge) (c .before .before .before .before .before .before .before .before .before .before .before .before .before .before .before .before .before .before .before .before .before .args .c .now) false (c .before .before .before .before .before .before .before .before .before .before .before .before .before .before .before .before .before .before .before .before .before .args .x) (c .before .before .before .before .before .before .before .before .before .before .before .before .before .before .before .before .before .before .before .before .before .args .run .now) (c .before .before .before .before .before .before .before .before .before .before .before .before .before .select .ensures), (kept-near (c .before .before .before .before .before .before .before .before .before .before .before .before .before .before .before .before .before .before .before .before .before .args .c .now) (c .before .before .before .before .before .before .before .before .before .before .before .before .before .before .before .before .before .before .before .before .before .args .edge) (c .before .before .before .before .before .before .before .before .before .before .before .before .before .before .before .before .before .before .before .before .before .args .x) (c .before .before .before .before .before .before .before .before .before .before .before .before .before .before .before .before .before .before .before .before .before .args .run .now) (c .before .before .before .before .before .before .before .before .before .before .before .before .before .select .ensures) _ _ (c .before .before .before .before .before .before .plane-if .ensures .1 .0), kept-near (c .before .before .before .before .before .before .before .before .before .before .before .before .before .before .before .before .before .before .before .before .before .args .c .now) (c .before .before .before .before .before .before .before .before .before .before .before .before .before .before .before .before .before .before .before .before .before .args .edge) (c .before .before .before .before .before .before .before .before .before .before .before .before .before .before .before .before .before .before .before .before .before .args .x) (c .before .before .before .before .before .before .before .before .before .before .before .before .before .before .before .before .before .before .before .before .before .args .run .now) (c .before .before .before .before .before .before .before .before .before .before .before .before .before .select .ensures) _ _ (c .before .before .before .before .before .before .plane-if .ensures .1 .1))))
 
 pub across-spec : {M : Type 1} → statement M
 across-spec =

@@ -3,6 +3,7 @@ use mathlib.Core.Path.{_≡_, refl}
 use Prim.Native.Nat.{_≤_, _-_, _+_, _*_}
 use native.Mathlib.Omega.{arith}
 use lib.ListN.{length}
+use Rattle.lattice.specs.Cells.{linePoints}
 use Rattle.lattice_sums.specs.CornerSums.{Room}
 use Rattle.lattice_sums.proofs.CornerSumLaws.{room-more}
 use Rattle.sweep_rows.specs.Runs.{shotsIn}
@@ -17,24 +18,20 @@ use Rattle.sweep_plane.proofs.lines.Tie as tie
 use Rattle.sweep_plane.proofs.lines.Reads as reads
 use Rattle.sweep_plane.proofs.lines.Lts as lts
 use Rattle.sweep_plane.proofs.line_if.Reads as line-if-reads
-use Rattle.sweep_plane.proofs.wide.Reads as wide-reads
 use Rattle.sweep_windows.proofs.highest.Reads as highest-reads
 use Rattle.sweep_windows.proofs.lowest.Reads as lowest-reads
 
 abbrev Inv-loop : tie.InvT-loop
-Inv-loop c e field x run lows highs heads links row buf₀ u0₀ u1₀ s₀ end y₀ buf u0 u1 s y = (y ≤ end) × Ends x y (shotsIn e c run) u0 × Ends (x + 1) y (shotsIn e c run) u1 × (state s buf ≡ found (state s₀ buf₀) (linesTo y x (shotsIn e c run))) × Room s (s₀ .corners + y * 1025) × (length buf ≡ length buf₀)
+Inv-loop c edge field x run lows highs heads links row buf₀ u0₀ u1₀ s₀ end y₀ buf u0 u1 s y = (y ≤ end) × Ends x y (shotsIn edge c run) u0 × Ends (x + 1) y (shotsIn edge c run) u1 × (state s buf ≡ found (state s₀ buf₀) (linesTo y x (shotsIn edge c run))) × Room s (s₀ .corners + y * linePoints 1024) × (length buf ≡ length buf₀)
 
 abbrev μ-loop : tie.MeasureT-loop
-μ-loop c e field x run lows highs heads links row buf₀ u0₀ u1₀ s₀ end y₀ buf u0 u1 s y = end - y
-
-wide-requires : tie.Need-wide-requires Inv-loop μ-loop
-wide-requires c κs = search needs
+μ-loop c edge field x run lows highs heads links row buf₀ u0₀ u1₀ s₀ end y₀ buf u0 u1 s y = end - y
 
 add-end : tie.Need-add-end Inv-loop μ-loop
 add-end c = search needs
 
 loop-holds : tie.Need-loop-holds Inv-loop μ-loop
-loop-holds c = (omega arith, ends-start _ _, ends-start _ _, lines-none _ _ _, room-own _ _ _ (c .before .before .before .before .before .before .before .before .before .pre .5), refl)
+loop-holds c = (omega arith, ends-start _ _, ends-start _ _, lines-none _ _ _, room-own _ _ _ (c .before .before .before .before .before .before .before .before .pre .0 .2), refl)
 
 cast-line-if : tie.Need-cast-line-if Inv-loop μ-loop
 cast-line-if c = search needs
@@ -43,10 +40,10 @@ shared-slice-read-line-if : tie.Need-shared-slice-read-line-if Inv-loop μ-loop
 shared-slice-read-line-if c = search needs
 
 lowest-requires : tie.Need-lowest-requires Inv-loop μ-loop
-lowest-requires c κs = (omega (arith, c .before .before .before .before .before .before .before .before .before .before .before .before .pre .1 .rows .low-size), c .before .before .before .before .before .before .before .before .before .before .before .before .pre .1 .rows .low-in _)
+lowest-requires c κs = (omega (arith, c .before .before .before .before .before .before .before .before .before .before .before .pre .1 .0 .rows .low-size), c .before .before .before .before .before .before .before .before .before .before .before .pre .1 .0 .rows .low-in _)
 
 highest-requires : tie.Need-highest-requires Inv-loop μ-loop
-highest-requires c κs = omega (arith, c .before .before .before .before .before .before .before .before .before .before .before .before .before .pre .1 .rows .high-size)
+highest-requires c κs = omega (arith, c .before .before .before .before .before .before .before .before .before .before .before .before .pre .1 .0 .rows .high-size)
 
 slice-aggregate-line-if : tie.Need-slice-aggregate-line-if Inv-loop μ-loop
 slice-aggregate-line-if c = search needs
@@ -55,22 +52,22 @@ slice-aggregate-line-if-2 : tie.Need-slice-aggregate-line-if-2 Inv-loop μ-loop
 slice-aggregate-line-if-2 c = search needs
 
 line-if-requires : tie.Need-line-if-requires Inv-loop μ-loop
-line-if-requires c κs = (record { plane = c .before .before .before .before .before .before .before .before .before .before .before .before .before .before .before .before .before .pre .0; y-in = omega arith; window = rw (c .before .before .before .before .lowest .ensures, c .before .before .before .highest .ensures) (c .before .before .before .before .before .before .before .before .before .before .before .before .before .before .before .before .before .pre .1 .framed-at _); top = omega (arith, c .before .before .before .highest .ensures, c .before .before .before .before .before .before .before .before .before .before .before .before .before .before .before .before .before .pre .1 .rows .high-in (c .before .before .before .before .before .before .before .loop .y)); lower = c .before .before .before .before .before .before .before .loop .inv .1; upper = c .before .before .before .before .before .before .before .loop .inv .2; room = room-more _ _ _ (omega (arith, c .before .before .before .before .before .before .before .before .before .before .before .before .before .before .before .before .before .pre .5 .few)) (c .before .before .before .before .before .before .before .loop .inv .4) }, record { none = c .before .before .before .before .before .before .before .before .before .before .before .before .before .before .before .before .before .pre .2 .at _ })
+line-if-requires c κs = (record { plane = c .before .before .before .before .before .before .before .before .before .before .before .before .before .before .before .before .pre .0 .0; y-in = omega arith; window = rw (c .before .before .before .before .lowest .ensures, c .before .before .before .highest .ensures) (c .before .before .before .before .before .before .before .before .before .before .before .before .before .before .before .before .pre .1 .0 .framed-at _); top = omega (arith, c .before .before .before .highest .ensures, c .before .before .before .before .before .before .before .before .before .before .before .before .before .before .before .before .pre .1 .0 .rows .high-in (c .before .before .before .before .before .before .before .loop .y)); lower = c .before .before .before .before .before .before .before .loop .inv .1; upper = c .before .before .before .before .before .before .before .loop .inv .2; room = room-more _ _ _ (omega (arith, c .before .before .before .before .before .before .before .before .before .before .before .before .before .before .before .before .pre .0 .2 .few)) (c .before .before .before .before .before .before .before .loop .inv .4) }, record { none = c .before .before .before .before .before .before .before .before .before .before .before .before .before .before .before .before .pre .1 .1 .0 .at _ })
 
 add-y : tie.Need-add-y Inv-loop μ-loop
-add-y c = search needs
+add-y c = omega (arith, c .before .before .before .before .before .before .before .before .before .before .before .before .before .before .before .before .before .before .before .before .before .pre .0 .1)
 
 loop-less : tie.Need-loop-less Inv-loop μ-loop
 loop-less c = search needs
 
 loop-again : tie.Need-loop-again Inv-loop μ-loop
-loop-again c = (omega arith, c .before .before .before .before .line-if .ensures .lower, c .before .before .before .before .line-if .ensures .upper, lines-more _ _ _ _ (c .before .before .before .before .before .before .before .before .before .before .before .before .loop .inv .3) (c .before .before .before .before .line-if .ensures .is), room-more _ _ _ (omega (arith, c .before .before .before .before .before .before .before .before .before .before .before .before .loop .inv .4 .few)) (c .before .before .before .before .line-if .ensures .room), search needs)
+loop-again c = (omega arith, c .before .before .before .before .line-if .ensures .1 .lower, c .before .before .before .before .line-if .ensures .1 .upper, lines-more _ _ _ _ (c .before .before .before .before .before .before .before .before .before .before .before .before .loop .inv .3) (c .before .before .before .before .line-if .ensures .0 .is), room-more _ _ _ (omega (arith, c .before .before .before .before .before .before .before .before .before .before .before .before .loop .inv .4 .few)) (c .before .before .before .before .line-if .ensures .0 .room), search needs)
 
 same-length : tie.Need-same-length Inv-loop μ-loop
 same-length c = search needs
 
 returns : tie.Need-returns Inv-loop μ-loop
-returns c = lines-all _ _ _ _ (c .before .loop .y) (omega arith) (c .before .before .before .before .before .before .before .before .before .before .before .pre .4) (c .before .loop .inv .3) (c .before .loop .inv .4)
+returns c = lines-all _ _ _ _ (c .before .loop .y) (omega arith) (c .before .before .before .before .before .before .before .before .before .before .pre .0 .1) (c .before .loop .inv .3) (c .before .loop .inv .4)
 
 pub lines-spec : {M : Type 1} → statement M
 lines-spec =
@@ -78,7 +75,6 @@ lines-spec =
     (tie.spec
     Inv-loop
     μ-loop
-    wide-requires
     add-end
     loop-holds
     cast-line-if

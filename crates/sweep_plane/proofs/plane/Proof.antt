@@ -7,20 +7,20 @@ use Rattle.sweep_plane.proofs.plane.Reads as reads
 use Rattle.sweep_plane.proofs.plane.Lts as lts
 use Rattle.sweep_chains.proofs.link_all.Reads as link-all-reads
 use Rattle.sweep_plane.proofs.lines.Reads as lines-reads
-use Rattle.sweep_plane.proofs.mark_run.Reads as mark-run-reads
+use Rattle.sweep_plane.proofs.mark_faces.Reads as mark-faces-reads
 use Rattle.sweep_windows.proofs.frame_all.Reads as frame-all-reads
 
 slice-aggregate-link-all : tie.Need-slice-aggregate-link-all
 slice-aggregate-link-all c = search needs
 
 link-all-requires : tie.Need-link-all-requires
-link-all-requires c κs = ((chain-lines _ _ (c .before .before .before .before .before .before .before .args .run .now) (c .before .before .before .before .before .before .before .pre .0), search needs, search needs), (search needs, blank))
+link-all-requires c κs = ((chain-lines _ _ (c .before .before .before .before .before .before .before .args .run .now) (c .before .before .before .before .before .before .before .pre .0 .0 .in-run), search needs, search needs), (search needs, blank))
 
-slice-aggregate-mark-run : tie.Need-slice-aggregate-mark-run
-slice-aggregate-mark-run c = search needs
+slice-aggregate-mark-faces : tie.Need-slice-aggregate-mark-faces
+slice-aggregate-mark-faces c = search needs
 
-mark-run-requires : tie.Need-mark-run-requires
-mark-run-requires c κs = search needs
+mark-faces-requires : tie.Need-mark-faces-requires
+mark-faces-requires c κs = search needs
 
 slice-aggregate-frame-all : tie.Need-slice-aggregate-frame-all
 slice-aggregate-frame-all c = search needs
@@ -29,7 +29,7 @@ slice-aggregate-frame-all-2 : tie.Need-slice-aggregate-frame-all-2
 slice-aggregate-frame-all-2 c = search needs
 
 frame-all-requires : tie.Need-frame-all-requires
-frame-all-requires c κs = (c .before .before .before .before .before .before .before .before .before .before .before .before .before .before .before .before .pre .1 .in-faces, windows-blank)
+frame-all-requires c κs = (c .before .before .before .before .before .before .before .before .before .before .before .before .before .before .before .before .pre .0 .1 .in-faces, windows-blank)
 
 slice-aggregate-lines : tie.Need-slice-aggregate-lines
 slice-aggregate-lines c = search needs
@@ -44,7 +44,7 @@ slice-aggregate-lines-4 : tie.Need-slice-aggregate-lines-4
 slice-aggregate-lines-4 c = search needs
 
 lines-requires : tie.Need-lines-requires
-lines-requires c κs = (record { in-run = c .before .before .before .before .before .before .before .before .before .before .before .before .before .before .before .before .before .before .before .before .before .before .before .before .before .pre .0; chained = c .before .before .before .before .before .before .before .before .before .before .before .before .before .before .before .before .before .link-all .ensures; heads-size = search needs; links-size = search needs; x-in = c .before .before .before .before .before .before .before .before .before .before .before .before .before .before .before .before .before .before .before .before .before .before .before .before .before .pre .4 }, windows-at _ _ _ _ _ (c .before .before .before .before .before .before .before .before .before .before .before .before .before .before .before .before .before .before .before .before .before .before .before .before .before .pre .1) (c .before .before .before .before .before .before .before .before .frame-all .ensures), c .before .before .before .before .before .before .before .before .before .before .before .before .mark-run .ensures, search needs, c .before .before .before .before .before .before .before .before .before .before .before .before .before .before .before .before .before .before .before .before .before .before .before .before .before .pre .5, c .before .before .before .before .before .before .before .before .before .before .before .before .before .before .before .before .before .before .before .before .before .before .before .before .before .pre .6)
+lines-requires c κs = ((record { in-run = c .before .before .before .before .before .before .before .before .before .before .before .before .before .before .before .before .before .before .before .before .before .before .before .before .before .pre .0 .0 .in-run; chained = c .before .before .before .before .before .before .before .before .before .before .before .before .before .before .before .before .before .link-all .ensures .0; x-in = c .before .before .before .before .before .before .before .before .before .before .before .before .before .before .before .before .before .before .before .before .before .before .before .before .before .pre .0 .0 .x-in }, c .before .before .before .before .before .before .before .before .before .before .before .before .before .before .before .before .before .before .before .before .before .before .before .before .before .pre .0 .0 .field-in, c .before .before .before .before .before .before .before .before .before .before .before .before .before .before .before .before .before .before .before .before .before .before .before .before .before .pre .0 .0 .room), (windows-at _ _ _ _ _ (c .before .before .before .before .before .before .before .before .before .before .before .before .before .before .before .before .before .before .before .before .before .before .before .before .before .pre .0 .1) (c .before .before .before .before .before .before .before .before .frame-all .ensures .1 .1), (c .before .before .before .before .before .before .before .before .before .before .before .before .mark-faces .ensures, search needs)))
 
 same-length : tie.Need-same-length
 same-length c = search needs
@@ -53,7 +53,7 @@ same-length-2 : tie.Need-same-length-2
 same-length-2 c = search needs
 
 returns : tie.Need-returns
-returns c = search needs
+returns c = (c .before .before .lines .ensures, c .before .before .before .before .before .before .before .before .before .before .before .before .before .before .before .before .before .before .before .before .link-all .ensures .1)
 
 pub plane-spec : {M : Type 1} → statement M
 plane-spec =
@@ -61,8 +61,8 @@ plane-spec =
     (tie.spec
     slice-aggregate-link-all
     link-all-requires
-    slice-aggregate-mark-run
-    mark-run-requires
+    slice-aggregate-mark-faces
+    mark-faces-requires
     slice-aggregate-frame-all
     slice-aggregate-frame-all-2
     frame-all-requires

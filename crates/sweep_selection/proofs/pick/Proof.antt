@@ -1,26 +1,25 @@
 -- A shot that is wanted goes to the next place.
-use mathlib.Core.Path.{_≡_, sym, _∙_}
-use mathlib.Core.Bool.{true, false}
-use Rattle.sweep_selection.proofs.Laws.{picked}
+use Rattle.sweep_selection.proofs.Laws.{picked, passed}
 use borrow.Author.Needs.{needs}
 use Rattle.sweep_selection.proofs.pick.Statement.{statement}
 use Rattle.sweep_selection.proofs.pick.Tie as tie
 use Rattle.sweep_selection.proofs.pick.Reads as reads
 use Rattle.sweep_selection.proofs.pick.Lts as lts
+use Rattle.job.proofs.shot.edge_of.Reads as edge-of-reads
+use Rattle.job.proofs.shot.x_of.Reads as x-of-reads
 use Rattle.sweep_selection.proofs.wanted.Reads as wanted-reads
-use Rattle.sweep_selection.proofs.wide.Reads as wide-reads
 
-mul-wide : tie.Need-mul-wide
-mul-wide c = search needs
+x-of-requires : tie.Need-x-of-requires
+x-of-requires c κs = search needs
 
-mul-wide-2 : tie.Need-mul-wide-2
-mul-wide-2 c = search needs
+cast-a : tie.Need-cast-a
+cast-a c = search needs
 
-shared-slice-read-wide : tie.Need-shared-slice-read-wide
-shared-slice-read-wide c = search needs
+edge-of-requires : tie.Need-edge-of-requires
+edge-of-requires c κs = search needs
 
-wide-requires : tie.Need-wide-requires
-wide-requires c κs = search needs
+cast-e : tie.Need-cast-e
+cast-e c = search needs
 
 wanted-requires : tie.Need-wanted-requires
 wanted-requires c κs = search needs
@@ -38,19 +37,19 @@ same-length : tie.Need-same-length
 same-length c = search needs
 
 returns : tie.Need-returns
-returns c = picked _ true (rw (c .before .before .wide .ensures) at (sym (c .before .wanted .ensures) ∙ c .if1 .taken)) _ (c .before .before .before .before .before .before .args .i) (c .before .before .before .before .before .before .args .to .now)
+returns c = picked (c .before .before .before .before .before .before .args .face) (c .before .before .before .before .before .before .args .x) (c .before .before .before .before .before .before .args .edge) (c .before .before .before .before .before .before .args .c .now) (c .before .before .before .before .before .before .args .i) (c .before .before .before .x-of .ensures) (c .before .before .edge-of .ensures) (c .before .wanted .ensures) _ _ (c .before .before .before .before .before .before .pre .1) (c .if1 .taken)
 
 returns-2 : tie.Need-returns-2
-returns-2 c = picked _ false (rw (c .before .before .wide .ensures) at (sym (c .before .wanted .ensures) ∙ c .if1 .left)) _ (c .before .before .before .before .before .before .args .i) (c .before .before .before .before .before .before .args .to .now)
+returns-2 c = passed (c .before .before .before .before .before .before .args .face) (c .before .before .before .before .before .before .args .x) (c .before .before .before .before .before .before .args .edge) (c .before .before .before .before .before .before .args .c .now) (c .before .before .before .before .before .before .args .i) (c .before .before .before .x-of .ensures) (c .before .before .edge-of .ensures) (c .before .wanted .ensures) _ _ (c .before .before .before .before .before .before .pre .1) (c .if1 .left)
 
 pub pick-spec : {M : Type 1} → statement M
 pick-spec =
     tie.close
     (tie.spec
-    mul-wide
-    mul-wide-2
-    shared-slice-read-wide
-    wide-requires
+    x-of-requires
+    cast-a
+    edge-of-requires
+    cast-e
     wanted-requires
     mul-to
     slice-write-to

@@ -1,41 +1,32 @@
--- Both rows are raised over the lines that the shot touches.
+-- Both windows are raised from the shot's y to its end, by its z and by its end on z.
+use Rattle.sweep_windows.proofs.Laws.{widened-low, widened-high}
 use borrow.Author.Needs.{needs}
 use Rattle.sweep_windows.proofs.frame.Statement.{statement}
 use Rattle.sweep_windows.proofs.frame.Tie as tie
 use Rattle.sweep_windows.proofs.frame.Reads as reads
 use Rattle.sweep_windows.proofs.frame.Lts as lts
+use Rattle.job.proofs.shot.edge_of.Reads as edge-of-reads
+use Rattle.job.proofs.shot.y_of.Reads as y-of-reads
+use Rattle.job.proofs.shot.z_of.Reads as z-of-reads
 use Rattle.sweep_rows.proofs.raise.Reads as raise-reads
-use Rattle.sweep_windows.proofs.wide.Reads as wide-reads
 
-mul-wide : tie.Need-mul-wide
-mul-wide c = search needs
+edge-of-requires : tie.Need-edge-of-requires
+edge-of-requires c κs = search needs
 
-add-wide : tie.Need-add-wide
-add-wide c = search needs
+cast-e : tie.Need-cast-e
+cast-e c = search needs
 
-mul-wide-2 : tie.Need-mul-wide-2
-mul-wide-2 c = search needs
+y-of-requires : tie.Need-y-of-requires
+y-of-requires c κs = search needs
 
-shared-slice-read-wide : tie.Need-shared-slice-read-wide
-shared-slice-read-wide c = search needs
+cast-y : tie.Need-cast-y
+cast-y c = search needs
 
-wide-requires : tie.Need-wide-requires
-wide-requires c κs = search needs
+z-of-requires : tie.Need-z-of-requires
+z-of-requires c κs = search needs
 
-mul-wide-3 : tie.Need-mul-wide-3
-mul-wide-3 c = search needs
-
-add-wide-2 : tie.Need-add-wide-2
-add-wide-2 c = search needs
-
-mul-wide-4 : tie.Need-mul-wide-4
-mul-wide-4 c = search needs
-
-shared-slice-read-wide-2 : tie.Need-shared-slice-read-wide-2
-shared-slice-read-wide-2 c = search needs
-
-wide-requires-2 : tie.Need-wide-requires-2
-wide-requires-2 c κs = search needs
+cast-z : tie.Need-cast-z
+cast-z c = search needs
 
 add-end : tie.Need-add-end
 add-end c = search needs
@@ -68,22 +59,18 @@ same-length-2 : tie.Need-same-length-2
 same-length-2 c = search needs
 
 returns : tie.Need-returns
-returns c = (rw (c .before .before .before .before .before .before .before .before .before .before .wide .ensures, c .before .before .before .before .before .before .before .before .wide2 .ensures) at (c .before .before .before .before .before .before .raise .ensures), rw (c .before .before .before .before .before .before .before .before .before .before .wide .ensures, c .before .before .before .before .before .before .before .before .wide2 .ensures) at (c .before .before .raise2 .ensures))
+returns c = (widened-low _ (c .before .before .before .before .before .before .before .before .before .y-of .ensures) (c .before .before .before .before .before .before .before .before .z-of .ensures) (c .before .before .before .before .before .before .before .before .before .before .edge-of .ensures) (c .before .before .before .before .before .before .raise .ensures), widened-high _ (c .before .before .before .before .before .before .before .before .before .y-of .ensures) (c .before .before .before .before .before .before .before .before .z-of .ensures) (c .before .before .before .before .before .before .before .before .before .before .edge-of .ensures) (c .before .before .raise2 .ensures))
 
 pub frame-spec : {M : Type 1} → statement M
 frame-spec =
     tie.close
     (tie.spec
-    mul-wide
-    add-wide
-    mul-wide-2
-    shared-slice-read-wide
-    wide-requires
-    mul-wide-3
-    add-wide-2
-    mul-wide-4
-    shared-slice-read-wide-2
-    wide-requires-2
+    edge-of-requires
+    cast-e
+    y-of-requires
+    cast-y
+    z-of-requires
+    cast-z
     add-end
     add-end-2
     sub-raise

@@ -4,36 +4,35 @@ use Prim.Native.Nat.{_≤_, _-_}
 use native.Mathlib.Omega.{arith}
 use lib.ListN.{length}
 use Rattle.sweep_rows.specs.Runs.{runTo}
-use Rattle.sweep_windows.specs.Windows.{Windows}
-use Rattle.sweep_windows.proofs.Laws.{windows-none, windows-more}
+use Rattle.sweep_windows.specs.Windows.{Windows, Widened, fromTop, endOf}
+use Rattle.sweep_windows.proofs.Laws.{widened-none, widened-more, windows-none, windows-more}
 use borrow.Author.Needs.{needs}
 use Rattle.sweep_windows.proofs.frame_all.Statement.{statement}
 use Rattle.sweep_windows.proofs.frame_all.Tie as tie
 use Rattle.sweep_windows.proofs.frame_all.Reads as reads
 use Rattle.sweep_windows.proofs.frame_all.Lts as lts
 use Rattle.sweep_windows.proofs.frame.Reads as frame-reads
-use Rattle.sweep_windows.proofs.wide.Reads as wide-reads
 
 abbrev Inv-loop : tie.InvT-loop
-Inv-loop c e run lows₀ highs₀ q₀ lows highs q = (q ≤ length run) × Windows lows highs (runTo e c run q)
+Inv-loop c edge run lows₀ highs₀ q₀ lows highs q = (q ≤ length run) × Widened fromTop (runTo edge c run q) lows₀ lows × Widened endOf (runTo edge c run q) highs₀ highs × Windows lows highs (runTo edge c run q)
 
 abbrev μ-loop : tie.MeasureT-loop
-μ-loop c e run lows₀ highs₀ q₀ lows highs q = length run - q
+μ-loop c edge run lows₀ highs₀ q₀ lows highs q = length run - q
 
 loop-holds : tie.Need-loop-holds Inv-loop μ-loop
-loop-holds c = (omega arith, windows-none _ _ _ (c .before .before .before .before .pre .1))
+loop-holds c = (omega arith, widened-none _ _ _ _ _, widened-none _ _ _ _ _, windows-none _ _ _ (c .before .before .before .before .pre .1))
 
-mul-wide : tie.Need-mul-wide Inv-loop μ-loop
-mul-wide c = search needs
+mul-frame : tie.Need-mul-frame Inv-loop μ-loop
+mul-frame c = search needs
 
-shared-slice-read-wide : tie.Need-shared-slice-read-wide Inv-loop μ-loop
-shared-slice-read-wide c = search needs
+shared-slice-read-frame : tie.Need-shared-slice-read-frame Inv-loop μ-loop
+shared-slice-read-frame c = search needs
 
-wide-requires : tie.Need-wide-requires Inv-loop μ-loop
-wide-requires c κs = search needs
+cast-frame : tie.Need-cast-frame Inv-loop μ-loop
+cast-frame c = omega (arith, c .shared-slice-known3 .given (c .before .before .loop .q))
 
 frame-requires : tie.Need-frame-requires Inv-loop μ-loop
-frame-requires c κs = (rw (c .before .before .wide .ensures) (c .before .before .before .before .before .before .before .before .before .before .pre .0 _ (c .before .before .before .before .loop-test .taken)), c .before .before .before .before .before .loop .inv .1 .rows .low-size, c .before .before .before .before .before .loop .inv .1 .rows .high-size)
+frame-requires c κs = (c .before .before .before .before .before .before .before .before .before .pre .0 _ (c .before .before .before .loop-test .taken), c .before .before .before .before .loop .inv .3 .rows .low-size, c .before .before .before .before .loop .inv .3 .rows .high-size)
 
 add-q : tie.Need-add-q Inv-loop μ-loop
 add-q c = search needs
@@ -42,7 +41,7 @@ loop-less : tie.Need-loop-less Inv-loop μ-loop
 loop-less c = search needs
 
 loop-again : tie.Need-loop-again Inv-loop μ-loop
-loop-again c = (omega arith, windows-more _ _ _ _ (c .before .before .before .before .before .before .before .before .before .before .before .before .before .before .before .pre .0 _ (c .before .before .before .before .before .before .before .before .before .loop-test .taken)) (c .before .before .before .before .before .before .before .before .before .before .loop .inv .1) (rw (c .before .before .before .before .before .before .before .wide .ensures) at (c .before .before .before .before .frame .ensures .0)) (rw (c .before .before .before .before .before .before .before .wide .ensures) at (c .before .before .before .before .frame .ensures .1)))
+loop-again c = (omega arith, widened-more _ _ _ _ _ (c .before .before .before .before .before .before .before .before .before .loop .inv .1) (c .before .before .before .before .frame .ensures .0), widened-more _ _ _ _ _ (c .before .before .before .before .before .before .before .before .before .loop .inv .2) (c .before .before .before .before .frame .ensures .1), windows-more _ _ _ _ (c .before .before .before .before .before .before .before .before .before .before .before .before .before .before .pre .0 _ (c .before .before .before .before .before .before .before .before .loop-test .taken)) (c .before .before .before .before .before .before .before .before .before .loop .inv .3) (c .before .before .before .before .frame .ensures .0) (c .before .before .before .before .frame .ensures .1))
 
 same-length : tie.Need-same-length Inv-loop μ-loop
 same-length c = search needs
@@ -51,7 +50,7 @@ same-length-2 : tie.Need-same-length-2 Inv-loop μ-loop
 same-length-2 c = search needs
 
 returns : tie.Need-returns Inv-loop μ-loop
-returns c = let m : c .before .loop .q ≡ length (c .before .before .before .before .before .before .args .run .now) = omega arith in rw m at (c .before .loop .inv .1)
+returns c = let m : c .before .loop .q ≡ length (c .before .before .before .before .before .before .args .run .now) = omega arith in (rw m at (c .before .loop .inv .1), (rw m at (c .before .loop .inv .2), rw m at (c .before .loop .inv .3)))
 
 pub frame-all-spec : {M : Type 1} → statement M
 frame-all-spec =
@@ -60,9 +59,9 @@ frame-all-spec =
     Inv-loop
     μ-loop
     loop-holds
-    mul-wide
-    shared-slice-read-wide
-    wide-requires
+    mul-frame
+    shared-slice-read-frame
+    cast-frame
     frame-requires
     add-q
     loop-less
