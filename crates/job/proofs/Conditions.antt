@@ -1,14 +1,14 @@
 -- Each refusal of the checks is given if its condition holds and no earlier one does, and never otherwise; a list is accepted if
 -- and only if none holds, which is to say that it is valid; and a valid list's cells lie in the field. Assumes nothing.
-use mathlib.Core.Path.{_≡_, refl, sym, ap, subst, _∙_}
+use mathlib.Core.Path.{_≡_, refl, sym, _∙_}
 use mathlib.Core.Bool.{Bool, true, false, not, _||_, true≢false}
 use mathlib.Core.List.{List, [], _∷_}
 use mathlib.Core.Logic.{_↔_, _⊎_, inl, inr, ⊎-elim}
-use Prim.Native.Nat.{ℕ, _%_, _≤_, _<_}
+use Prim.Native.Nat.{ℕ, _%_, _<_}
 use native.Mathlib.Omega.{arith}
 use lib.Dec.{ltb, eqb}
 use lib.ListN.{length}
-use borrow.Author.Tests.{ltb-true, ltb-false, lt-ltb, le-ltb, eqb-true, eqb-false, eq-eqb, ne-eqb}
+use borrow.Author.Tests.{ltb-true, ltb-false, lt-ltb, eqb-false, ne-eqb}
 use Rattle.lattice.specs.Cells.{Within}
 use Rattle.lattice.specs.Shots.{cells, any}
 use Rattle.lattice.proofs.ShotLaws.{cells-within}
@@ -16,9 +16,9 @@ use Rattle.job.specs.declared.Refusal.{Refusal}
 use Rattle.job.specs.declared.Refusal.the-variants.{BrokenShot, TooManyShots, FieldRange, EdgeRange, GridRange, OutsideField}
 use Rattle.job.specs.declared.Checked.the-variants.{Accepted, Refused}
 use Rattle.job.specs.Job.{shotsOf, shotCount, shotAt, Valid}
-use Rattle.job.specs.Checking.{outside, leaves, firstLeaving, firstOf, settingTests, shotTests, tests, checked, Test}
+use Rattle.job.specs.Checking.{outside, leaves, firstLeaving, settingTests, shotTests, tests, checked, Test}
 use Rattle.job.specs.Conditions.{FirstOutside, Condition, broken-shot, too-many-shots, field-range, edge-range, grid-range, outside-field, Each, Says, First}
-use Rattle.job.proofs.Tests.{within, out, is-out, is-in, settled, or-false, or-true, or-true-left, or-true-right}
+use Rattle.job.proofs.Tests.{within, out, is-out, settled, or-false, or-true, or-true-left, or-true-right}
 use Rattle.job.proofs.Shots.{shots-count, shots-at, any-leaves, stays, stays-not, all-stay, first-leaves, earlier-stays, stay-at}
 use Rattle.job.proofs.Places.{passes, first-iff, none-iff}
 

@@ -4,4 +4,4 @@ pub mod Storing
 pub mod Places
 pub mod Answers
 pub mod Conditions
-pub mod Later
+pub mod OneMore

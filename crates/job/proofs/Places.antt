@@ -9,7 +9,7 @@ use Rattle.job.specs.declared.Refusal.{Refusal}
 use Rattle.job.specs.declared.Checked.{Checked}
 use Rattle.job.specs.declared.Checked.the-variants.{Accepted, Refused}
 use Rattle.job.specs.Refusals.{checkedNumbers}
-use Rattle.job.specs.Checking.{Test, firstOf, firstNumbers, Checks, andThen}
+use Rattle.job.specs.Checking.{Test, firstOf, firstNumbers, Checks}
 use Rattle.job.specs.Conditions.{Each, Says, First}
 
 pub apart : {P : Type 0} {r : Refusal} → Refused r ≡ Accepted → P
@@ -34,15 +34,6 @@ module _ (us : List Test) where
       go : (b : Bool) → cond b (Refused (t .gives)) (firstOf ts) ≡ Refused r → (firstOf ts ≡ Refused r → firstOf (ts ++ us) ≡ Refused r) → cond b (Refused (t .gives)) (firstOf (ts ++ us)) ≡ Refused r
       go true e f = e
       go false e f = f e
-
--- one test more
-pub first-then : (ts : List Test) (t : Test) → firstOf (ts ++ t ∷ []) ≡ andThen (firstOf ts) t
-unfolding firstOf
-first-then ts t = go (firstOf ts) refl
-  where
-    go : (c : Checked) → firstOf ts ≡ c → firstOf (ts ++ t ∷ []) ≡ andThen c t
-    go Accepted e = first-passed (t ∷ []) ts e
-    go (Refused r) e = first-stopped (t ∷ []) ts e
 
 -- ---- the numbers of an answer are those of the first test that holds
 pub first-numbers : (ts : List Test) → checkedNumbers (firstOf ts) ≡ firstNumbers ts

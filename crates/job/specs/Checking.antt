@@ -62,11 +62,6 @@ tests F E G coords = settingTests F E G coords ++ shotTests F E coords
 abbrev pub checked : ℕ → ℕ → ℕ → List ℕ → Checked
 checked F E G coords = firstOf (tests F E G coords)
 
--- one check more, where the earlier ones pass
-abbrev pub andThen : Checked → Test → Checked
-andThen Accepted t = cond (t .holds) (Refused (t .gives)) Accepted
-andThen (Refused r) t = Refused r
-
 -- ---- what is answered
 -- the paper's number and detail of the first test that holds; 0 and 0 where none does
 unfoldable pub firstNumbers : List Test → Numbers

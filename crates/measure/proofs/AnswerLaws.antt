@@ -21,7 +21,7 @@ use Rattle.sweep_tally.specs.Found.{state, found}
 use Rattle.sweep_tally.proofs.Result.{found-sums, found-bytes}
 use Rattle.measure_intake.specs.Intake.{solid, measureTests, answerOf, measuredNumbers, sliceAfter, IndexCall}
 use Rattle.measure_intake.proofs.IntakeLaws.{answer-numbers}
-use Rattle.measure_intake.proofs.OneMore.{too-short, long-enough}
+use Rattle.job.proofs.OneMore.{too-short, long-enough}
 use Rattle.measure.specs.Answers.{shortListing, listTests, listChecked, listAnswer, listNumbers, listingOver, listingAfter, CornersListed, ListCall}
 use Rattle.measure_intake.specs.declared.Measured.{Measured}
 use Rattle.measure_intake.specs.declared.Measured.the-variants.{Quote, Refused as Unmeasured}

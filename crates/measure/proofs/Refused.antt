@@ -15,7 +15,7 @@ use Rattle.grid.specs.Grid.{indexOf, need}
 use Rattle.measure_intake.specs.Intake.{solid, measureTests, measureChecked, answerOf, sliceAfter, workAfter, MeasureAccepts, MeasureRefuses}
 use Rattle.measure_intake.specs.declared.Measured.{Measured}
 use Rattle.measure_intake.specs.declared.Measured.the-variants.{Quote, Refused as Unmeasured}
-use Rattle.measure_intake.proofs.OneMore.{more-accepted, more-refused}
+use Rattle.job.proofs.OneMore.{more-accepted, more-refused}
 use Rattle.measure_intake.proofs.Refused.{answer-refused, answer-accepted, checks-accepted, checks-refused}
 use Rattle.measure.specs.Answers.{listTests, listChecked, listAnswer, listingOver, listingAfter, ListCall, ListAccepts, ListRefuses}
 

@@ -19,7 +19,7 @@ use Rattle.grid.specs.Grid.{indexOf, need, Holds}
 use Rattle.measure_intake.specs.Intake.{solid, shortWork, measureTests, measureChecked, answerOf, measureAnswer, measuredNumbers, numbersAfter, measureNumbers, sliceAfter, workAfter, IndexCall, MeasureCall}
 use Rattle.measure_intake.specs.declared.Measured.{Measured}
 use Rattle.measure_intake.specs.declared.Measured.the-variants.{Quote, Refused as Unmeasured}
-use Rattle.measure_intake.proofs.OneMore.{too-short, long-enough, more-accepted}
+use Rattle.job.proofs.OneMore.{too-short, long-enough, more-accepted}
 
 -- ---- the intake
 module _ (F E G : ℕ) (coords work : List ℕ) where

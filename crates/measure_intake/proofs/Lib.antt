@@ -1,3 +1,2 @@
-pub mod OneMore
 pub mod IntakeLaws
 pub mod Refused

@@ -19,7 +19,7 @@ use Rattle.grid.specs.Grid.{indexOf, need}
 use Rattle.measure_intake.specs.Intake.{solid, measureTests, measureChecked, answerOf, measureAnswer, sliceAfter, workAfter, IndexCall, MeasureCall, MeasureAccepts, MeasureRefuses}
 use Rattle.measure_intake.specs.declared.Measured.{Measured}
 use Rattle.measure_intake.specs.declared.Measured.the-variants.{Quote, Refused as Unmeasured}
-use Rattle.measure_intake.proofs.OneMore.{more-accepted, more-refused}
+use Rattle.job.proofs.OneMore.{more-accepted, more-refused}
 
 -- an answer is a refusal if and only if the checks give it, and a quote if and only if they pass
 pub answer-refused : (c : Checked) (F : ℕ) (s : Cells) (r : Refusal) → (answerOf c F s ≡ Unmeasured r) ↔ (c ≡ Refused r)

@@ -15,7 +15,8 @@ use Rattle.job.specs.declared.Checked.{Checked}
 use Rattle.job.specs.declared.Checked.the-variants.{Accepted, Refused as Turned}
 use Rattle.job.specs.Job.{shotsOf, shotCount, placeOf, Valid}
 use Rattle.job.specs.Checking.{firstOf, tests, checked}
-use Rattle.job.proofs.Places.{apart, first-passed, first-stopped}
+use Rattle.job.proofs.Places.{first-stopped}
+use Rattle.job.proofs.OneMore.{too-short, more-accepted}
 use Rattle.job.proofs.Shots.{shots-count, shots-from, shots-end}
 use Rattle.job.proofs.Conditions.{accepted-valid}
 use Rattle.shotfile_records.specs.declared.Fields.{Fields}
@@ -104,25 +105,16 @@ module _ (F E G : ℕ) (coords : List ℕ) where
     unfolding writeTests
     tests-stopped h = sym (first-stopped (longFile F E G coords room ∷ []) (tests F E G coords) (sym h))
 
-    own-test : checked F E G coords ≡ Accepted → (b : Bool) → ltb room (length (fileOf F E G coords)) ≡ b
-        → firstOf (writeTests F E G coords room) ≡ cond b (Turned (ShortFile (length (fileOf F E G coords)))) Accepted
-    unfolding writeTests firstOf
-    own-test a b l = first-passed (longFile F E G coords room ∷ []) (tests F E G coords) a ∙ ap (λ (b : Bool). cond b (Turned (ShortFile (length (fileOf F E G coords)))) Accepted) l
-
     tests-short : Accepted ≡ checked F E G coords → {n : ℕ} → n ≡ length (fileOf F E G coords) → room < n → Turned (ShortFile n) ≡ firstOf (writeTests F E G coords room)
-    tests-short a e l = ap (λ (n : ℕ). Turned (ShortFile n)) e ∙ sym (own-test (sym a) true (lt-ltb room _ (omega arith)))
+    unfolding writeTests
+    tests-short a e l = ap (λ (n : ℕ). Turned (ShortFile n)) e ∙ sym (too-short (tests F E G coords) room (length (fileOf F E G coords)) (ShortFile (length (fileOf F E G coords))) (sym a) (omega arith))
 
     -- the list is accepted if and only if it is valid and the file fits
     pub tests-accepted : (firstOf (writeTests F E G coords room) ≡ Accepted) ↔ (Valid F E G coords × (length (fileOf F E G coords) ≤ room))
-    tests-accepted = (go (checked F E G coords) refl, λ h. own-test (accepted-valid F E G coords .1 (h .0)) false (le-ltb room (length (fileOf F E G coords)) (h .1)))
-      where
-        go : (k : Checked) → checked F E G coords ≡ k → firstOf (writeTests F E G coords room) ≡ Accepted → Valid F E G coords × (length (fileOf F E G coords) ≤ room)
-        go (Turned r) q e = apart (tests-stopped (sym q) ∙ e)
-        go Accepted q e = (accepted-valid F E G coords .0 q, fits (ltb room (length (fileOf F E G coords))) refl)
-          where
-            fits : (b : Bool) → ltb room (length (fileOf F E G coords)) ≡ b → length (fileOf F E G coords) ≤ room
-            fits true l = apart (sym (own-test q true l) ∙ e)
-            fits false l = ltb-false room (length (fileOf F E G coords)) l
+    unfolding writeTests
+    tests-accepted =
+        let m = more-accepted (tests F E G coords) room (length (fileOf F E G coords)) (ShortFile (length (fileOf F E G coords))) in
+        (λ e. (accepted-valid F E G coords .0 (m .0 e .0), m .0 e .1), λ h. m .1 (accepted-valid F E G coords .1 (h .0), h .1))
 
 -- by what the tests say
 module _ (F E G : ℕ) (coords before : List ℕ) where

@@ -7,8 +7,6 @@ use Rattle.sweep.proofs.Laws.{blank-on, blank-not}
 use borrow.Author.Needs.{needs}
 use Rattle.sweep.proofs.is_blank.Statement.{statement}
 use Rattle.sweep.proofs.is_blank.Tie as tie
-use Rattle.sweep.proofs.is_blank.Reads as reads
-use Rattle.sweep.proofs.is_blank.Lts as lts
 
 abbrev Inv-loop : tie.InvT-loop
 Inv-loop row from end x₀ x = (from ≤ x) × (x ≤ end) × ((k : ℕ) → from ≤ k → k < x → getD row k 0 ≡ 0)

@@ -9,12 +9,6 @@ use Rattle.sweep.proofs.Laws.{list-none, list-more}
 use borrow.Author.Needs.{needs}
 use Rattle.sweep.proofs.mark_list.Statement.{statement}
 use Rattle.sweep.proofs.mark_list.Tie as tie
-use Rattle.sweep.proofs.mark_list.Reads as reads
-use Rattle.sweep.proofs.mark_list.Lts as lts
-use Rattle.job.proofs.shot.count.Reads as count-reads
-use Rattle.job.proofs.shot.edge_of.Reads as edge-of-reads
-use Rattle.job.proofs.shot.x_of.Reads as x-of-reads
-use Rattle.sweep_marks.proofs.mark.Reads as mark-reads
 
 abbrev Inv-loop : tie.InvT-loop
 Inv-loop c edge row₀ n i₀ row i = (i ≤ n) × MarkedList edge c i row × (length row ≡ length row₀)

@@ -3,9 +3,6 @@ use Rattle.sweep.proofs.Laws.{plane-skip}
 use borrow.Author.Needs.{needs}
 use Rattle.sweep.proofs.plane_if.Statement.{statement}
 use Rattle.sweep.proofs.plane_if.Tie as tie
-use Rattle.sweep.proofs.plane_if.Reads as reads
-use Rattle.sweep.proofs.plane_if.Lts as lts
-use Rattle.sweep_plane.proofs.across.Reads as across-reads
 
 shared-slice-read-if1 : tie.Need-shared-slice-read-if1
 shared-slice-read-if1 c = search needs

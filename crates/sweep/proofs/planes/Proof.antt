@@ -11,9 +11,6 @@ use Rattle.sweep.proofs.Laws.{swept-none, swept-more}
 use borrow.Author.Needs.{needs}
 use Rattle.sweep.proofs.planes.Statement.{statement}
 use Rattle.sweep.proofs.planes.Tie as tie
-use Rattle.sweep.proofs.planes.Reads as reads
-use Rattle.sweep.proofs.planes.Lts as lts
-use Rattle.sweep.proofs.plane_if.Reads as plane-if-reads
 
 abbrev Inv-loop : tie.InvT-loop
 Inv-loop c edge field from end row run buf₀ near₀ faces₀ links₀ s₀ x₀ buf near faces links s x = (from ≤ x) × (x ≤ end) × Swept field from x (shotsOf edge c) (state s₀ buf₀) (state s buf) × (length buf ≡ length buf₀) × (length near ≡ 4096) × (length faces ≡ 4096) × (length links ≡ 4096)

@@ -5,11 +5,6 @@ use Rattle.sweep.proofs.Laws.{slab-skip, slab-run}
 use borrow.Author.Needs.{needs}
 use Rattle.sweep.proofs.slab.Statement.{statement}
 use Rattle.sweep.proofs.slab.Tie as tie
-use Rattle.sweep.proofs.slab.Reads as reads
-use Rattle.sweep.proofs.slab.Lts as lts
-use Rattle.grid_runs.proofs.slab.Reads as slab-reads
-use Rattle.sweep.proofs.is_blank.Reads as is-blank-reads
-use Rattle.sweep.proofs.planes.Reads as planes-reads
 
 is-blank-requires : tie.Need-is-blank-requires
 is-blank-requires c κs = (omega (arith, c .before .before .before .before .pre .1 .1 .0 .order), omega (arith, c .before .before .before .before .pre .1 .1 .0 .top, c .before .before .before .before .pre .0 .0 .field-most))

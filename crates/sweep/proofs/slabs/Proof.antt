@@ -13,10 +13,6 @@ use Rattle.sweep.proofs.Laws.{planes-none, high-in, next-low, in-slab, 
 use borrow.Author.Needs.{needs}
 use Rattle.sweep.proofs.slabs.Statement.{statement}
 use Rattle.sweep.proofs.slabs.Tie as tie
-use Rattle.sweep.proofs.slabs.Reads as reads
-use Rattle.sweep.proofs.slabs.Lts as lts
-use Rattle.lattice_sums.proofs.sums.CornerSums.new.Reads as new-reads
-use Rattle.sweep.proofs.slab.Reads as slab-reads
 
 abbrev Inv-loop : tie.InvT-loop
 Inv-loop field edge grid coords work row buf₀ width t₀ from₀ low₀ gx₀ buf t from low gx = (gx ≤ grid) × (low ≡ gx * (field / grid)) × (low ≤ from) × (from ≤ low + 1) × (0 < gx → from ≡ low + 1) × (state t buf ≡ found (state t₀ buf₀) (planesTo field from (shotsOf edge coords))) × Room t (from * planePoints 1024) × (length buf ≡ length buf₀)

@@ -3,10 +3,6 @@ use Rattle.sweep.proofs.Laws.{all-in}
 use borrow.Author.Needs.{needs}
 use Rattle.sweep.proofs.sweep.Statement.{statement}
 use Rattle.sweep.proofs.sweep.Tie as tie
-use Rattle.sweep.proofs.sweep.Reads as reads
-use Rattle.sweep.proofs.sweep.Lts as lts
-use Rattle.sweep.proofs.mark_list.Reads as mark-list-reads
-use Rattle.sweep.proofs.slabs.Reads as slabs-reads
 
 slice-aggregate-mark-list : tie.Need-slice-aggregate-mark-list
 slice-aggregate-mark-list c = search needs

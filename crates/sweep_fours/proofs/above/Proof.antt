@@ -8,9 +8,6 @@ use Rattle.sweep_fours.proofs.Laws.{overlaid-none, overlaid-more, bound
 use borrow.Author.Needs.{needs}
 use Rattle.sweep_fours.proofs.above.Statement.{statement}
 use Rattle.sweep_fours.proofs.above.Tie as tie
-use Rattle.sweep_fours.proofs.above.Reads as reads
-use Rattle.sweep_fours.proofs.above.Lts as lts
-use Rattle.sweep_fours.proofs.four_byte.Reads as four-byte-reads
 
 abbrev Inv-loop : tie.InvT-loop
 Inv-loop y lo end u0 u1 low four₀ z₀ four z = (lo ≤ z) × (z ≤ end) × Overlaid lo z (fourOf y low u0 u1) four₀ four × Bounded lo z 85 four × (length four ≡ length four₀)

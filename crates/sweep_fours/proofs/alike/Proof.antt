@@ -4,8 +4,6 @@ use lib.Dec.{T}
 use borrow.Author.Needs.{needs}
 use Rattle.sweep_fours.proofs.alike.Statement.{statement}
 use Rattle.sweep_fours.proofs.alike.Tie as tie
-use Rattle.sweep_fours.proofs.alike.Reads as reads
-use Rattle.sweep_fours.proofs.alike.Lts as lts
 
 returns : tie.Need-returns
 returns c = search needs

@@ -8,9 +8,6 @@ use Rattle.sweep_fours.proofs.Laws.{overlaid-none, overlaid-more}
 use borrow.Author.Needs.{needs}
 use Rattle.sweep_fours.proofs.below.Statement.{statement}
 use Rattle.sweep_fours.proofs.below.Tie as tie
-use Rattle.sweep_fours.proofs.below.Reads as reads
-use Rattle.sweep_fours.proofs.below.Lts as lts
-use Rattle.sweep_fours.proofs.low_byte.Reads as low-byte-reads
 
 abbrev Inv-loop : tie.InvT-loop
 Inv-loop y lo end u0 u1 low₀ z₀ low z = (lo ≤ z) × (z ≤ end) × Overlaid lo z (lowOf y u0 u1) low₀ low × (length low ≡ length low₀)

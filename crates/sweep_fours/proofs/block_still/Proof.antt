@@ -7,9 +7,6 @@ use Rattle.sweep_fours.proofs.Laws.{if-none, if-more}
 use borrow.Author.Needs.{needs}
 use Rattle.sweep_fours.proofs.block_still.Statement.{statement}
 use Rattle.sweep_fours.proofs.block_still.Tie as tie
-use Rattle.sweep_fours.proofs.block_still.Reads as reads
-use Rattle.sweep_fours.proofs.block_still.Lts as lts
-use Rattle.sweep_fours.proofs.alike.Reads as alike-reads
 
 abbrev Inv-loop : tie.InvT-loop
 Inv-loop four z end still₀ k₀ still k = (z ≤ k) × (k ≤ end) × StillIf still z k four

@@ -6,9 +6,6 @@ use Rattle.sweep_fours.proofs.Laws.{still-more}
 use borrow.Author.Needs.{needs}
 use Rattle.sweep_fours.proofs.next_change.Statement.{statement}
 use Rattle.sweep_fours.proofs.next_change.Tie as tie
-use Rattle.sweep_fours.proofs.next_change.Reads as reads
-use Rattle.sweep_fours.proofs.next_change.Lts as lts
-use Rattle.sweep_fours.proofs.skip.Reads as skip-reads
 
 abbrev Inv-loop : tie.InvT-loop
 Inv-loop four z hi k₀ k = (z ≤ k) × (k ≤ hi + 1) × Still z k four

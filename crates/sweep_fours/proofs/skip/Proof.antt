@@ -6,9 +6,6 @@ use Rattle.sweep_fours.proofs.Laws.{still-none, still-on}
 use borrow.Author.Needs.{needs}
 use Rattle.sweep_fours.proofs.skip.Statement.{statement}
 use Rattle.sweep_fours.proofs.skip.Tie as tie
-use Rattle.sweep_fours.proofs.skip.Reads as reads
-use Rattle.sweep_fours.proofs.skip.Lts as lts
-use Rattle.sweep_fours.proofs.block_still.Reads as block-still-reads
 
 abbrev Inv-loop : tie.InvT-loop
 Inv-loop four z hi k₀ k = (z ≤ k) × (k ≤ hi + 1) × Still z k four

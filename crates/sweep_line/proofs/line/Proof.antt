@@ -6,12 +6,6 @@ use Rattle.sweep_line.proofs.Laws.{line-empty, line-full, next-rows}
 use borrow.Author.Needs.{needs}
 use Rattle.sweep_line.proofs.line.Statement.{statement}
 use Rattle.sweep_line.proofs.line.Tie as tie
-use Rattle.sweep_line.proofs.line.Reads as reads
-use Rattle.sweep_line.proofs.line.Lts as lts
-use Rattle.sweep_chains.proofs.start.Reads as start-reads
-use Rattle.sweep_fours.proofs.above.Reads as above-reads
-use Rattle.sweep_fours.proofs.below.Reads as below-reads
-use Rattle.sweep_line.proofs.scan.Reads as scan-reads
 
 start-requires : tie.Need-start-requires
 start-requires c κs = search needs

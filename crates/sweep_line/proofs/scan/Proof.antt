@@ -13,11 +13,6 @@ use Rattle.lattice_sums.proofs.CornerSumLaws.{room-more}
 use borrow.Author.Needs.{needs}
 use Rattle.sweep_line.proofs.scan.Statement.{statement}
 use Rattle.sweep_line.proofs.scan.Tie as tie
-use Rattle.sweep_line.proofs.scan.Reads as reads
-use Rattle.sweep_line.proofs.scan.Lts as lts
-use Rattle.sweep_fours.proofs.next_change.Reads as next-change-reads
-use Rattle.sweep_line.proofs.between.Reads as between-reads
-use Rattle.sweep_tally.proofs.point.Reads as point-reads
 
 abbrev Inv-loop : tie.InvT-loop
 Inv-loop x y lo hi four buf₀ s₀ z₀ buf s z = (lo ≤ z) × (z ≤ hi + 1) × (z ≤ hi → getD four z 0 ≢ getD four (z + 1) 0) × (state s buf ≡ found (state s₀ buf₀) (join z (lineFrom lo x y four))) × Room s (s₀ .corners + z) × (length buf ≡ length buf₀)

@@ -5,8 +5,6 @@ use lib.ListN.{length-set}
 use borrow.Author.Needs.{needs}
 use Rattle.sweep_marks.proofs.mark.Statement.{statement}
 use Rattle.sweep_marks.proofs.mark.Tie as tie
-use Rattle.sweep_marks.proofs.mark.Reads as reads
-use Rattle.sweep_marks.proofs.mark.Lts as lts
 
 add-end : tie.Need-add-end
 add-end c = search needs

@@ -7,10 +7,6 @@ use Rattle.sweep_plane.proofs.Laws.{near-few, near-in, plane-near, kept
 use borrow.Author.Needs.{needs}
 use Rattle.sweep_plane.proofs.across.Statement.{statement}
 use Rattle.sweep_plane.proofs.across.Tie as tie
-use Rattle.sweep_plane.proofs.across.Reads as reads
-use Rattle.sweep_plane.proofs.across.Lts as lts
-use Rattle.sweep_plane.proofs.plane_if.Reads as plane-if-reads
-use Rattle.sweep_selection.proofs.select.Reads as select-reads
 
 select-requires : tie.Need-select-requires
 select-requires c κs = search needs

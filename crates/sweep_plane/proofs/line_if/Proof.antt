@@ -3,9 +3,6 @@ use Rattle.sweep_plane.proofs.Laws.{line-skip, rows-skip}
 use borrow.Author.Needs.{needs}
 use Rattle.sweep_plane.proofs.line_if.Statement.{statement}
 use Rattle.sweep_plane.proofs.line_if.Tie as tie
-use Rattle.sweep_plane.proofs.line_if.Reads as reads
-use Rattle.sweep_plane.proofs.line_if.Lts as lts
-use Rattle.sweep_line.proofs.line.Reads as line-reads
 
 returns : tie.Need-returns
 returns c = (line-skip _ _ _ _ _ _ _ (c .before .before .before .before .before .before .before .before .pre .0) (c .before .before .before .before .before .before .before .before .pre .1 .none (c .if1 .taken)) _, rows-skip _ _ _ _ _ _ _ (c .before .before .before .before .before .before .before .before .pre .0) (c .before .before .before .before .before .before .before .before .pre .1 .none (c .if1 .taken)))

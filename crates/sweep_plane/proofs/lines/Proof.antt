@@ -15,11 +15,6 @@ use Rattle.sweep_plane.proofs.Laws.{ends-start, lines-none, lines-more,
 use borrow.Author.Needs.{needs}
 use Rattle.sweep_plane.proofs.lines.Statement.{statement}
 use Rattle.sweep_plane.proofs.lines.Tie as tie
-use Rattle.sweep_plane.proofs.lines.Reads as reads
-use Rattle.sweep_plane.proofs.lines.Lts as lts
-use Rattle.sweep_plane.proofs.line_if.Reads as line-if-reads
-use Rattle.sweep_windows.proofs.highest.Reads as highest-reads
-use Rattle.sweep_windows.proofs.lowest.Reads as lowest-reads
 
 abbrev Inv-loop : tie.InvT-loop
 Inv-loop c edge field x run lows highs heads links row buf₀ u0₀ u1₀ s₀ end y₀ buf u0 u1 s y = (y ≤ end) × Ends x y (shotsIn edge c run) u0 × Ends (x + 1) y (shotsIn edge c run) u1 × (state s buf ≡ found (state s₀ buf₀) (linesTo y x (shotsIn edge c run))) × Room s (s₀ .corners + y * linePoints 1024) × (length buf ≡ length buf₀)

@@ -10,11 +10,6 @@ use Rattle.sweep_plane.proofs.Laws.{marked-start, marked-next}
 use borrow.Author.Needs.{needs}
 use Rattle.sweep_plane.proofs.mark_faces.Statement.{statement}
 use Rattle.sweep_plane.proofs.mark_faces.Tie as tie
-use Rattle.sweep_plane.proofs.mark_faces.Reads as reads
-use Rattle.sweep_plane.proofs.mark_faces.Lts as lts
-use Rattle.job.proofs.shot.edge_of.Reads as edge-of-reads
-use Rattle.job.proofs.shot.y_of.Reads as y-of-reads
-use Rattle.sweep_marks.proofs.mark.Reads as mark-reads
 
 abbrev Inv-loop : tie.InvT-loop
 Inv-loop c edge run row₀ q₀ row q = (q ≤ length run) × Marked y-axis (runTo edge c run q) row × (length row ≡ length row₀)

@@ -3,12 +3,6 @@ use Rattle.sweep_plane.proofs.Laws.{chain-lines, blank, windows-blank, 
 use borrow.Author.Needs.{needs}
 use Rattle.sweep_plane.proofs.plane.Statement.{statement}
 use Rattle.sweep_plane.proofs.plane.Tie as tie
-use Rattle.sweep_plane.proofs.plane.Reads as reads
-use Rattle.sweep_plane.proofs.plane.Lts as lts
-use Rattle.sweep_chains.proofs.link_all.Reads as link-all-reads
-use Rattle.sweep_plane.proofs.lines.Reads as lines-reads
-use Rattle.sweep_plane.proofs.mark_faces.Reads as mark-faces-reads
-use Rattle.sweep_windows.proofs.frame_all.Reads as frame-all-reads
 
 slice-aggregate-link-all : tie.Need-slice-aggregate-link-all
 slice-aggregate-link-all c = search needs

@@ -8,10 +8,6 @@ use Rattle.sweep_plane.proofs.Laws.{faces-are, plane-none}
 use borrow.Author.Needs.{needs}
 use Rattle.sweep_plane.proofs.plane_if.Statement.{statement}
 use Rattle.sweep_plane.proofs.plane_if.Tie as tie
-use Rattle.sweep_plane.proofs.plane_if.Reads as reads
-use Rattle.sweep_plane.proofs.plane_if.Lts as lts
-use Rattle.sweep_plane.proofs.plane.Reads as plane-reads
-use Rattle.sweep_selection.proofs.select.Reads as select-reads
 
 select-requires : tie.Need-select-requires
 select-requires c κs = search needs

@@ -2,8 +2,6 @@
 use Rattle.sweep_rows.proofs.Laws.{greater-left, greater-right}
 use Rattle.sweep_rows.proofs.greater.Statement.{statement}
 use Rattle.sweep_rows.proofs.greater.Tie as tie
-use Rattle.sweep_rows.proofs.greater.Reads as reads
-use Rattle.sweep_rows.proofs.greater.Lts as lts
 
 returns : tie.Need-returns
 returns c = greater-right _ _ (c .if1 .taken)

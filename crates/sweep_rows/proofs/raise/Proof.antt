@@ -7,9 +7,6 @@ use Rattle.sweep_rows.proofs.Laws.{raised-none, raised-more}
 use borrow.Author.Needs.{needs}
 use Rattle.sweep_rows.proofs.raise.Statement.{statement}
 use Rattle.sweep_rows.proofs.raise.Tie as tie
-use Rattle.sweep_rows.proofs.raise.Reads as reads
-use Rattle.sweep_rows.proofs.raise.Lts as lts
-use Rattle.sweep_rows.proofs.greater.Reads as greater-reads
 
 abbrev Inv-loop : tie.InvT-loop
 Inv-loop u₀ a b v k₀ u k = (a ≤ k) × (k ≤ b) × Raised u₀ a k v u

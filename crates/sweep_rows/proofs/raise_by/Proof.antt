@@ -4,13 +4,6 @@ use Rattle.sweep_rows.proofs.Laws.{raised-by-before, raised-by-after, r
 use borrow.Author.Needs.{needs}
 use Rattle.sweep_rows.proofs.raise_by.Statement.{statement}
 use Rattle.sweep_rows.proofs.raise_by.Tie as tie
-use Rattle.sweep_rows.proofs.raise_by.Reads as reads
-use Rattle.sweep_rows.proofs.raise_by.Lts as lts
-use Rattle.job.proofs.shot.edge_of.Reads as edge-of-reads
-use Rattle.job.proofs.shot.x_of.Reads as x-of-reads
-use Rattle.job.proofs.shot.y_of.Reads as y-of-reads
-use Rattle.job.proofs.shot.z_of.Reads as z-of-reads
-use Rattle.sweep_rows.proofs.raise.Reads as raise-reads
 
 edge-of-requires : tie.Need-edge-of-requires
 edge-of-requires c κs = search needs

@@ -3,8 +3,6 @@ use borrow.Author.Tests.{eq-eqb, ne-eqb}
 use borrow.Author.Needs.{needs}
 use Rattle.sweep_selection.proofs.has_face.Statement.{statement}
 use Rattle.sweep_selection.proofs.has_face.Tie as tie
-use Rattle.sweep_selection.proofs.has_face.Reads as reads
-use Rattle.sweep_selection.proofs.has_face.Lts as lts
 
 add-result : tie.Need-add-result
 add-result c = search needs

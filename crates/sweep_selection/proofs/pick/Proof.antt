@@ -3,11 +3,6 @@ use Rattle.sweep_selection.proofs.Laws.{picked, passed}
 use borrow.Author.Needs.{needs}
 use Rattle.sweep_selection.proofs.pick.Statement.{statement}
 use Rattle.sweep_selection.proofs.pick.Tie as tie
-use Rattle.sweep_selection.proofs.pick.Reads as reads
-use Rattle.sweep_selection.proofs.pick.Lts as lts
-use Rattle.job.proofs.shot.edge_of.Reads as edge-of-reads
-use Rattle.job.proofs.shot.x_of.Reads as x-of-reads
-use Rattle.sweep_selection.proofs.wanted.Reads as wanted-reads
 
 x-of-requires : tie.Need-x-of-requires
 x-of-requires c κs = search needs

@@ -7,9 +7,6 @@ use Rattle.sweep_selection.proofs.Laws.{Selecting, select-none, select-
 use borrow.Author.Needs.{needs}
 use Rattle.sweep_selection.proofs.select.Statement.{statement}
 use Rattle.sweep_selection.proofs.select.Tie as tie
-use Rattle.sweep_selection.proofs.select.Reads as reads
-use Rattle.sweep_selection.proofs.select.Lts as lts
-use Rattle.sweep_selection.proofs.pick.Reads as pick-reads
 
 abbrev Inv-loop : tie.InvT-loop
 Inv-loop c edge x face run to₀ n₀ q₀ to n q = (q ≤ length run) × Selecting face x edge c run to₀ q n to

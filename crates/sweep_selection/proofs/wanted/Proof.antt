@@ -3,9 +3,6 @@ use Rattle.sweep_selection.proofs.Laws.{wanted-face, wanted-below, want
 use borrow.Author.Needs.{needs}
 use Rattle.sweep_selection.proofs.wanted.Statement.{statement}
 use Rattle.sweep_selection.proofs.wanted.Tie as tie
-use Rattle.sweep_selection.proofs.wanted.Reads as reads
-use Rattle.sweep_selection.proofs.wanted.Lts as lts
-use Rattle.sweep_selection.proofs.has_face.Reads as has-face-reads
 
 has-face-requires : tie.Need-has-face-requires
 has-face-requires c κs = search needs

@@ -3,12 +3,6 @@ use Rattle.sweep_windows.proofs.Laws.{widened-low, widened-high}
 use borrow.Author.Needs.{needs}
 use Rattle.sweep_windows.proofs.frame.Statement.{statement}
 use Rattle.sweep_windows.proofs.frame.Tie as tie
-use Rattle.sweep_windows.proofs.frame.Reads as reads
-use Rattle.sweep_windows.proofs.frame.Lts as lts
-use Rattle.job.proofs.shot.edge_of.Reads as edge-of-reads
-use Rattle.job.proofs.shot.y_of.Reads as y-of-reads
-use Rattle.job.proofs.shot.z_of.Reads as z-of-reads
-use Rattle.sweep_rows.proofs.raise.Reads as raise-reads
 
 edge-of-requires : tie.Need-edge-of-requires
 edge-of-requires c κs = search needs

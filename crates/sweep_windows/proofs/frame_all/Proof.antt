@@ -9,9 +9,6 @@ use Rattle.sweep_windows.proofs.Laws.{widened-none, widened-more, windo
 use borrow.Author.Needs.{needs}
 use Rattle.sweep_windows.proofs.frame_all.Statement.{statement}
 use Rattle.sweep_windows.proofs.frame_all.Tie as tie
-use Rattle.sweep_windows.proofs.frame_all.Reads as reads
-use Rattle.sweep_windows.proofs.frame_all.Lts as lts
-use Rattle.sweep_windows.proofs.frame.Reads as frame-reads
 
 abbrev Inv-loop : tie.InvT-loop
 Inv-loop c edge run lows₀ highs₀ q₀ lows highs q = (q ≤ length run) × Widened fromTop (runTo edge c run q) lows₀ lows × Widened endOf (runTo edge c run q) highs₀ highs × Windows lows highs (runTo edge c run q)

@@ -3,8 +3,6 @@ use native.Mathlib.Omega.{arith}
 use borrow.Author.Needs.{needs}
 use Rattle.sweep_windows.proofs.highest.Statement.{statement}
 use Rattle.sweep_windows.proofs.highest.Tie as tie
-use Rattle.sweep_windows.proofs.highest.Reads as reads
-use Rattle.sweep_windows.proofs.highest.Lts as lts
 
 mul-result : tie.Need-mul-result
 mul-result c = search needs

@@ -1,5 +1,5 @@
--- One test more after a list of tests: how the checks pass, and when they refuse. Refusals 10 and 11 come so after those of a list: document 01,
--- 'When a job is refused'. Assumes nothing.
+-- One test more after a list of tests: how the checks pass, and when they refuse. Refusals 10, 11 and 12 come so after those of a list: document
+-- 01, 'When a job is refused'. Assumes nothing.
 use mathlib.Core.Path.{_≡_, refl, sym, ap, _∙_}
 use mathlib.Core.Bool.{Bool, true, false, cond}
 use mathlib.Core.List.{List, [], _∷_, _++_}
