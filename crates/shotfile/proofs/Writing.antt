@@ -1,19 +1,15 @@
 -- The records of a list's shots, one by one: how long they are and how they are written. Assumes nothing.
 use mathlib.Core.Path.{_≡_, refl, sym, ap, _∙_}
-use mathlib.Core.Bool.{Bool, true, false, cond}
 use mathlib.Core.List.{List, [], _∷_, _++_}
 use mathlib.Core.Logic.{_↔_}
 use Prim.Native.Nat.{ℕ, _+_, _*_, _≤_, _<_}
 use native.Mathlib.Omega.{arith}
-use lib.Dec.{ltb}
 use lib.ListN.{length, drop, length-append}
-use borrow.Author.Tests.{lt-ltb, le-ltb, ltb-false}
 use Rattle.lattice.specs.Shots.{Shot}
 use Rattle.job.specs.declared.Refusal.{Refusal}
 use Rattle.job.specs.declared.Refusal.the-variants.{ShortFile}
-use Rattle.job.specs.declared.Checked.{Checked}
 use Rattle.job.specs.declared.Checked.the-variants.{Accepted, Refused as Turned}
-use Rattle.job.specs.Job.{shotsOf, shotCount, placeOf, Valid}
+use Rattle.job.specs.Job.{shotsOf, shotCount, placeOf}
 use Rattle.job.specs.Checking.{firstOf, tests, checked}
 use Rattle.job.proofs.Places.{first-stopped}
 use Rattle.job.proofs.OneMore.{too-short, more-accepted}
@@ -22,6 +18,7 @@ use Rattle.job.proofs.Conditions.{accepted-valid}
 use Rattle.shotfile_records.specs.declared.Fields.{Fields}
 use Rattle.shotfile.specs.declared.writer.WriteAnswer.the-variants.{Written, Refused as Unwritten}
 use Rattle.shotfile.specs.Calls.{longFile, writeTests, writtenNumbers, writeAnswer, writeValues, writeBytes, WriteCall}
+use Rattle.shotfile.specs.Conditions.{WriteAccepts}
 use Rattle.shotfile_records.specs.Records.{headerAbsent, firstAbsent, recordOf}
 use Rattle.shotfile.specs.Files.{settingFields, shotFields, coordsAt, shotRecords, fileOf}
 use Rattle.buffer.specs.Wrote.{Wrote, inFront}
@@ -110,7 +107,7 @@ module _ (F E G : ℕ) (coords : List ℕ) where
     tests-short a e l = ap (λ (n : ℕ). Turned (ShortFile n)) e ∙ sym (too-short (tests F E G coords) room (length (fileOf F E G coords)) (ShortFile (length (fileOf F E G coords))) (sym a) (omega arith))
 
     -- the list is accepted if and only if it is valid and the file fits
-    pub tests-accepted : (firstOf (writeTests F E G coords room) ≡ Accepted) ↔ (Valid F E G coords × (length (fileOf F E G coords) ≤ room))
+    pub tests-accepted : (firstOf (writeTests F E G coords room) ≡ Accepted) ↔ WriteAccepts F E G coords room
     unfolding writeTests
     tests-accepted =
         let m = more-accepted (tests F E G coords) room (length (fileOf F E G coords)) (ShortFile (length (fileOf F E G coords))) in

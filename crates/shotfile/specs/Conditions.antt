@@ -1,11 +1,15 @@
 -- When `read` and `write` refuse, in words of numbers: document 01, 'When a job is refused', 2 to 5 and 12.
+use mathlib.Core.Path.{_≡_}
 use mathlib.Core.List.{List}
+use mathlib.Core.Logic.{_⊎_}
 use Prim.Native.Nat.{ℕ, suc, _≤_, _<_}
 use lib.ListN.{length, getD}
 use Rattle.job.specs.declared.Refusal.{Refusal}
 use Rattle.job.specs.declared.Refusal.the-variants.{TooManyShots, NoPlace, UnknownBit, CutShort, ShortFile}
 use Rattle.job.specs.Refusals.{numberOf}
-use Rattle.job.specs.Conditions.{Condition}
+use Rattle.job.specs.Job.{Valid}
+use Rattle.job.specs.Checking.{tests}
+use Rattle.job.specs.Conditions.{Condition, First}
 use Rattle.shotfile_records.specs.declared.Fields.{Fields}
 use Rattle.shotfile_records.specs.Records.{headerAbsent, firstAbsent, endAt, fieldsAt}
 use Rattle.shotfile.specs.Files.{fileOf}
@@ -20,7 +24,10 @@ endOf s at = endAt (getD s at 0) at
 pub data IsRecord (s : List ℕ) : ℕ → ℕ → Fields → Type 0 where
   header : IsRecord s 0 0 headerAbsent
   first-shot : endOf s 0 < length s → IsRecord s 1 (endOf s 0) firstAbsent
-  next-shot : {n at : ℕ} {absent : Fields} → IsRecord s (suc n) at absent → endOf s at < length s → IsRecord s (suc (suc n)) (endOf s at) (fieldsAt s (getD s at 0) at absent)
+  next-shot : {n at : ℕ} {absent : Fields}
+      → IsRecord s (suc n) at absent
+      → endOf s at < length s
+      → IsRecord s (suc (suc n)) (endOf s at) (fieldsAt s (getD s at 0) at absent)
 
 -- the condition of each refusal at record n with its map at a place, where the coordinate slice has places for so many shots. The header
 -- meets neither 2 nor 3. A file that has no header map ends before the end of record 0
@@ -45,7 +52,12 @@ abbrev pub Faultless : ℕ → List ℕ → Type 0
 Faultless places s = (n at : ℕ) (absent : Fields) → IsRecord s n at absent → (q : Refusal) → ¬ Fault places s n at q
 
 -- ---- writing
--- the condition of each refusal where the byte buffer has so many places: those of the list, and that it is shorter than the file
-pub data WriteCondition (F E G : ℕ) (coords : List ℕ) (room : ℕ) : Refusal → Type 0 where
-  of-list : {r : Refusal} → Condition F E G coords r → WriteCondition F E G coords room r
-  short-file : room < length (fileOf F E G coords) → WriteCondition F E G coords room (ShortFile (length (fileOf F E G coords)))
+-- a list is written if it is valid and its file fits
+abbrev pub WriteAccepts : ℕ → ℕ → ℕ → List ℕ → ℕ → Type 0
+WriteAccepts F E G coords room = Valid F E G coords × (length (fileOf F E G coords) ≤ room)
+
+-- by the first of 1, 2, 6, 7, 8, 9 whose condition holds; by 12 if none does and the byte buffer is shorter than the file
+abbrev pub WriteRefuses : ℕ → ℕ → ℕ → List ℕ → ℕ → Refusal → Type 0
+WriteRefuses F E G coords room r =
+    First (Condition F E G coords) (tests F E G coords) r
+    ⊎ (Valid F E G coords × (room < length (fileOf F E G coords)) × (ShortFile (length (fileOf F E G coords)) ≡ r))

@@ -1,10 +1,12 @@
 -- The text of a shot file: a line for each setting of its header and for each shot, and a line of a refusal where there is one.
 -- Document 01, 'Shot file' and 'When a job is refused'. The lines are those of `shotfile_lines`.
+use mathlib.Core.Path.{_≡_}
 use mathlib.Core.Bool.{cond}
 use mathlib.Core.List.{List, [], _++_}
 use Prim.Native.Nat.{ℕ, zero, suc, _+_}
 use lib.Dec.{ltb}
 use lib.ListN.{length, getD}
+use Rattle.buffer.specs.Wrote.{Wrote}
 use Rattle.job.specs.Job.{shotCount}
 use Rattle.job.specs.Checking.{checked}
 use Rattle.job.specs.declared.Checked.{Checked}
@@ -49,6 +51,15 @@ recordsText places s (Refused r) = refusedLine r
 unfoldable pub plainText : ℕ → List ℕ → List ℕ
 plainText places s = recordsText places s (recordAt s 0 headerAbsent)
 
+-- why the list of the file is refused, if it is
+abbrev pub fileVerdict : List ℕ → List ℕ → List ℕ
+fileVerdict s coords = verdict (fileIn (shotCount coords) s)
+
 -- the coordinate slice then: what reading the file leaves in it
 abbrev pub coordsAfter : List ℕ → List ℕ → List ℕ
 coordsAfter s coords = readCoords (fileIn (shotCount coords) s) coords
+
+-- what `put_text` promises: the text at the front of the slice `out`, up to place r, and the coordinates
+pub record TextCall (s coords out : List ℕ) (r : ℕ) (coords' out' : List ℕ) : Type 0 where
+  pub text : Wrote out out' 0 r (plainText (shotCount coords) s)
+  pub coordinates : coords' ≡ coordsAfter s coords

@@ -14,10 +14,8 @@ ghost use mathlib.Core.Path.{_≡_};
 ghost use Prim.Native.Nat.{_+_, _≤_};
 ghost use lib.ListN.{length};
 ghost use Rattle.buffer.specs.Wrote.{Wrote};
-ghost use Rattle.job.specs.Job.{shotCount};
 ghost use Rattle.job.specs.Checking.{checked};
-ghost use Rattle.shotfile.specs.Files.{fileIn};
-ghost use Rattle.shotfile_text.specs.Text.{shotLines, listVerdict, verdict, plainText, coordsAfter};
+ghost use Rattle.shotfile_text.specs.Text.{shotLines, listVerdict, fileVerdict, coordsAfter, TextCall};
 
 // Puts the lines of the shots from a cursor on, and the line of the first faulty record.
 fn put_shots(bytes: &[u8], out: &mut [u8], at: usize, start: Cursor) -> usize
@@ -73,7 +71,7 @@ fn put_list_verdict(
 // Reads the list of a whole file, and puts the line of the refusal that it gets, or nothing.
 fn put_verdict(bytes: &[u8], coords: &mut [u16], out: &mut [u8], at: usize) -> usize
     requires { ⌜ at + 128 ≤ length (now out) ⌝ }
-    ensures { λ r. ⌜ Wrote (now (out .entry)) (now (out .exit)) at r (verdict (fileIn (shotCount (now (coords .entry))) (now (bytes .entry)))) ⌝ }
+    ensures { λ r. ⌜ Wrote (now (out .entry)) (now (out .exit)) at r (fileVerdict (now (bytes .entry)) (now (coords .entry))) ⌝ }
     ensures coordinates { λ _. ⌜ now (coords .exit) ≡ coordsAfter (now (bytes .entry)) (now (coords .entry)) ⌝ }
 {
     let read = shotfile::read(bytes, coords);
@@ -88,11 +86,10 @@ fn put_verdict(bytes: &[u8], coords: &mut [u16], out: &mut [u8], at: usize) -> u
     }
 }
 
-// Puts the text of a file at the front, and gives its length. The list of a file that reads well is in the coordinate slice then.
-pub fn put_text(bytes: &[u8], coords: &mut [u16], out: &mut [u8]) -> usize
+// Puts the text of a file at the front: its settings, its shots and the verdict on its list, or the refusal of its header.
+fn put_file(bytes: &[u8], coords: &mut [u16], out: &mut [u8]) -> usize
     requires { ⌜ 524288 ≤ length (now out) ⌝ }
-    ensures { λ r. ⌜ Wrote (now (out .entry)) (now (out .exit)) 0 r (plainText (shotCount (now (coords .entry))) (now (bytes .entry))) ⌝ }
-    ensures coordinates { λ _. ⌜ now (coords .exit) ≡ coordsAfter (now (bytes .entry)) (now (coords .entry)) ⌝ }
+    ensures { λ r. ⌜ TextCall (now (bytes .entry)) (now (coords .entry)) (now (out .entry)) r (now (coords .exit)) (now (out .exit)) ⌝ }
 {
     let absent = shotfile_records::header_absent();
     match shotfile_records::take_record(bytes, 0, absent) {
@@ -108,4 +105,12 @@ pub fn put_text(bytes: &[u8], coords: &mut [u16], out: &mut [u8]) -> usize
         }
         Taken::Refused(refusal) => put_refused(out, 0, refusal),
     }
+}
+
+// Puts the text of a file at the front, and gives its length. The list of a file that reads well is in the coordinate slice then.
+pub fn put_text(bytes: &[u8], coords: &mut [u16], out: &mut [u8]) -> usize
+    requires { ⌜ 524288 ≤ length (now out) ⌝ }
+    ensures { λ r. ⌜ TextCall (now (bytes .entry)) (now (coords .entry)) (now (out .entry)) r (now (coords .exit)) (now (out .exit)) ⌝ }
+{
+    put_file(bytes, coords, out)
 }

@@ -10,10 +10,10 @@ put-text-requires : tie.Need-put-text-requires
 put-text-requires c κs = search needs
 
 slice-reshare-prefix-write-all : tie.Need-slice-reshare-prefix-write-all
-slice-reshare-prefix-write-all c = let q = c .before .before .before .before .put-text in omega (arith, q .ensures .0 .room, q .kept .1 .1 .0)
+slice-reshare-prefix-write-all c = let q = c .before .before .before .before .put-text in omega (arith, q .ensures .text .room, q .kept .1 .1 .0)
 
 slice-aggregate-write-all : tie.Need-slice-aggregate-write-all
-slice-aggregate-write-all c = let q = c .before .before .before .before .before .put-text in sym (length-take-le (q .result) (q .last .1 .1 .0) (omega (arith, q .ensures .0 .room, q .kept .1 .1 .0)))
+slice-aggregate-write-all c = let q = c .before .before .before .before .before .put-text in sym (length-take-le (q .result) (q .last .1 .1 .0) (omega (arith, q .ensures .text .room, q .kept .1 .1 .0)))
 
 write-all-requires : tie.Need-write-all-requires
 write-all-requires c κs = search needs

@@ -5,8 +5,8 @@ use Rattle.buffer.proofs.WroteLaws.{wrote-then, wrote-as}
 use Rattle.job.specs.Job.{shotCount}
 use Rattle.shotfile_text.proofs.TextLaws.{text-whole, text-refused, headless-coords, has-map}
 use borrow.Author.Needs.{needs}
-use Rattle.shotfile_text.proofs.put_text.Statement.{statement}
-use Rattle.shotfile_text.proofs.put_text.Tie as tie
+use Rattle.shotfile_text.proofs.put_file.Statement.{statement}
+use Rattle.shotfile_text.proofs.put_file.Tie as tie
 
 header-absent-requires : tie.Need-header-absent-requires
 header-absent-requires c κs = search needs
@@ -45,16 +45,16 @@ same-length-2 : tie.Need-same-length-2
 same-length-2 c = search needs
 
 returns : tie.Need-returns
-returns c = (wrote-as (text-whole (shotCount (c .before .before .before .before .before .before .before .before .before .before .before .before .before .before .before .before .before .before .before .before .before .before .before .before .before .args .coords .now)) (c .before .before .before .before .before .before .before .before .before .before .before .before .before .before .before .before .before .before .before .before .before .before .before .before .before .args .bytes .now) (c .before .before .before .before .before .before .before .before .before .before .before .before .before .before .before .before .before .before .before .before .before .header-absent .ensures) (sym (c .before .before .before .before .before .before .before .before .before .before .before .before .before .before .before .before .before .before .fields .given .1) ∙ (c .before .before .before .before .before .before .before .before .before .before .before .before .before .before .before .before .before .before .before .before .take-record .ensures)) (c .before .before .before .before .before .before .before .before .before .before .before .first-absent .ensures)) (wrote-then (c .before .before .before .before .before .before .before .before .before .before .before .before .before .before .put-settings .ensures .0) (wrote-then (c .before .before .before .before .before .before .before .before .before .put-shots .ensures .0) (c .before .before .before .before .put-verdict .ensures .0))), (c .before .before .before .before .put-verdict .ensures .1))
+returns c = record { text = wrote-as (text-whole (shotCount (c .before .before .before .before .before .before .before .before .before .before .before .before .before .before .before .before .before .before .before .before .before .before .before .before .before .args .coords .now)) (c .before .before .before .before .before .before .before .before .before .before .before .before .before .before .before .before .before .before .before .before .before .before .before .before .before .args .bytes .now) (c .before .before .before .before .before .before .before .before .before .before .before .before .before .before .before .before .before .before .before .before .before .header-absent .ensures) (sym (c .before .before .before .before .before .before .before .before .before .before .before .before .before .before .before .before .before .before .fields .given .1) ∙ (c .before .before .before .before .before .before .before .before .before .before .before .before .before .before .before .before .before .before .before .before .take-record .ensures)) (c .before .before .before .before .before .before .before .before .before .before .before .first-absent .ensures)) (wrote-then (c .before .before .before .before .before .before .before .before .before .before .before .before .before .before .put-settings .ensures .0) (wrote-then (c .before .before .before .before .before .before .before .before .before .put-shots .ensures .0) (c .before .before .before .before .put-verdict .ensures .0))); coordinates = (c .before .before .before .before .put-verdict .ensures .1) }
 
 same-length-3 : tie.Need-same-length-3
 same-length-3 c = search needs
 
 returns-2 : tie.Need-returns-2
-returns-2 c = (wrote-as (text-refused (shotCount (c .before .before .before .before .before .before .before .before .before .before .before .before .args .coords .now)) (c .before .before .before .before .before .before .before .before .before .before .before .before .args .bytes .now) (c .before .before .before .before .before .before .before .before .header-absent .ensures) (sym (c .before .before .before .before .before .refusal .given .1) ∙ (c .before .before .before .before .before .before .before .take-record .ensures))) (c .before .before .put-refused .ensures), headless-coords (shotCount (c .before .before .before .before .before .before .before .before .before .before .before .before .args .coords .now)) (c .before .before .before .before .before .before .before .before .before .before .before .before .args .bytes .now) (c .before .before .before .before .before .before .before .before .header-absent .ensures) (sym (c .before .before .before .before .before .refusal .given .1) ∙ (c .before .before .before .before .before .before .before .take-record .ensures)) (c .before .before .before .before .before .before .before .before .before .before .before .before .args .coords .now))
+returns-2 c = record { text = wrote-as (text-refused (shotCount (c .before .before .before .before .before .before .before .before .before .before .before .before .args .coords .now)) (c .before .before .before .before .before .before .before .before .before .before .before .before .args .bytes .now) (c .before .before .before .before .before .before .before .before .header-absent .ensures) (sym (c .before .before .before .before .before .refusal .given .1) ∙ (c .before .before .before .before .before .before .before .take-record .ensures))) (c .before .before .put-refused .ensures); coordinates = headless-coords (shotCount (c .before .before .before .before .before .before .before .before .before .before .before .before .args .coords .now)) (c .before .before .before .before .before .before .before .before .before .before .before .before .args .bytes .now) (c .before .before .before .before .before .before .before .before .header-absent .ensures) (sym (c .before .before .before .before .before .refusal .given .1) ∙ (c .before .before .before .before .before .before .before .take-record .ensures)) (c .before .before .before .before .before .before .before .before .before .before .before .before .args .coords .now) }
 
-pub put-text-spec : {M : Type 1} → statement M
-put-text-spec =
+pub put-file-spec : {M : Type 1} → statement M
+put-file-spec =
     tie.close
     (tie.spec
     header-absent-requires
