@@ -91,7 +91,7 @@ fn show_bit(map: u8) {
     show_read(&shot, &mut coords);
 }
 
-// The file of document 01, with places enough, one too few, and none.
+// The example file of docs/SCOPE.md, with places enough, one too few, and none.
 fn example() {
     let file = [7u8, 8, 0, 2, 0, 2, 0, 0, 7, 1, 0, 1, 0, 1, 0];
     let mut seven = [9u16; 7];
@@ -133,7 +133,7 @@ fn most_shots() {
     end_line();
 }
 
-// The list of document 01, with one place to spare, exactly enough, and one too few; and defaults that are left out.
+// The example list of docs/SCOPE.md, with one place to spare, exactly enough, and one too few; and defaults that are left out.
 fn written() {
     let coords = [0u16, 0, 0, 1, 1, 1];
     let mut sixteen = [9u8; 16];

@@ -1,4 +1,4 @@
--- Needs that document 01 names: field 8, edge 2, grid 2.
+-- Needs that docs/SCOPE.md names: field 8, edge 2, grid 2.
 use mathlib.Core.Path.{_≡_, refl}
 use mathlib.Core.List.{[], _∷_}
 use Rattle.lattice.specs.Sums.{total}

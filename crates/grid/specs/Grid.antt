@@ -1,4 +1,4 @@
--- The uniform grid index as a function of a list: document 01, 'The grid index'.
+-- The uniform grid index as a function of a list: docs/SCOPE.md, 'The grid index'.
 -- An axis of side F is cut into G intervals of width F / G; the grid cell (gx, gy, gz) has the number (gx * G + gy) * G + gz.
 use mathlib.Core.Path.{_≡_}
 use mathlib.Core.Bool.{Bool, _&&_}

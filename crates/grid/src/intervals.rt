@@ -1,4 +1,4 @@
-// Intervals of an axis: whether a shot meets one, and how many it meets. Document 01, 'The grid index'.
+// Intervals of an axis: whether a shot meets one, and how many it meets. docs/SCOPE.md, 'The grid index'.
 ghost use mathlib.Core.Path.{_≡_};
 ghost use Prim.Native.Nat.{_+_, _-_, _*_, _/_, _≤_, _<_};
 ghost use Rattle.job.specs.Job.{shotCount};

@@ -1,4 +1,4 @@
-// How many entries the index of a list needs, before anything is stored. Document 01, 'The grid index'.
+// How many entries the index of a list needs, before anything is stored. docs/SCOPE.md, 'The grid index'.
 ghost use mathlib.Core.Path.{_≡_};
 ghost use Prim.Native.Nat.{_*_, _≤_, _<_};
 ghost use Rattle.job.specs.Job.{shotCount, Valid};

@@ -1,4 +1,4 @@
-// The cover test: whether a run of shots covers a unit cell. Document 01, 'The grid index'. A run is any slice of numbers.
+// The cover test: whether a run of shots covers a unit cell. docs/SCOPE.md, 'The grid index'. A run is any slice of numbers.
 // specs/Cover.antt says what it answers; proofs/CoverRuns.antt that the run of a grid cell covers what the list covers.
 // Stands on `grid`, whose runs it is asked about, and on `job` and `lattice`.
 ghost use mathlib.Core.Path.{_≡_};

@@ -1,4 +1,4 @@
-// Putting the uniform grid index of a list into a lent work slice. Document 01, 'The grid index'.
+// Putting the uniform grid index of a list into a lent work slice. docs/SCOPE.md, 'The grid index'.
 //
 // `build` leaves the index as a function of the list (specs/Grid.antt of `grid`), and past it what was there. The shots are narrowed to a
 // slab, a row and a cell, and each run goes behind the one before it; nothing of the work slice serves as scratch. specs/Filling.antt says

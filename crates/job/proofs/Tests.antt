@@ -45,9 +45,6 @@ within least most a h = (ltb-false a least (or-false _ _ h .0), ltb-false most a
 pub out : (least most a : ℕ) → outside least most a ≡ true → (a < least) ⊎ (most < a)
 out least most a h = ⊎-elim (λ l. inl (ltb-true a least l)) (λ l. inr (ltb-true most a l)) (or-true (ltb a least) (ltb most a) h)
 
-pub not-out : (least most a : ℕ) → outside least most a ≡ false → ¬ ((a < least) ⊎ (most < a))
-not-out least most a h = ⊎-elim (λ l. omega (arith, within least most a h)) (λ l. omega (arith, within least most a h))
-
 pub is-out : (least most a : ℕ) → (a < least) ⊎ (most < a) → outside least most a ≡ true
 is-out least most a (inl l) = rw (lt-ltb a least l)
 is-out least most a (inr l) = go (ltb a least)
@@ -55,13 +52,6 @@ is-out least most a (inr l) = go (ltb a least)
     go : (b : Bool) → b || ltb most a ≡ true
     go true = refl
     go false = lt-ltb most a l
-
-pub is-in : (least most a : ℕ) → ¬ ((a < least) ⊎ (most < a)) → outside least most a ≡ false
-is-in least most a h = go (outside least most a) refl
-  where
-    go : (b : Bool) → outside least most a ≡ b → outside least most a ≡ false
-    go true e = absurd (h (out least most a e))
-    go false e = e
 
 -- what is not refused by a test of equality
 pub settled : (a b : ℕ) → ¬ (¬ (a ≡ b)) → a ≡ b

@@ -1,4 +1,4 @@
--- The checks that every call on a list shares, in their order: refusals 1, 2, 6, 7, 8, 9 of document 01, 'When a job is refused'.
+-- The checks that every call on a list shares, in their order: refusals 1, 2, 6, 7, 8, 9 of docs/SCOPE.md, 'When a job is refused'.
 -- What is earlier is a matter of place in a call's list of tests, not of number.
 use mathlib.Core.Bool.{Bool, not, cond, _||_}
 use mathlib.Core.Path.{_≡_}
@@ -63,7 +63,7 @@ abbrev pub checked : ℕ → ℕ → ℕ → List ℕ → Checked
 checked F E G coords = firstOf (tests F E G coords)
 
 -- ---- what is answered
--- the paper's number and detail of the first test that holds; 0 and 0 where none does
+-- the number and detail of the first test that holds; 0 and 0 where none does
 unfoldable pub firstNumbers : List Test → Numbers
 firstNumbers [] = record { number = 0; detail = 0 }
 firstNumbers (t ∷ ts) = cond (t .holds) (record { number = numberOf (t .gives); detail = detailOf (t .gives) }) (firstNumbers ts)

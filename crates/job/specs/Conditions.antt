@@ -1,4 +1,4 @@
--- When the tests of a list refuse it, in words of numbers: document 01, 'When a job is refused', 1, 2 and 6 to 9.
+-- When the tests of a list refuse it, in words of numbers: docs/SCOPE.md, 'When a job is refused', 1, 2 and 6 to 9.
 use mathlib.Core.Path.{_≡_}
 use mathlib.Core.Bool.{true}
 use mathlib.Core.List.{List, [], _∷_, _++_}

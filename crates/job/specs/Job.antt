@@ -1,4 +1,4 @@
--- A list: a field side F, a shot edge E, a grid size G and coordinates, three numbers a shot. Document 01, 'The job'.
+-- A list: a field side F, a shot edge E, a grid size G and coordinates, three numbers a shot. docs/SCOPE.md, 'The job'.
 use mathlib.Core.Path.{_≡_}
 use mathlib.Core.List.{List, [], _∷_}
 use Prim.Native.Nat.{ℕ, _+_, _*_, _/_, _%_, _≤_}

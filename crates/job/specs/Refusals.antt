@@ -1,4 +1,4 @@
--- The refusals by the paper's numbers, each with its detail: document 01, 'When a job is refused'.
+-- The refusals by their numbers, each with its detail: docs/SCOPE.md, 'When a job is refused'.
 use Prim.Native.Nat.{ℕ}
 use Rattle.job.specs.declared.Place.{Place}
 use Rattle.job.specs.declared.Place.the-variants.{Byte, Shot, Nowhere}

@@ -1,4 +1,4 @@
-// A list with its settings: the refusals, and the checks that every call on a list shares. Document 01, 'The job' and 'When a job is refused'.
+// A list with its settings: the refusals, and the checks that every call on a list shares. docs/SCOPE.md, 'The job' and 'When a job is refused'.
 // `specs/Job.antt` says what a valid list is, `specs/Refusals.antt` numbers the refusals, `specs/Checking.antt` is what `check` answers.
 // Stands on `lattice`, whose shots and cells the definitions use.
 ghost use mathlib.Core.Path.{_≡_};
@@ -14,7 +14,7 @@ use shot::x_of;
 use shot::y_of;
 use shot::z_of;
 
-// Why a call is refused, in the order of the paper's numbers, with the detail where there is one.
+// Why a call is refused, in the order of their numbers, with the detail where there is one.
 pub enum Refusal {
     // The coordinates' count is not a multiple of three.
     BrokenShot,
@@ -58,7 +58,7 @@ pub enum Place {
     Nowhere,
 }
 
-// The paper's number of a refusal.
+// The number of a refusal.
 pub fn number(refusal: Refusal) -> u8
     ensures { λ r. ⌜ r ≡ numberOf refusal ⌝ }
 {
@@ -78,7 +78,7 @@ pub fn number(refusal: Refusal) -> u8
     }
 }
 
-// The paper's detail of a refusal: 0 where it has none.
+// The detail of a refusal: 0 where it has none.
 pub fn detail(refusal: Refusal) -> usize
     ensures { λ r. ⌜ r ≡ detailOf refusal ⌝ }
 {

@@ -1,4 +1,4 @@
--- What the corner points of a solid tell: document 01, 'Corner points', for every set of cells within a field.
+-- What the corner points of a solid tell: docs/SCOPE.md, 'Corner points', for every set of cells within a field.
 -- Each statement cites the law that proves it; the lists of a job come in above, in the crates that cover cells by shots.
 use mathlib.Core.Path.{_≡_, _∙_, ap}
 use mathlib.Core.Logic.{_↔_}

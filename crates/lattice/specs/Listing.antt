@@ -1,4 +1,4 @@
--- The corner points of a field, their listing, and the sums over them: document 01, 'Corner points'.
+-- The corner points of a field, their listing, and the sums over them: docs/SCOPE.md, 'Corner points'.
 use mathlib.Core.Path.{_≡_}
 use mathlib.Core.Logic.{_⊎_}
 use mathlib.Core.Bool.{true, cond}

@@ -1,4 +1,4 @@
--- The eight cells about a lattice point and what they weigh: document 01, 'Corner points'.
+-- The eight cells about a lattice point and what they weigh: docs/SCOPE.md, 'Corner points'.
 -- A Bool says below (false) or above (true) the point; a pattern takes one for each axis.
 use mathlib.Core.Bool.{Bool, true, false, not, _||_}
 use mathlib.Core.List.{List, [], _∷_}

@@ -53,6 +53,6 @@ all-right : T (tests knownJobs)
 unfolding tests knownJobs test figure-test any volume areaBy lengthBy cornerCount total corner someNonzero w ax ay az ex ey ez
 all-right = tt
 
--- the jobs of the table that document 01 marks to be proved have the totals that it states
+-- the jobs marked P in the table of docs/SCOPE.md have the totals that it states
 pub known-totals : AllKnown knownJobs
 known-totals = tests-known knownJobs all-right

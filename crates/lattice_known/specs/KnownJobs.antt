@@ -1,4 +1,4 @@
--- The eight jobs that document 01 marks P in its table 'Jobs with known totals'.
+-- The eight jobs marked P in docs/SCOPE.md, 'Jobs with known totals'.
 use mathlib.Core.List.{List, [], _∷_}
 use Prim.Native.Nat.{ℕ}
 use Rattle.lattice.specs.Figures.{Figure, Volume, Area, EdgeLength}

@@ -1,4 +1,4 @@
--- The corner sums as they are taken, point after point, and the totals that they come to: document 01, 'Corner points'.
+-- The corner sums as they are taken, point after point, and the totals that they come to: docs/SCOPE.md, 'Corner points'.
 use mathlib.Core.Path.{_≡_}
 use mathlib.Core.List.{List}
 use Prim.Native.Nat.{ℕ, _+_, _-_, _*_, _≤_}

@@ -1,4 +1,4 @@
-// The corner sums, taken point after point in signed 64-bit numbers: document 01, 'Corner points'.
+// The corner sums, taken point after point in signed 64-bit numbers: docs/SCOPE.md, 'Corner points'.
 // Single terms may be negative; the sums over all corners of a solid are its totals, which are not.
 ghost use mathlib.Core.Path.{_≡_};
 ghost use Prim.Native.Nat.{_+_, _*_, _<_, _≤_};

@@ -1,4 +1,4 @@
-// The seven weights of a pattern, as constant tables of 256 signed entries: document 01, 'Corner points'.
+// The seven weights of a pattern, as constant tables of 256 signed entries: docs/SCOPE.md, 'Corner points'.
 // Each table's rule is tested once over the whole table, and read at an entry by one law.
 ghost use mathlib.Core.Path.{_≡_};
 ghost use Rattle.lattice.specs.Pattern.{ofByte, w, ax, ay, az, ex, ey, ez};

@@ -1,5 +1,5 @@
 // The listing program: reads a shot file from standard input and writes the corner listing of its list, 7 bytes a corner, to standard output. A
-// refusal gives one line on standard error and no listing. Document 01, 'Corner points'. What it writes is `quoting::list_file`; here are the system
+// refusal gives one line on standard error and no listing. docs/SCOPE.md, 'Corner points'. What it writes is `quoting::list_file`; here are the system
 // calls, the sizes and the sentence.
 use input::Filled;
 use job::Refusal;
@@ -11,7 +11,7 @@ fn say(words: &[u8]) {
     io::write_all(STDERR_FILENO, words);
 }
 
-// The paper's number and detail of a refusal, and its sentence.
+// The number and the detail of a refusal, and its sentence.
 fn tell_refusal(refusal: Refusal) {
     say(b"refused ");
     io::print_decimal(STDERR_FILENO, job::number(refusal) as u64);

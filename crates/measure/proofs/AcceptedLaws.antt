@@ -13,7 +13,7 @@ use Rattle.job.specs.declared.Refusal.the-variants.{ShortListing}
 use Rattle.job.specs.declared.Checked.{Checked}
 use Rattle.job.specs.declared.Checked.the-variants.{Accepted as Passed}
 use Rattle.grid.specs.Grid.{indexOf, need, Holds}
-use Rattle.measure_intake.specs.Intake.{solid, measureTests, measureChecked, answerOf, measureAnswer, measuredNumbers, numbersAfter, measureNumbers, sliceAfter, workAfter, MeasureCall}
+use Rattle.measure_intake.specs.Intake.{solid, measureTests, measureChecked, measureAnswer, measuredNumbers, numbersAfter, measureNumbers, sliceAfter, workAfter, MeasureCall}
 use Rattle.measure_intake.specs.declared.Measured.the-variants.{Quote}
 use Rattle.job.proofs.OneMore.{more-accepted}
 use Rattle.measure_intake.proofs.Refused.{answer-accepted, checks-accepted}

@@ -1,4 +1,4 @@
--- When listing accepts a list and when it refuses it, each exactly: document 01, 'When a job is refused'. The statements speak of a call by what it
+-- When listing accepts a list and when it refuses it, each exactly: docs/SCOPE.md, 'When a job is refused'. The statements speak of a call by what it
 -- promises. Assumes nothing.
 use mathlib.Core.Path.{_≡_, sym, ap, _∙_, subst}
 use mathlib.Core.List.{List, _++_}

@@ -1,4 +1,4 @@
--- What the listing call answers, and what it leaves in the lent buffer, after the intake that it shares with measuring: document 01, 'Corner points'
+-- What the listing call answers, and what it leaves in the lent buffer, after the intake that it shares with measuring: docs/SCOPE.md, 'Corner points'
 -- and 'When a job is refused'. `ListCall` is the promise of the call.
 use mathlib.Core.Path.{_≡_}
 use mathlib.Core.List.{List, [], _∷_, _++_}

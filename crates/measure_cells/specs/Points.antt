@@ -1,5 +1,5 @@
 -- Counting point by point: each lattice point counts the cell, the three unit squares and the three unit edges above it, and itself if it is
--- a corner. Over all points of a field every cell, square and edge is met once: the sums are the totals of document 01 (proofs/PointLaws).
+-- a corner. Over all points of a field every cell, square and edge is met once: the sums are the totals of docs/SCOPE.md (proofs/PointLaws).
 use mathlib.Core.Bool.{Bool, true, not, _&&_}
 use mathlib.Core.List.{List}
 use Prim.Native.Nat.{ℕ, zero, suc, _+_, _*_, _≤_, _<_}

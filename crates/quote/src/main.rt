@@ -1,4 +1,4 @@
-// The quoting program: reads a shot file from standard input and prints its quote, or its refusal. Document 01, the end of 'Jobs with
+// The quoting program: reads a shot file from standard input and prints its quote, or its refusal. docs/SCOPE.md, the end of 'Jobs with
 // known totals'. What it prints is `quoting::quote`; here are only the system calls and the sizes.
 use input::Filled;
 use libc::STDERR_FILENO;

@@ -1,4 +1,4 @@
--- What the quoting program prints for a shot file, and what is in the lent slices then: document 01, the end of 'Jobs with known totals'.
+-- What the quoting program prints for a shot file, and what is in the lent slices then: docs/SCOPE.md, the end of 'Jobs with known totals'.
 use mathlib.Core.Path.{_≡_}
 use mathlib.Core.List.{List}
 use Prim.Native.Nat.{ℕ}

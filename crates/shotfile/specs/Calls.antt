@@ -1,4 +1,4 @@
--- What the calls `read` and `write` answer, and what they leave in the lent slices. Document 01, 'When a job is refused'.
+-- What the calls `read` and `write` answer, and what they leave in the lent slices. docs/SCOPE.md, 'When a job is refused'.
 use mathlib.Core.Path.{_≡_}
 use mathlib.Core.List.{List, [], _∷_, _++_}
 use Prim.Native.Nat.{ℕ}

@@ -1,4 +1,4 @@
--- When `read` and `write` refuse, in words of numbers: document 01, 'When a job is refused', 2 to 5 and 12.
+-- When `read` and `write` refuse, in words of numbers: docs/SCOPE.md, 'When a job is refused', 2 to 5 and 12.
 use mathlib.Core.Path.{_≡_}
 use mathlib.Core.List.{List}
 use mathlib.Core.Logic.{_⊎_}

@@ -1,4 +1,4 @@
--- A shot file: the header's record, then a record a shot, up to the end of the bytes. Document 01, 'Shot file' and 'When a job is refused'.
+-- A shot file: the header's record, then a record a shot, up to the end of the bytes. docs/SCOPE.md, 'Shot file' and 'When a job is refused'.
 use mathlib.Core.Bool.{Bool, true, false, cond, _&&_}
 use mathlib.Core.List.{List, [], _∷_, _++_}
 use Prim.Native.Nat.{ℕ, zero, suc}

@@ -1,5 +1,5 @@
 // Reading a shot file: a cursor takes one record and goes on to the next from there; the file is checked whole before anything is stored.
-// Document 01, 'Shot file'.
+// docs/SCOPE.md, 'Shot file'.
 use job::Refusal;
 use shotfile_records::Fields;
 use shotfile_records::Taken;

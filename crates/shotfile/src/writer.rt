@@ -1,4 +1,4 @@
-// Writing a shot file in its shortest form. Document 01, 'Shot file' and 'When a job is refused'.
+// Writing a shot file in its shortest form. docs/SCOPE.md, 'Shot file' and 'When a job is refused'.
 use job::Checked;
 use job::Refusal;
 use shotfile_records::Fields;

@@ -1,4 +1,4 @@
--- The lines of a shot file's text: a setting, a shot, a refusal. Document 01, 'Shot file' and 'When a job is refused'. What follows `#`
+-- The lines of a shot file's text: a setting, a shot, a refusal. docs/SCOPE.md, 'Shot file' and 'When a job is refused'. What follows `#`
 -- in a line is a comment; a refusal is none, so that no program takes the text of a refused file for a list.
 use mathlib.Core.Bool.{cond}
 use mathlib.Core.List.{List, [], _++_}

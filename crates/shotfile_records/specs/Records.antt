@@ -1,4 +1,4 @@
--- One record of a shot file: a map byte, then the 16-bit fields whose bits stand in it, least byte first. Document 01, 'Shot file'.
+-- One record of a shot file: a map byte, then the 16-bit fields whose bits stand in it, least byte first. docs/SCOPE.md, 'Shot file'.
 -- The header has the fields F, E, G, and each shot x, y, z: three numbers, in bits 0, 1, 2. What an absent field means is given with them.
 use mathlib.Core.Bool.{Bool, not, cond, _&&_}
 use mathlib.Core.List.{List, [], _∷_, _++_}

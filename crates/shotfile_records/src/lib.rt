@@ -1,4 +1,4 @@
-// One record of a shot file: a map byte, then the 16-bit fields whose bits stand in it, least byte first. Document 01, 'Shot file'.
+// One record of a shot file: a map byte, then the 16-bit fields whose bits stand in it, least byte first. docs/SCOPE.md, 'Shot file'.
 // specs/Records.antt says how a record is read and what its shortest form is. Stands on `buffer` and on `job`, whose refusals it gives.
 use job::Refusal;
 ghost use mathlib.Core.Path.{_≡_};

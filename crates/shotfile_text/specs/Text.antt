@@ -1,5 +1,5 @@
 -- The text of a shot file: a line for each setting of its header and for each shot, and a line of a refusal where there is one.
--- Document 01, 'Shot file' and 'When a job is refused'. The lines are those of `shotfile_lines`.
+-- docs/SCOPE.md, 'Shot file' and 'When a job is refused'. The lines are those of `shotfile_lines`.
 use mathlib.Core.Path.{_≡_}
 use mathlib.Core.Bool.{cond}
 use mathlib.Core.List.{List, [], _++_}

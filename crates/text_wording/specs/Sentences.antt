@@ -1,4 +1,4 @@
--- The refusals of document 01, 'When a job is refused', in words: one sentence each, of at most 64 bytes.
+-- The refusals of docs/SCOPE.md, 'When a job is refused', in words: one sentence each, of at most 64 bytes.
 use mathlib.Core.List.{List}
 use Prim.Native.Nat.{ℕ}
 use Rattle.text_report.specs.Text.{text}

@@ -38,7 +38,7 @@ fn tell_mistake(line: usize, mistake: Mistake) {
     say_mistake(mistake);
 }
 
-// The paper's number and detail of a refusal, and its sentence.
+// The number and the detail of a refusal, and its sentence.
 fn tell_refusal(refusal: Refusal) {
     say(b"write_shots: refused ");
     io::print_decimal(STDERR_FILENO, job::number(refusal) as u64);

@@ -1,5 +1,4 @@
 -- The list of a file that reads well is checked; no other has a verdict.
-use mathlib.Core.Path.{sym, _∙_}
 use Rattle.buffer.proofs.WroteLaws.{wrote-as}
 use Rattle.shotfile_text.proofs.TextLaws.{read-room, read-verdict, refused-verdict}
 use borrow.Author.Needs.{needs}
