@@ -152,14 +152,14 @@ module _ {places : ℕ} (d : Draft) {d' : Draft} (h : d .shots ≤ places) where
   then-adds (Wrong m) e = apart e
 
 -- a list has places for its shots
-pub record Counted (places : ℕ) (coords : List ℕ) (before shots : ℕ) : Type 0 where
+pub record ShotCounts (places : ℕ) (coords : List ℕ) (before shots : ℕ) : Type 0 where
   pub room : shots ≤ places
   pub count : placeOf shots ≡ placeOf before + length coords
 
 pub typed-counts : (places : ℕ) (d : Draft) (line : ℕ) (lines : List (List ℕ)) {field edge grid shots : ℕ}
     → d .shots ≤ places
     → typedFrom places d line lines ≡ Listed field edge grid shots
-    → Counted places (shotsIn lines) (d .shots) shots
+    → ShotCounts places (shotsIn lines) (d .shots) shots
 unfolding typedFrom shotsIn
 typed-counts places d line [] {field} {edge} {grid} {shots} h e =
     let q : d .shots ≡ shots = cc in
@@ -167,8 +167,8 @@ typed-counts places d line [] {field} {edge} {grid} {shots} h e =
 typed-counts places d line (l ∷ lines) {field} {edge} {grid} {shots} h e = go (then places d (lineEntry l)) refl (λ d' h' e'. typed-counts places d' (suc line) lines h' e') e
   where
     go : (n : Next) → then places d (lineEntry l) ≡ n
-        → ((d' : Draft) → d' .shots ≤ places → typedFrom places d' (suc line) lines ≡ Listed field edge grid shots → Counted places (shotsIn lines) (d' .shots) shots)
-        → onNext n line (λ d'. typedFrom places d' (suc line) lines) ≡ Listed field edge grid shots → Counted places (coordsOf (lineEntry l) ++ shotsIn lines) (d .shots) shots
+        → ((d' : Draft) → d' .shots ≤ places → typedFrom places d' (suc line) lines ≡ Listed field edge grid shots → ShotCounts places (shotsIn lines) (d' .shots) shots)
+        → onNext n line (λ d'. typedFrom places d' (suc line) lines) ≡ Listed field edge grid shots → ShotCounts places (coordsOf (lineEntry l) ++ shotsIn lines) (d .shots) shots
     go (Goes d') q more e =
         let a = then-adds d h (lineEntry l) q in
         let r = more d' (a .fits) e in
@@ -208,7 +208,7 @@ pub typed-places : (text : List ℕ) {m n : ℕ} {t : Typed} → t ≡ typedList
 typed-places text e k = e ∙ ap (λ (i : ℕ). typedList i text) k
 
 module _ (places : ℕ) (text : List ℕ) {field edge grid shots : ℕ} (e : typedList places text ≡ Listed field edge grid shots) where
-  list-counts : Counted places (shotsIn (linesOf text)) 0 shots
+  list-counts : ShotCounts places (shotsIn (linesOf text)) 0 shots
   unfolding typedList nothingYet
   list-counts = typed-counts places nothingYet 1 (linesOf text) (omega arith) e
 
