@@ -1,5 +1,5 @@
--- What is known of a list that a call accepts, from what the call promises: the list is valid, the totals are its cell counts, the work slice
--- holds its index, and the buffer its listing.
+-- What is known of a list that a call accepts, from what the call promises: the list is valid, the totals are its cell counts, the work
+-- slice holds its index, and the buffer its listing.
 use mathlib.Core.Path.{_≡_, sym, _∙_, ap}
 use mathlib.Core.List.{List, _++_}
 use Prim.Native.Nat.{ℕ, _*_}
@@ -13,7 +13,7 @@ use Rattle.job.specs.declared.Refusal.the-variants.{ShortListing}
 use Rattle.job.specs.declared.Checked.{Checked}
 use Rattle.job.specs.declared.Checked.the-variants.{Accepted as Passed}
 use Rattle.grid.specs.Grid.{indexOf, need, Holds}
-use Rattle.measure_intake.specs.Intake.{solid, measureTests, measureChecked, answerOf, measureAnswer, measuredNumbers, numbersAfter, measureNumbers, sliceAfter, workAfter, MeasureCall}
+use Rattle.measure_intake.specs.Intake.{solid, measureTests, measureChecked, measureAnswer, measuredNumbers, numbersAfter, measureNumbers, sliceAfter, workAfter, MeasureCall}
 use Rattle.measure_intake.specs.declared.Measured.the-variants.{Quote}
 use Rattle.job.proofs.OneMore.{more-accepted}
 use Rattle.measure_intake.proofs.Refused.{answer-accepted, checks-accepted}

@@ -15,8 +15,8 @@ use lib.Seq.{take-at}
 use Rattle.lattice.specs.Cells.{Cells, Within}
 use Rattle.lattice.specs.Figures.{Figure, term}
 use Rattle.lattice.specs.Shots.{Shot, covers}
-use Rattle.lattice.specs.Listing.{corners, listing, cornerSum, listedSum, SameBytes}
-use Rattle.lattice_sums.specs.CornerSums.{value, sumsOf, totalsOf}
+use Rattle.lattice.specs.Listing.{corners, listing, cornerSum, SameBytes}
+use Rattle.lattice_sums.specs.CornerSums.{value, sumsOf}
 use Rattle.lattice_sums.specs.declared.sums.Totals.{Totals}
 use Rattle.lattice.proofs.Cases.{bool-ext}
 use Rattle.lattice.proofs.Agreement as agreement

@@ -1,5 +1,6 @@
--- What the quoting program prints: document 01, the end of 'Jobs with known totals'. A space is 32, the end of a line 10, the digit 0 is 48.
-use mathlib.Core.Bool.{Bool, true, false, cond}
+-- What the quoting program prints: document 01, the end of 'Jobs with known totals'. A space is 32, the end of a line 10, the digit 0
+-- is 48.
+use mathlib.Core.Bool.{cond}
 use mathlib.Core.List.{List, [], _∷_, _++_}
 use Prim.Native.Nat.{ℕ, zero, suc, _+_, _-_, _*_, _/_, _%_}
 use lib.Dec.{ltb}

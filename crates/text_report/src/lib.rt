@@ -1,7 +1,7 @@
 // What the quoting program prints, put into a lent slice: the four lines of a quote, and the one line of a refusal; and the parts of
 // which this and every other text is made: a byte, a word, a decimal number, a line of a word and a number.
 // specs/Text.antt says what a text is, specs/Lines.antt what the lines are. Stands on `buffer` and on the totals of `lattice_sums`.
-ghost use mathlib.Core.List.{[], _∷_, _++_};
+ghost use mathlib.Core.List.{[], _∷_};
 ghost use mathlib.Core.Path.{_≡_};
 ghost use Prim.Native.Nat.{_+_, _%_, _≤_, _<_};
 ghost use lib.ListN.{length};

@@ -1,5 +1,4 @@
 -- A refusal of the checks is the answer; otherwise the totals are counted.
-use mathlib.Core.Path.{sym}
 use Rattle.measure_intake.proofs.IntakeLaws.{accepted-list, accepted-holds, refused-measure, accepted-measure}
 use borrow.Author.Needs.{needs}
 use Rattle.measure.proofs.measure.Statement.{statement}
