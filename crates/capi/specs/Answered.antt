@@ -1,5 +1,5 @@
--- What a call from another language leaves: its numbers in a lent slice of 64-bit places, if that has a place for each; and 1 or 0 back. A call whose
--- numbers do not fit changes nothing. Each record is the promise of the calls that it names.
+-- What a call from another language leaves: its numbers in a lent slice of 64-bit places, if that has a place for each; and 1 or 0
+-- back. A call whose numbers do not fit changes nothing. Each record is the promise of the calls that it names.
 use mathlib.Core.Path.{_≡_}
 use mathlib.Core.Bool.{Bool, cond}
 use mathlib.Core.List.{List, [], _∷_}
@@ -38,29 +38,45 @@ pub record Told (numbers answer : List ℕ) (r : ℕ) (answer' : List ℕ) : Typ
 abbrev pub ifTold : List ℕ → List ℕ → List ℕ → List ℕ → List ℕ
 ifTold numbers answer done kept = cond (fits numbers answer) done kept
 
+-- ---- the numbers that each call tells
+abbrev pub indexTells : ℕ → ℕ → ℕ → List ℕ → List ℕ → List ℕ
+indexTells F E G coords work = indexPlaces (firstNumbers (measureTests F E G coords (length work)))
+
+abbrev pub measureTells : ℕ → ℕ → ℕ → List ℕ → List ℕ → List ℕ
+measureTells F E G coords work = measurePlaces (measureNumbers F E G coords (length work))
+
+abbrev pub listTells : ℕ → ℕ → ℕ → List ℕ → List ℕ → List ℕ → List ℕ
+listTells F E G coords work buffer = measurePlaces (listNumbers F E G coords (length work) (length buffer))
+
+abbrev pub readTells : List ℕ → List ℕ → List ℕ
+readTells bytes coords = readValues (fileIn (shotCount coords) bytes)
+
+abbrev pub writeTells : ℕ → ℕ → ℕ → List ℕ → List ℕ → List ℕ
+writeTells F E G coords bytes = writeValues F E G coords (length bytes)
+
 -- ---- the promises
 -- `heqdanu_index`
 pub record IndexTold (F E G : ℕ) (coords work answer : List ℕ) (r : ℕ) (work' answer' : List ℕ) : Type 0 where
-  pub told : Told (indexPlaces (firstNumbers (measureTests F E G coords (length work)))) answer r answer'
-  pub index : work' ≡ ifTold (indexPlaces (firstNumbers (measureTests F E G coords (length work)))) answer (workAfter F E G coords work) work
+  pub told : Told (indexTells F E G coords work) answer r answer'
+  pub index : work' ≡ ifTold (indexTells F E G coords work) answer (workAfter F E G coords work) work
 
 -- `heqdanu_measure` and `heqdanu_recount`
 pub record MeasureTold (F E G : ℕ) (coords work answer : List ℕ) (r : ℕ) (work' answer' : List ℕ) : Type 0 where
-  pub told : Told (measurePlaces (measureNumbers F E G coords (length work))) answer r answer'
-  pub index : work' ≡ ifTold (measurePlaces (measureNumbers F E G coords (length work))) answer (workAfter F E G coords work) work
+  pub told : Told (measureTells F E G coords work) answer r answer'
+  pub index : work' ≡ ifTold (measureTells F E G coords work) answer (workAfter F E G coords work) work
 
 -- `heqdanu_list`
 pub record ListTold (F E G : ℕ) (coords work buffer answer : List ℕ) (r : ℕ) (work' buffer' answer' : List ℕ) : Type 0 where
-  pub told : Told (measurePlaces (listNumbers F E G coords (length work) (length buffer))) answer r answer'
-  pub index : work' ≡ ifTold (measurePlaces (listNumbers F E G coords (length work) (length buffer))) answer (workAfter F E G coords work) work
-  pub listing : buffer' ≡ ifTold (measurePlaces (listNumbers F E G coords (length work) (length buffer))) answer (listingAfter F E G coords (length work) buffer) buffer
+  pub told : Told (listTells F E G coords work buffer) answer r answer'
+  pub index : work' ≡ ifTold (listTells F E G coords work buffer) answer (workAfter F E G coords work) work
+  pub listing : buffer' ≡ ifTold (listTells F E G coords work buffer) answer (listingAfter F E G coords (length work) buffer) buffer
 
 -- `heqdanu_read`
 pub record ReadTold (bytes coords answer : List ℕ) (r : ℕ) (coords' answer' : List ℕ) : Type 0 where
-  pub told : Told (readValues (fileIn (shotCount coords) bytes)) answer r answer'
-  pub coordinates : coords' ≡ ifTold (readValues (fileIn (shotCount coords) bytes)) answer (readCoords (fileIn (shotCount coords) bytes) coords) coords
+  pub told : Told (readTells bytes coords) answer r answer'
+  pub coordinates : coords' ≡ ifTold (readTells bytes coords) answer (readCoords (fileIn (shotCount coords) bytes) coords) coords
 
 -- `heqdanu_write`
 pub record WriteTold (F E G : ℕ) (coords bytes answer : List ℕ) (r : ℕ) (bytes' answer' : List ℕ) : Type 0 where
-  pub told : Told (writeValues F E G coords (length bytes)) answer r answer'
-  pub file : bytes' ≡ ifTold (writeValues F E G coords (length bytes)) answer (writeBytes F E G coords bytes) bytes
+  pub told : Told (writeTells F E G coords bytes) answer r answer'
+  pub file : bytes' ≡ ifTold (writeTells F E G coords bytes) answer (writeBytes F E G coords bytes) bytes

@@ -45,7 +45,8 @@ fn put_index(answer: &mut [u64], number: u8, detail: usize)
 
 fn put_totals(answer: &mut [u64], number: u8, detail: usize, t: Totals)
     requires { ⌜ 6 ≤ length (now answer) ⌝ }
-    ensures { λ _. ⌜ now (answer .exit) ≡ inFront (number ∷ detail ∷ t .volume ∷ t .area ∷ t .edge ∷ t .corners ∷ []) (now (answer .entry)) ⌝ }
+    ensures { λ _. ⌜ now (answer .exit) ≡ inFront (number ∷ detail ∷ t .volume ∷ t .area ∷ t .edge ∷ t .corners ∷ [])
+        (now (answer .entry)) ⌝ }
 {
     answer[NUMBER] = number as u64;
     answer[DETAIL] = detail as u64;
@@ -227,7 +228,8 @@ pub extern "C" fn heqdanu_recount(
 // Reads a shot file: see `shotfile::read`.
 #[no_mangle]
 pub extern "C" fn heqdanu_read(bytes: &[u8], coords: &mut [u16], answer: &mut [u64]) -> u8
-    ensures { λ r. ⌜ ReadTold (now (bytes .entry)) (now (coords .entry)) (now (answer .entry)) r (now (coords .exit)) (now (answer .exit)) ⌝ }
+    ensures { λ r. ⌜ ReadTold (now (bytes .entry)) (now (coords .entry)) (now (answer .entry))
+        r (now (coords .exit)) (now (answer .exit)) ⌝ }
 {
     if answer.len() < READ_ANSWER {
         return 0;

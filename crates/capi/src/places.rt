@@ -1,4 +1,5 @@
-// Where the numbers of an answer stand, call by call, and how many there are. include/heqdanu.h has the same names with HEQDANU_ before them.
+// Where the numbers of an answer stand, call by call, and how many there are. include/heqdanu.h has the same names with HEQDANU_ before
+// them.
 
 // Every call: the refusal's number, 0 if accepted, and its detail.
 pub const NUMBER: usize = 0;

@@ -1,5 +1,6 @@
-// What the check programs print on standard output, in one form: a number after a space, the places of a slice after a semicolon, a refusal. Nothing
-// comes back and nothing is lent, and no contract can say what a system call writes: the programs' stored output does. Stands on `job`.
+// What the check programs print on standard output, in one form: a number after a space, the places of a slice after a semicolon, a
+// refusal. Nothing comes back and nothing is lent, and no contract can say what a system call writes: the programs' stored output does.
+// Stands on `job`.
 use job::Refusal;
 
 pub fn print_number(n: u64) {

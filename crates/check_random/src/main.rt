@@ -1,7 +1,8 @@
-// Random lists, measured in every way that there is: by the measuring call, by the listing call, by counting cells, and by the corner sums read
-// back from the listing's bytes alone. The same shots in another order and another grid have the same listing; a list that covers other cells,
-// by a shot added or moved, has another. Whether the cells are the same is decided by counting: two lists cover the same cells if both cover as many
-// as the two together. A list that disagrees is printed at once; the counts at the end tell what was tried.
+// Random lists, measured in every way that there is: by the measuring call, by the listing call, by counting cells, and by the corner
+// sums read back from the listing's bytes alone. The same shots in another order and another grid have the same listing; a list that
+// covers other cells, by a shot added or moved, has another. Whether the cells are the same is decided by counting: two lists cover the
+// same cells if both cover as many as the two together. A list that disagrees is printed at once; the counts at the end tell what was
+// tried.
 mod counts;
 mod listings;
 mod lists;
@@ -235,7 +236,8 @@ fn compare_changed(
     )
 }
 
-// A list in another order, and then with one of its shots replaced by the last of `extended`; both in `changed`, which is as long as the list.
+// A list in another order, and then with one of its shots replaced by the last of `extended`; both in `changed`, which is as long as
+// the list.
 fn try_changes(
     settings: Settings,
     totals: Totals,

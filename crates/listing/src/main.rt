@@ -1,6 +1,6 @@
-// The listing program: reads a shot file from standard input and writes the corner listing of its list, 7 bytes a corner, to standard output. A
-// refusal gives one line on standard error and no listing. docs/SCOPE.md, 'Corner points'. What it writes is `quoting::list_file`; here are the system
-// calls, the sizes and the sentence.
+// The listing program: reads a shot file from standard input and writes the corner listing of its list, 7 bytes a corner, to standard
+// output. A refusal gives one line on standard error and no listing. docs/SCOPE.md, 'Corner points'. What it writes is
+// `quoting::list_file`; here are the system calls, the sizes and the sentence.
 use input::Filled;
 use job::Refusal;
 use libc::STDERR_FILENO;

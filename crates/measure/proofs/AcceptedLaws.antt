@@ -1,5 +1,5 @@
--- What is known of a list that a call accepts, from what the call promises: the list is valid, the totals are its cell counts, the work slice
--- holds its index, and the buffer its listing.
+-- What is known of a list that a call accepts, from what the call promises: the list is valid, the totals are its cell counts, the work
+-- slice holds its index, and the buffer its listing.
 use mathlib.Core.Path.{_≡_, sym, _∙_, ap}
 use mathlib.Core.List.{List, _++_}
 use Prim.Native.Nat.{ℕ, _*_}

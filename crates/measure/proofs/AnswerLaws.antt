@@ -5,7 +5,7 @@ use Prim.Native.Nat.{ℕ, _*_, _/_, _≤_, _<_}
 use native.Mathlib.Omega.{arith}
 use lib.ListN.{length, drop}
 use Rattle.lattice.specs.Cells.{Cells, Within}
-use Rattle.lattice.specs.Listing.{corners, cornerCount, listing, bytes}
+use Rattle.lattice.specs.Listing.{corners, cornerCount, listing}
 use Rattle.lattice_sums.specs.CornerSums.{sumsOf, totalsOf, Whole}
 use Rattle.lattice_sums.specs.declared.sums.CornerSums.{CornerSums}
 use Rattle.lattice_sums.specs.declared.sums.Totals.{Totals}

@@ -1,5 +1,5 @@
--- When listing accepts a list and when it refuses it, each exactly: docs/SCOPE.md, 'When a job is refused'. The statements speak of a call by what it
--- promises. Assumes nothing.
+-- When listing accepts a list and when it refuses it, each exactly: docs/SCOPE.md, 'When a job is refused'. The statements speak of a
+-- call by what it promises. Assumes nothing.
 use mathlib.Core.Path.{_≡_, sym, ap, _∙_, subst}
 use mathlib.Core.List.{List, _++_}
 use mathlib.Core.Logic.{_↔_, _⊎_, inl, inr}

@@ -1,4 +1,5 @@
--- What condition 3 says of totals, of listing bytes and of two lists. proofs/Condition3.antt proves it of the calls. docs/SCOPE.md, 'Corner points'.
+-- What condition 3 says of totals, of listing bytes and of two lists. proofs/Condition3.antt proves it of the calls. docs/SCOPE.md,
+-- 'Corner points'.
 use mathlib.Core.Path.{_≡_}
 use mathlib.Core.Logic.{_↔_}
 use mathlib.Core.Bool.{false}

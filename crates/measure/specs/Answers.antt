@@ -1,5 +1,5 @@
--- What the listing call answers, and what it leaves in the lent buffer, after the intake that it shares with measuring: docs/SCOPE.md, 'Corner points'
--- and 'When a job is refused'. `ListCall` is the promise of the call.
+-- What the listing call answers, and what it leaves in the lent buffer, after the intake that it shares with measuring: docs/SCOPE.md,
+-- 'Corner points' and 'When a job is refused'. `ListCall` is the promise of the call.
 use mathlib.Core.Path.{_≡_}
 use mathlib.Core.List.{List, [], _∷_, _++_}
 use mathlib.Core.Logic.{_⊎_}
@@ -43,7 +43,8 @@ abbrev pub listingOver : ℕ → Cells → List ℕ → List ℕ
 listingOver F s buffer = listing F s ++ drop (7 * cornerCount F s) buffer
 
 unfoldable pub listingAfter : ℕ → ℕ → ℕ → List ℕ → ℕ → List ℕ → List ℕ
-listingAfter F E G coords entries buffer = sliceAfter (listChecked F E G coords entries (length buffer)) buffer (listingOver F (solid E coords) buffer)
+listingAfter F E G coords entries buffer =
+    sliceAfter (listChecked F E G coords entries (length buffer)) buffer (listingOver F (solid E coords) buffer)
 
 -- ---- the promises
 -- listing the cells of an accepted list: refusal 11, or the totals and the listing
@@ -66,4 +67,5 @@ ListAccepts F E G coords entries room = MeasureAccepts F E G coords entries × (
 abbrev pub ListRefuses : ℕ → ℕ → ℕ → List ℕ → ℕ → ℕ → Refusal → Type 0
 ListRefuses F E G coords entries room r =
     MeasureRefuses F E G coords entries r
-    ⊎ (MeasureAccepts F E G coords entries × (room < 7 * cornerCount F (solid E coords)) × (ShortListing (cornerCount F (solid E coords)) ≡ r))
+    ⊎ (MeasureAccepts F E G coords entries
+    × (room < 7 * cornerCount F (solid E coords)) × (ShortListing (cornerCount F (solid E coords)) ≡ r))

@@ -1,8 +1,9 @@
-// The measuring and the listing call: the totals of a list, its corner count and its corner listing, with the grid index in the lent work slice.
+// The measuring and the listing call: the totals of a list, its corner count and its corner listing, with the grid index in the lent
+// work slice.
 //
-// specs/Answers.antt says what listing answers and leaves, and specs/Intake.antt of `measure_intake` what measuring does; proofs/Condition3.antt, the file to
-// read first, what that means for every accepted list. Both calls count by the corner sums over the corner points that `sweep` finds. Stands on
-// `measure_intake` and `sweep`.
+// specs/Answers.antt says what listing answers and leaves, and specs/Intake.antt of `measure_intake` what measuring does;
+// proofs/Condition3.antt, the file to read first, what that means for every accepted list. Both calls count by the corner sums over the
+// corner points that `sweep` finds. Stands on `measure_intake` and `sweep`.
 ghost use mathlib.Core.Path.{_≡_};
 ghost use Prim.Native.Nat.{_*_, _≤_};
 ghost use lib.ListN.{length};
@@ -58,8 +59,8 @@ fn list_corners(
     Measured::Quote(totals)
 }
 
-// Measures a list: gives its three totals and its corner count, and leaves its index in the work slice. Refusals 1, 2, 6, 7, 8, 9, 10, in this
-// order, change nothing.
+// Measures a list: gives its three totals and its corner count, and leaves its index in the work slice. Refusals 1, 2, 6, 7, 8, 9, 10,
+// in this order, change nothing.
 pub fn measure(field: u16, edge: u16, grid: u16, coords: &[u16], work: &mut [u32]) -> Measured
     ensures { λ r. ⌜ MeasureCall field edge grid (now (coords .entry)) (now (work .entry)) r (now (work .exit)) ⌝ }
 {
@@ -80,7 +81,8 @@ pub fn list(
     work: &mut [u32],
     buffer: &mut [u8],
 ) -> Measured
-    ensures { λ r. ⌜ ListCall field edge grid (now (coords .entry)) (now (work .entry)) (now (buffer .entry)) r (now (work .exit)) (now (buffer .exit)) ⌝ }
+    ensures { λ r. ⌜ ListCall field edge grid (now (coords .entry)) (now (work .entry)) (now (buffer .entry))
+        r (now (work .exit)) (now (buffer .exit)) ⌝ }
 {
     let checked = indexed(field, edge, grid, coords, work);
     match checked {

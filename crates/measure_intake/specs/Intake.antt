@@ -1,5 +1,6 @@
--- What the intake of a list answers and leaves in the work slice, and what measuring answers: docs/SCOPE.md, 'The grid index' and 'When a job is
--- refused'. A list covers the cells `solid`; the totals are its cell counts. `IndexCall` and `MeasureCall` are the promises of the calls.
+-- What the intake of a list answers and leaves in the work slice, and what measuring answers: docs/SCOPE.md, 'The grid index' and 'When a
+-- job is refused'. A list covers the cells `solid`; the totals are its cell counts. `IndexCall` and `MeasureCall` are the promises of
+-- the calls.
 use mathlib.Core.Path.{_≡_}
 use mathlib.Core.List.{List, [], _∷_, _++_}
 use mathlib.Core.Logic.{_⊎_}

@@ -1,4 +1,5 @@
--- What listing a shot file answers, and what is in the lent slices then: the list that the file holds is listed. docs/SCOPE.md, 'Corner points'.
+-- What listing a shot file answers, and what is in the lent slices then: the list that the file holds is listed. docs/SCOPE.md, 'Corner
+-- points'.
 use mathlib.Core.Path.{_≡_}
 use mathlib.Core.List.{List}
 use Prim.Native.Nat.{ℕ}

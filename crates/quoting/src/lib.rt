@@ -1,6 +1,6 @@
-// From the bytes of a shot file to the bytes that a program prints: its quote, by specs/Quoting.antt, or its corner listing, by specs/Listing.antt.
-// The programs `quote`, `recount` and `listing` only move these bytes in and out. Stands on `shotfile`, `measure`, `measure_shown` and
-// `text_report`.
+// From the bytes of a shot file to the bytes that a program prints: its quote, by specs/Quoting.antt, or its corner listing, by
+// specs/Listing.antt. The programs `quote`, `recount` and `listing` only move these bytes in and out. Stands on `shotfile`, `measure`,
+// `measure_cells` and `text_report`.
 ghost use Prim.Native.Nat.{_≤_};
 ghost use lib.ListN.{length};
 ghost use Rattle.buffer.specs.Wrote.{Wrote};
@@ -47,7 +47,8 @@ fn quote_list(
     out: &mut [u8],
 ) -> usize
     requires { ⌜ 128 ≤ length (now out) ⌝ }
-    ensures { λ r. ⌜ ListQuoted field edge grid (now (coords .entry)) (now (work .entry)) (now (out .entry)) r (now (work .exit)) (now (out .exit)) ⌝ }
+    ensures { λ r. ⌜ ListQuoted field edge grid (now (coords .entry)) (now (work .entry)) (now (out .entry))
+        r (now (work .exit)) (now (out .exit)) ⌝ }
 {
     let measured = figures(again, field, edge, grid, coords, work);
     match measured {
@@ -83,8 +84,8 @@ fn quote_file(
     }
 }
 
-// What the quoting program prints for a shot file, put to the front of a slice of at least 128 bytes. The coordinates and the index of the list
-// stay in the other slices.
+// What the quoting program prints for a shot file, put to the front of a slice of at least 128 bytes. The coordinates and the index of
+// the list stay in the other slices.
 pub fn quote(bytes: &[u8], coords: &mut [u16], work: &mut [u32], out: &mut [u8]) -> usize
     requires { ⌜ 128 ≤ length (now out) ⌝ }
     ensures { λ r. ⌜ FileQuoted (now (bytes .entry)) (now (coords .entry)) (now (work .entry)) (now (out .entry))

@@ -1,4 +1,5 @@
--- What the quoting program prints: docs/SCOPE.md, the end of 'Jobs with known totals'. A space is 32, the end of a line 10, the digit 0 is 48.
+-- What the quoting program prints: docs/SCOPE.md, the end of 'Jobs with known totals'. A space is 32, the end of a line 10, the digit 0
+-- is 48.
 use mathlib.Core.Bool.{cond}
 use mathlib.Core.List.{List, [], _∷_, _++_}
 use Prim.Native.Nat.{ℕ, zero, suc, _+_, _-_, _*_, _/_, _%_}
