@@ -1,6 +1,6 @@
 // From the bytes of a shot file to the bytes that a program prints: its quote, by specs/Quoting.antt, or its corner listing, by
 // specs/Listing.antt. The programs `quote`, `recount` and `listing` only move these bytes in and out. Stands on `shotfile`, `measure`,
-// `measure_cells` and `text_report`.
+// `measure_shown` and `text_report`.
 ghost use Prim.Native.Nat.{_≤_};
 ghost use lib.ListN.{length};
 ghost use Rattle.buffer.specs.Wrote.{Wrote};
