@@ -20,7 +20,7 @@
  * allocates memory, keeps a pointer, or touches a place outside the buffers. Calls from several threads are fine as
  * long as they share no buffer that one of them writes.
  *
- * ANSWERS go to `answer`, at least HEQDANU_ANSWER (HEQDANU_INDEX_ANSWER, HEQDANU_WRITE_ANSWER) places of 64 bits:
+ * ANSWERS go to `answer`, so many places of 64 bits as the call needs; HEQDANU_ANSWER are enough for every call:
  *
  *     answer[0]   0 if the call accepted, else the number of the refusal (below)
  *     answer[1]   the refusal's detail, 0 if accepted
@@ -57,7 +57,7 @@ enum {
     HEQDANU_SHORT_FILE = 12       /* the byte buffer is shorter than the file; the bytes needed */
 };
 
-/* Places of `answer`, call by call, and how many a call needs. HEQDANU_ANSWER places are enough for every call. */
+/* Places of `answer`, call by call, and how many a call needs. */
 enum {
     /* every call: 0 if accepted, else the number of the refusal; and its detail */
     HEQDANU_NUMBER = 0,
@@ -77,23 +77,14 @@ enum {
     HEQDANU_READ_SHOTS = 5,
     HEQDANU_READ_ANSWER = 6,
     /* heqdanu_write */
-    HEQDANU_WRITE_BYTES = 2
+    HEQDANU_WRITE_BYTES = 2,
+    HEQDANU_WRITE_ANSWER = 3,
+    /* enough for every call */
+    HEQDANU_ANSWER = 6
 };
-#define HEQDANU_ANSWER 6
-#define HEQDANU_WRITE_ANSWER 3
 
 /* Bytes of a listing's record: x, y, z in 16 bits each, least byte first, then the pattern byte. */
 #define HEQDANU_RECORD 7
-
-/* Checks a list and makes its grid index, without measuring.
- *
- * answer: number, detail (HEQDANU_INDEX_ANSWER places).
- *
- * `work` takes the grid index, as in heqdanu_measure. Refusals: 1, 2, 6, 7, 8, 9, 10. After success `work` is as after
- * heqdanu_measure; after a refusal it is as it was.
- */
-uint8_t heqdanu_index(uint16_t field, uint16_t edge, uint16_t grid, const uint16_t *coords, size_t ncoords,
-                      uint32_t *work, size_t nwork, uint64_t *answer, size_t nanswer);
 
 /* Measures a list.
  *
@@ -128,8 +119,8 @@ uint8_t heqdanu_list(uint16_t field, uint16_t edge, uint16_t grid, const uint16_
                      uint32_t *work, size_t nwork, uint8_t *listing, size_t nlisting, uint64_t *answer,
                      size_t nanswer);
 
-/* Measures a list once more, cell by cell: the slow second opinion for a disputed quote, for fields up to a few
- * hundred. Same arguments, answer, refusals and buffers as heqdanu_measure. */
+/* Measures a list once more, cell by cell: the slow second opinion for a disputed quote, some seconds in the largest
+ * field. Same arguments, answer, refusals and buffers as heqdanu_measure. */
 uint8_t heqdanu_recount(uint16_t field, uint16_t edge, uint16_t grid, const uint16_t *coords, size_t ncoords,
                         uint32_t *work, size_t nwork, uint64_t *answer, size_t nanswer);
 

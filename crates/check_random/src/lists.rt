@@ -1,6 +1,12 @@
 // Random lists from a fixed generator: each number is the one before times 48,271, modulo the prime 2^31 - 1 (Park and Miller).
 // Shots repeat, touch and border more often than chance would have it.
 
+use job::shot::count;
+use job::shot::put;
+use job::shot::x_of;
+use job::shot::y_of;
+use job::shot::z_of;
+
 // A list's settings: its field, edge and grid, another divisor of the field where there is one, and how many shots it has; and the last
 // number drawn.
 pub(crate) struct Settings {
@@ -212,36 +218,25 @@ fn draw_earlier(shot: usize, state: usize) -> usize {
     state / 8 % shot
 }
 
-// A coordinate of a list: 0 is x, 1 is y, 2 is z.
+// A coordinate of a list: 0 is x, 1 is y, 2 is z; 0 past the last shot.
 pub(crate) fn at(coords: &[u16], shot: usize, axis: usize) -> u16 {
-    if 64 < shot {
+    if count(coords) <= shot {
         return 0;
     }
-    if 2 < axis {
-        return 0;
+    if axis == 0 {
+        return x_of(coords, shot);
     }
-    let place = 3 * shot + axis;
-    if place < coords.len() {
-        return coords[place];
+    if axis == 1 {
+        return y_of(coords, shot);
     }
-    0
+    z_of(coords, shot)
 }
 
-// Stores a number at a place of a slice.
-fn put(coords: &mut [u16], place: usize, value: u16) {
-    if place < coords.len() {
-        coords[place] = value;
-    }
-}
-
-// Stores a shot.
+// Stores a shot, if there is a place for it.
 fn store(coords: &mut [u16], shot: usize, x: u16, y: u16, z: u16) {
-    if 64 < shot {
-        return;
+    if shot < count(coords) {
+        put(coords, shot, x, y, z);
     }
-    put(coords, 3 * shot, x);
-    put(coords, 3 * shot + 1, y);
-    put(coords, 3 * shot + 2, z);
 }
 
 // Draws a shot by five numbers after `state`, and gives the last.
@@ -263,7 +258,7 @@ fn draw_shot(state: usize, span: u16, edge: u16, coords: &mut [u16], shot: usize
 // Fills a slice with shots.
 pub(crate) fn draw_shots(settings: Settings, coords: &mut [u16]) {
     let last = span(settings);
-    let shots = coords.len() / 3;
+    let shots = count(coords);
     let mut state = settings.drawn;
     let mut shot = 0;
     while shot < shots {
@@ -294,7 +289,7 @@ fn insert(coords: &[u16], shuffled: &mut [u16], shot: usize, place: usize) {
 
 // Puts the shots of one list into another, each at a random place among those before it.
 pub(crate) fn shuffle(from: usize, coords: &[u16], shuffled: &mut [u16]) {
-    let shots = coords.len() / 3;
+    let shots = count(coords);
     let mut state = from;
     let mut shot = 0;
     while shot < shots {

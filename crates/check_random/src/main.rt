@@ -12,6 +12,8 @@ ghost use mathlib.Core.Path.{_≡_};
 ghost use lib.ListN.{length};
 use crate::counts::Counts;
 use crate::lists::Settings;
+use job::shot::count;
+use job::shot::first;
 use lattice_sums::sums::Totals;
 
 // Places for 61 shots.
@@ -329,26 +331,13 @@ fn try_list(settings: Settings, coords: &[u16], extended: &[u16], counts: Counts
     try_listed(settings, totals, &listing, coords, extended, points)
 }
 
-// Tries the list that is `extended` without its last shot.
-fn try_extended(settings: Settings, n: usize, extended: &[u16], counts: Counts) -> Counts {
-    if extended.len() < n {
-        return counts;
-    }
-    try_list(settings, &extended[..n], extended, counts)
-}
-
-// Tries a list whose shots are the first that are drawn.
+// Tries a list whose shots are the first that are drawn, and beside it the list with the next one.
 fn try_drawn(settings: Settings, shots: &[u16], counts: Counts) -> Counts {
-    let count = settings.shots;
-    if 60 < count {
+    let n = settings.shots;
+    if count(shots) <= n {
         return counts;
     }
-    let n = 3 * count;
-    let more = n + 3;
-    if shots.len() < more {
-        return counts;
-    }
-    try_extended(settings, n, &shots[..more], counts)
+    try_list(settings, first(shots, n), first(shots, n + 1), counts)
 }
 
 // Draws a list, and tries it.

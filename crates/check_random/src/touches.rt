@@ -2,6 +2,7 @@
 
 ghost use Prim.Native.Nat.{_≤_};
 use crate::lists::at;
+use job::shot::count;
 
 pub(crate) const REPEAT: usize = 0;
 
@@ -69,7 +70,7 @@ fn has_before(kind: usize, edge: u16, coords: &[u16], shot: usize) -> bool {
 
 // Some two shots of a list lie so to each other.
 pub(crate) fn has(kind: usize, edge: u16, coords: &[u16]) -> bool {
-    let shots = coords.len() / 3;
+    let shots = count(coords);
     let mut shot = 0;
     while shot < shots {
         if has_before(kind, edge, coords, shot) {

@@ -1,6 +1,7 @@
-// A list with its settings: the refusals, and the checks that every call on a list shares. docs/SCOPE.md, 'The job' and 'When a job is refused'.
-// `specs/Job.antt` says what a valid list is, `specs/Refusals.antt` numbers the refusals, `specs/Checking.antt` is what `check` answers.
-// Stands on `lattice`, whose shots and cells the definitions use.
+// A list with its settings: the door to its shots, the refusals, and the checks that every call on a list shares. docs/SCOPE.md, 'The
+// job' and 'When a job is refused'. specs/Job.antt says what a valid list is, specs/Refusals.antt numbers the refusals,
+// specs/Checking.antt is what `check` answers; proofs/Conditions.antt when, exactly. Stands on `buffer`, and on `lattice`, whose shots
+// and cells the definitions use.
 ghost use mathlib.Core.Path.{_≡_};
 ghost use Rattle.job.specs.Job.{shotsOf};
 ghost use Rattle.job.specs.Refusals.{numberOf, detailOf, metAt};

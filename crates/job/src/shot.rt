@@ -1,4 +1,5 @@
-// The door to the shots of a coordinate slice, three numbers each: no other crate knows where a shot's numbers stand. docs/SCOPE.md, 'The job'.
+// The door to the shots of a coordinate slice, three numbers each: no other crate knows where a shot's numbers stand. docs/SCOPE.md,
+// 'The job'.
 ghost use mathlib.Core.Path.{_≡_};
 ghost use Prim.Native.Nat.{_+_, _≤_, _<_};
 ghost use Rattle.buffer.specs.Wrote.{Wrote};

@@ -1,6 +1,6 @@
-// The second opinion for a disputed quote: reads a shot file from standard input, as the quoting program does, and prints the same lines from
-// totals that are counted again, cell by cell. That takes some seconds in a large field, so it says on standard error which plane it is at.
-// What it prints is `quoting::recount`; here are only the system calls and the sizes.
+// The second opinion for a disputed quote: reads a shot file from standard input, as the quoting program does, and prints the same lines
+// from totals that are counted again, cell by cell. That takes some seconds in a large field, so it says on standard error which plane
+// it is at. What it prints is `quoting::recount`; here are only the system calls and the sizes.
 use input::Filled;
 use libc::STDERR_FILENO;
 use libc::STDOUT_FILENO;

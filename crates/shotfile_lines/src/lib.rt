@@ -1,7 +1,7 @@
 // The lines of a shot file's text: a setting, a shot with its number and place, a refusal with its sentence. Each is put at a place of a
 // lent slice, and the answer is the place after the line; every other place keeps its value. specs/Lines.antt says what the lines are.
-// Stands on `shotfile_records` and `job`, whose fields and refusals it puts, and on `text_report`, `text_wording` and `buffer` for the bytes
-// of a text.
+// Stands on `shotfile_records` and `job`, whose fields and refusals it puts, and on `text_report`, `text_wording` and `buffer` for the
+// bytes of a text.
 use job::Place;
 use job::Refusal;
 use shotfile_records::Fields;

@@ -1,5 +1,5 @@
-// The program that shows a shot file: reads a shot file from standard input and prints it as text, one record a line, with the refusal at the end where
-// there is one. What it prints is `shotfile_text::put_text`; here are only the system calls and the sizes.
+// The program that shows a shot file: reads a shot file from standard input and prints it as text, one record a line, with the refusal
+// at the end where there is one. What it prints is `shotfile_text::put_text`; here are only the system calls and the sizes.
 use input::Filled;
 use libc::STDERR_FILENO;
 use libc::STDOUT_FILENO;

@@ -1,5 +1,5 @@
-// Selections from a run: the shots that touch a plane x, or those that have a face on it. Stands on `sweep_rows`, and on `grid` for the word
-// `keep`.
+// Selections from a run: the shots that touch a plane x, or those that have a face on it. Stands on `sweep_rows`, and on `grid` for the
+// word `keep`.
 ghost use mathlib.Core.Path.{_≡_};
 ghost use mathlib.Core.Bool.{_||_, cond};
 ghost use mathlib.Core.List.{[], _∷_};

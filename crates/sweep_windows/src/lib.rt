@@ -1,6 +1,6 @@
-// The windows of the lines of a plane: the range of z, line by line, of the shots that have a face on the plane and touch the line. Outside
-// it nothing changes across the plane. Two rows hold them by the line's number: `lows` 1,025 less the least z, `highs` the greatest end, and
-// both 0 where there is no such shot. Stands on `sweep_rows`.
+// The windows of the lines of a plane: the range of z, line by line, of the shots that have a face on the plane and touch the line.
+// Outside it nothing changes across the plane. Two rows hold them by the line's number: `lows` 1,025 less the least z, `highs` the
+// greatest end, and both 0 where there is no such shot. Stands on `sweep_rows`.
 ghost use mathlib.Core.Path.{_≡_};
 ghost use mathlib.Core.List.{[]};
 ghost use Prim.Native.Nat.{_-_, _≤_, _<_};

@@ -1,6 +1,6 @@
-// The writing program: reads a shot list that is typed as plain text from standard input, and writes its shot file, in the shortest form, to
-// standard output. A mistake in the text, and a list that is refused, give one line on standard error and no file. What the text says is
-// `typed_list::read_text`, and its file `shotfile::writer::write`; here are the system calls, the sizes and the sentences.
+// The writing program: reads a shot list that is typed as plain text from standard input, and writes its shot file, in the shortest
+// form, to standard output. A mistake in the text, and a list that is refused, give one line on standard error and no file. What the
+// text says is `typed_list::read_text`, and its file `shotfile::writer::write`; here are the system calls, the sizes and the sentences.
 use input::Filled;
 use job::Refusal;
 use libc::STDERR_FILENO;

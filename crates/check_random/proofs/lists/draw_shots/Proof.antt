@@ -15,6 +15,9 @@ abbrev μ-loop : tie.MeasureT-loop
 span-requires : tie.Need-span-requires Inv-loop μ-loop
 span-requires c κs = search needs
 
+count-requires : tie.Need-count-requires Inv-loop μ-loop
+count-requires c κs = search needs
+
 loop-holds : tie.Need-loop-holds Inv-loop μ-loop
 loop-holds c = search needs
 

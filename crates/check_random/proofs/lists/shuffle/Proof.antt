@@ -12,6 +12,9 @@ Inv-loop from coords shuffled₀ shots state₀ shot₀ shuffled state shot = (s
 abbrev μ-loop : tie.MeasureT-loop
 μ-loop from coords shuffled₀ shots state₀ shot₀ shuffled state shot = shots - shot
 
+count-requires : tie.Need-count-requires Inv-loop μ-loop
+count-requires c κs = search needs
+
 loop-holds : tie.Need-loop-holds Inv-loop μ-loop
 loop-holds c = search needs
 
@@ -48,6 +51,7 @@ shuffle-spec =
     (tie.spec
     Inv-loop
     μ-loop
+    count-requires
     loop-holds
     next-requires
     add-insert

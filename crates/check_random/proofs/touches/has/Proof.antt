@@ -10,6 +10,9 @@ Inv-loop kind edge coords shots shot₀ shot = shot ≤ shots
 abbrev μ-loop : tie.MeasureT-loop
 μ-loop kind edge coords shots shot₀ shot = shots - shot
 
+count-requires : tie.Need-count-requires Inv-loop μ-loop
+count-requires c κs = search needs
+
 loop-holds : tie.Need-loop-holds Inv-loop μ-loop
 loop-holds c = search needs
 
@@ -37,6 +40,7 @@ has-spec =
     (tie.spec
     Inv-loop
     μ-loop
+    count-requires
     loop-holds
     has-before-requires
     returns
