@@ -46,6 +46,7 @@ draw-shots-spec =
     Inv-loop
     μ-loop
     span-requires
+    count-requires
     loop-holds
     draw-shot-requires
     add-shot
