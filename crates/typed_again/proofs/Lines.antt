@@ -8,6 +8,7 @@ use lib.Dec.{eqb}
 use lib.ListN.{length}
 use Rattle.text_report.specs.Text.{text}
 use Rattle.text_report.specs.Lines.{decimal}
+use Rattle.text_same.specs.Same.{same}
 use Rattle.shotfile_lines.specs.Lines.{note, settingLine, shotLine}
 use Rattle.typed_line.specs.declared.entry.Setting.{Setting}
 use Rattle.typed_line.specs.declared.entry.Command.{Command}
@@ -15,7 +16,7 @@ use Rattle.typed_line.specs.declared.entry.Command.the-variants.{Set}
 use Rattle.typed_line.specs.declared.entry.Entry.{Entry}
 use Rattle.typed_line.specs.declared.entry.Entry.the-variants.{Setting as Settled, Shot}
 use Rattle.typed_line.specs.Words.{before, newline, hash, blank, linesOf, wordsOf}
-use Rattle.typed_line.specs.Entries.{same, commandOf, commanded, entryOf, lineEntry}
+use Rattle.typed_line.specs.Entries.{commandOf, commanded, entryOf, lineEntry}
 use Rattle.typed_line.proofs.Cutting.{words-none}
 use Rattle.typed_line.proofs.Printed.{Free, no-pass, free-append, freely, free-tested, before-append, line-printed, word-printed, word-last, decimal-newline, decimal-hash, decimal-blank, decimal-some, setting-printed, shot-printed}
 

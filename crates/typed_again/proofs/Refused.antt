@@ -13,6 +13,7 @@ use Rattle.job.specs.Checking.{checked}
 use Rattle.job.specs.Refusals.{numberOf, detailOf, metAt}
 use Rattle.text_report.specs.Text.{text}
 use Rattle.text_report.specs.Lines.{decimal}
+use Rattle.text_same.specs.Same.{same}
 use Rattle.shotfile_records.specs.declared.Fields.{Fields}
 use Rattle.shotfile_records.specs.declared.Taken.{Taken}
 use Rattle.shotfile_records.specs.declared.Taken.the-variants.{Whole, Refused}
@@ -34,7 +35,7 @@ use Rattle.typed_list.specs.declared.draft.Next.the-variants.{Goes, Stops}
 use Rattle.typed_list.specs.declared.Typed.{Typed}
 use Rattle.typed_list.specs.declared.Typed.the-variants.{Mistake as Mistaken}
 use Rattle.typed_line.specs.Words.{before, newline, linesFrom, linesOf, wordsFrom}
-use Rattle.typed_line.specs.Entries.{same, commandOf, commanded, entryOf, lineEntry}
+use Rattle.typed_line.specs.Entries.{commandOf, commanded, entryOf, lineEntry}
 use Rattle.typed_list.specs.Lists.{nothingYet, then, onNext, typedFrom, typedList}
 use Rattle.typed_line.proofs.Cutting.{lines-cut}
 use Rattle.typed_list.proofs.Listing.{then-wrong}

@@ -13,6 +13,7 @@ use Rattle.job.specs.Job.{shotsOf, shotCount, Valid}
 use Rattle.job.specs.Checking.{checked}
 use Rattle.job.proofs.Conditions.{accepted-valid}
 use Rattle.text_report.specs.Text.{text}
+use Rattle.text_same.specs.Same.{same}
 use Rattle.shotfile_records.specs.declared.Fields.{Fields}
 use Rattle.shotfile_records.specs.declared.Taken.the-variants.{Whole}
 use Rattle.shotfile.specs.declared.reader.Cursor.{Cursor}
@@ -33,7 +34,7 @@ use Rattle.typed_list.specs.declared.draft.Next.the-variants.{Goes}
 use Rattle.typed_list.specs.declared.Typed.{Typed}
 use Rattle.typed_list.specs.declared.Typed.the-variants.{List as Listed}
 use Rattle.typed_line.specs.Words.{before, linesFrom, linesOf, wordsFrom}
-use Rattle.typed_line.specs.Entries.{same, commandOf, entryOf}
+use Rattle.typed_line.specs.Entries.{commandOf, entryOf}
 use Rattle.typed_list.specs.Lists.{given, nothingYet, then, listed, typedFrom, typedList, coordsOf, shotsIn}
 use Rattle.typed_list.proofs.Listing.{field-once, edge-once, grid-once, shots-room, then-setting, then-shot, typed-goes, typed-start, shots-cons}
 use Rattle.typed_line.proofs.Printed.{freely}

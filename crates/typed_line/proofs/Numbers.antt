@@ -4,12 +4,12 @@ use mathlib.Core.Bool.{Bool, true, false, _&&_}
 use mathlib.Core.List.{List, [], _∷_}
 use Prim.Native.Nat.{ℕ, _+_, _-_, _*_, _≤_, _<_}
 use native.Mathlib.Omega.{arith}
-use lib.Dec.{leb, eqb}
+use lib.Dec.{leb}
 use lib.ListN.{length, drop, getD, drop-of-length-le}
-use borrow.Author.Tests.{leb-true, le-leb, lt-leb, eq-eqb, ne-eqb}
+use borrow.Author.Tests.{leb-true, le-leb, lt-leb}
 use Rattle.text_report.specs.Lines.{valueFrom}
 use Rattle.typed_line.specs.declared.entry.Number.the-variants.{Is, NoDigit, TooLarge}
-use Rattle.typed_line.specs.Entries.{digit, digitsOnly, wordNumber, same}
+use Rattle.typed_line.specs.Entries.{digit, digitsOnly, wordNumber}
 use Rattle.typed_line.proofs.Cutting.{here}
 
 -- ---- digits
@@ -83,40 +83,3 @@ number-large w e h = rw (e, lt-leb (valueFrom 0 w) 65535 h)
 pub number-is : (w : List ℕ) (v : ℕ) → digitsOnly w ≡ true → valueFrom 0 w ≡ v → v ≤ 65535 → Is v ≡ wordNumber w
 unfolding wordNumber
 number-is w v e q h = rw (e, q, le-leb v 65535 h)
-
--- ---- the same bytes
-same-cons : (a b : ℕ) (s t : List ℕ) → same (a ∷ s) (b ∷ t) ≡ eqb a b && same s t
-unfolding same
-same-cons a b s t = refl
-
-same-more : (a : ℕ) (s : List ℕ) → same (a ∷ s) [] ≡ false
-unfolding same
-same-more a s = refl
-
-same-fewer : (b : ℕ) (t : List ℕ) → same [] (b ∷ t) ≡ false
-unfolding same
-same-fewer b t = refl
-
-same-none : same [] [] ≡ true
-unfolding same
-same-none = refl
-
-module _ (a b : List ℕ) (i : ℕ) where
-  pub same-longer : i < length a → length b ≤ i → same (drop i a) (drop i b) ≡ false
-  same-longer h k = ap (λ l. same l (drop i b)) (here a i h) ∙ (ap (same (getD a i 0 ∷ drop (i + 1) a)) (drop-of-length-le b k) ∙ same-more (getD a i 0) (drop (i + 1) a))
-
-  pub same-shorter : length a ≤ i → i < length b → same (drop i a) (drop i b) ≡ false
-  same-shorter h k = ap (λ l. same l (drop i b)) (drop-of-length-le a h) ∙ (ap (same []) (here b i k) ∙ same-fewer (getD b i 0) (drop (i + 1) b))
-
-  pub same-ended : length a ≤ i → length b ≤ i → same (drop i a) (drop i b) ≡ true
-  same-ended h k = ap (λ l. same l (drop i b)) (drop-of-length-le a h) ∙ (ap (same []) (drop-of-length-le b k) ∙ same-none)
-
-  module _ (h : i < length a) (k : i < length b) where
-    same-here : same (drop i a) (drop i b) ≡ eqb (getD a i 0) (getD b i 0) && same (drop (i + 1) a) (drop (i + 1) b)
-    same-here = ap (λ l. same l (drop i b)) (here a i h) ∙ (ap (same (getD a i 0 ∷ drop (i + 1) a)) (here b i k) ∙ same-cons (getD a i 0) (getD b i 0) (drop (i + 1) a) (drop (i + 1) b))
-
-    pub same-unlike : (getD a i 0 ≡ getD b i 0 → ⊥) → same (drop i a) (drop i b) ≡ false
-    same-unlike n = same-here ∙ ap (λ t. t && same (drop (i + 1) a) (drop (i + 1) b)) (ne-eqb (getD a i 0) (getD b i 0) n)
-
-    pub same-like : getD a i 0 ≡ getD b i 0 → same (drop i a) (drop i b) ≡ same (drop (i + 1) a) (drop (i + 1) b)
-    same-like e = same-here ∙ ap (λ t. t && same (drop (i + 1) a) (drop (i + 1) b)) (eq-eqb (getD a i 0) (getD b i 0) e)

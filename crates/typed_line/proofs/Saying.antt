@@ -4,6 +4,7 @@ use mathlib.Core.Bool.{true, false}
 use mathlib.Core.List.{List, [], _∷_}
 use Prim.Native.Nat.{ℕ}
 use Rattle.text_report.specs.Text.{text}
+use Rattle.text_same.specs.Same.{same}
 use Rattle.typed_line.specs.declared.entry.Setting.{Setting}
 use Rattle.typed_line.specs.declared.entry.Setting.the-variants.{Field, Edge, Grid}
 use Rattle.typed_line.specs.declared.entry.Command.{Command}
@@ -13,7 +14,7 @@ use Rattle.typed_line.specs.declared.entry.Number.the-variants.{Is, NoDi
 use Rattle.typed_line.specs.declared.entry.Mistake.the-variants.{UnknownWord, TooFewWords, TooManyWords, NoNumber, LargeNumber}
 use Rattle.typed_line.specs.declared.entry.Entry.{Entry}
 use Rattle.typed_line.specs.declared.entry.Entry.the-variants.{Nothing, Setting as Settled, Shot, Wrong}
-use Rattle.typed_line.specs.Entries.{wordNumber, same, commandOf, onNumber, settingOf, shotOf, commanded, entryOf}
+use Rattle.typed_line.specs.Entries.{wordNumber, commandOf, onNumber, settingOf, shotOf, commanded, entryOf}
 
 -- ---- the first word
 module _ (w : List ℕ) where

@@ -1,10 +1,11 @@
 -- What a line says: a setting, a shot, nothing, or a mistake.
-use mathlib.Core.Bool.{Bool, true, false, cond, _&&_}
+use mathlib.Core.Bool.{Bool, true, cond, _&&_}
 use mathlib.Core.List.{List, [], _∷_}
 use Prim.Native.Nat.{ℕ}
-use lib.Dec.{leb, eqb}
+use lib.Dec.{leb}
 use Rattle.text_report.specs.Text.{text}
 use Rattle.text_report.specs.Lines.{valueFrom}
+use Rattle.text_same.specs.Same.{same}
 use Rattle.typed_line.specs.declared.entry.Setting.{Setting}
 use Rattle.typed_line.specs.declared.entry.Setting.the-variants.{Field, Edge, Grid}
 use Rattle.typed_line.specs.declared.entry.Command.{Command}
@@ -30,13 +31,6 @@ unfoldable pub wordNumber : List ℕ → Number
 wordNumber word = cond (digitsOnly word) (cond (leb (valueFrom 0 word) 65535) (Is (valueFrom 0 word)) TooLarge) NoDigit
 
 -- ---- the first word
--- whether two words have the same bytes
-unfoldable pub same : List ℕ → List ℕ → Bool
-same [] [] = true
-same [] (b ∷ t) = false
-same (a ∷ s) [] = false
-same (a ∷ s) (b ∷ t) = eqb a b && same s t
-
 -- `field`, `edge` and `grid` give a setting, `shot` adds a shot
 unfoldable pub commandOf : List ℕ → Command
 commandOf word =

@@ -3,12 +3,13 @@ use crate::word::End;
 use crate::word::Part;
 use crate::word::next_word;
 use crate::word::until;
+use text_same::same_bytes;
 ghost use mathlib.Core.Bool.{true};
 ghost use mathlib.Core.Path.{_≡_};
 ghost use Prim.Native.Nat.{_+_, _-_, _≤_};
 ghost use lib.ListN.{length, drop};
 ghost use Rattle.typed_line.specs.Words.{wordsOf, part};
-ghost use Rattle.typed_line.specs.Entries.{digit, digitsOnly, wordNumber, same, commandOf, onNumber, settingOf, shotOf, commanded, entryOf, lineEntry};
+ghost use Rattle.typed_line.specs.Entries.{digit, digitsOnly, wordNumber, commandOf, onNumber, settingOf, shotOf, commanded, entryOf, lineEntry};
 ghost use Rattle.typed_line.specs.declared.entry.Entry.the-variants.{Setting as Settled, Shot};
 
 // The settings of a list.
@@ -114,25 +115,6 @@ fn number_of(word: &[u8]) -> Number
         return number_of_digits(word);
     }
     Number::NoDigit
-}
-
-fn same_bytes(a: &[u8], b: &[u8]) -> bool
-    ensures { λ r. ⌜ r ≡ same (now (a .entry)) (now (b .entry)) ⌝ }
-{
-    let mut i = 0;
-    while i < a.len() {
-        if b.len() <= i {
-            return false;
-        }
-        if a[i] != b[i] {
-            return false;
-        }
-        i += 1;
-    }
-    if i < b.len() {
-        return false;
-    }
-    true
 }
 
 fn command_of(word: &[u8]) -> Command

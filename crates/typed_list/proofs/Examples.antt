@@ -6,11 +6,12 @@ use Rattle.job.specs.Job.{numbersOf}
 use Rattle.shotfile_records.specs.Records.{headerAbsent}
 use Rattle.text_report.specs.Text.{text}
 use Rattle.text_report.specs.Lines.{valueFrom}
+use Rattle.text_same.specs.Same.{same}
 use Rattle.typed_line.specs.declared.entry.Mistake.the-variants.{UnknownWord, TooFewWords, TooManyWords, NoNumber, LargeNumber, SettingTwice, NoPlace}
 use Rattle.typed_list.specs.declared.Typed.{Typed}
 use Rattle.typed_list.specs.declared.Typed.the-variants.{List as Listed, Mistake as Mistaken}
 use Rattle.typed_line.specs.Words.{before, linesFrom, linesOf, wordsFrom}
-use Rattle.typed_line.specs.Entries.{digitsOnly, wordNumber, same, commandOf, onNumber, settingOf, shotOf, commanded, entryOf}
+use Rattle.typed_line.specs.Entries.{digitsOnly, wordNumber, commandOf, onNumber, settingOf, shotOf, commanded, entryOf}
 use Rattle.typed_list.specs.Lists.{nothingYet, settled, shotMore, then, typedFrom, typedList, shotsIn}
 
 -- with places for two shots

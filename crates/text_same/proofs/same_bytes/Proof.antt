@@ -4,10 +4,10 @@ use Prim.Native.Nat.{_-_, _≤_}
 use native.Mathlib.Omega.{arith}
 use lib.ListN.{length, drop}
 use borrow.Author.Needs.{needs}
-use Rattle.typed_line.specs.Entries.{same}
-use Rattle.typed_line.proofs.Numbers.{same-longer, same-shorter, same-ended, same-unlike, same-like}
-use Rattle.typed_line.proofs.entry.same_bytes.Statement.{statement}
-use Rattle.typed_line.proofs.entry.same_bytes.Tie as tie
+use Rattle.text_same.specs.Same.{same}
+use Rattle.text_same.proofs.SameLaws.{same-longer, same-shorter, same-ended, same-unlike, same-like}
+use Rattle.text_same.proofs.same_bytes.Statement.{statement}
+use Rattle.text_same.proofs.same_bytes.Tie as tie
 
 abbrev Inv-loop : tie.InvT-loop
 Inv-loop a b i₀ i = (i ≤ length a) × (i ≤ length b) × (same (drop i a) (drop i b) ≡ same a b)
