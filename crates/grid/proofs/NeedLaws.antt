@@ -2,7 +2,7 @@
 use mathlib.Core.Path.{_≡_, refl, sym, ap, _∙_}
 use mathlib.Core.Bool.{Bool, true, false, _&&_}
 use mathlib.Core.List.{List}
-use Prim.Native.Nat.{ℕ, suc, _+_, _-_, _*_, _/_, _≤_, _<_}
+use Prim.Native.Nat.{ℕ, zero, suc, _+_, _-_, _*_, _/_, _≤_, _<_}
 use native.Mathlib.Nat.{le-div-iff-mul-le, div-lt-iff-lt-mul, mul-le-mul, mul-pos, mul-one, mul-comm, div-mul-le-self, div-le-of-le-mul, div-le-self, div-eq-of-lt}
 use native.Mathlib.Numerals.{add-one}
 use native.Mathlib.Omega.{arith}
@@ -12,6 +12,7 @@ use Rattle.lattice.specs.Sums.{total}
 use Rattle.lattice.specs.Cells.{bit}
 use Rattle.lattice.specs.Shots.{Shot}
 use Rattle.job.specs.Job.{shotCount, shotAt, Valid}
+use Rattle.job.proofs.Shots.{stay-at}
 use Rattle.grid.specs.Grid.{meets, touches, touchesCell, spanOf, pairsOf, pairs, need}
 use Rattle.grid.proofs.TotalLaws.{total-agree, total-most, total-swap, total-digits, total-triples, count-inside, count-past}
 use Rattle.grid.proofs.CellLaws.{digit-high, digit-low}
@@ -134,3 +135,24 @@ module _ (F E G : ℕ) (coords : List ℕ) where
   pub need-by-shots : {cells a : ℕ} (n : ℕ) → n ≡ shotCount coords → cells ≡ G * G * G → a ≡ total n (pairsOf F E G coords) → cells + 1 + a ≡ need F E G coords
   unfolding need
   need-by-shots n e c p = rw (c, p, e, pairs-by-shots)
+
+-- ---- a grid of one cell
+total-ones : (n : ℕ) → total n (λ i. 1) ≡ n
+unfolding total
+total-ones zero = refl
+total-ones (suc n) = omega (arith, total-ones n)
+
+whole-meets : (F c e : ℕ) → c ≤ F → meets (F / 1) 0 c e ≡ true
+unfolding meets
+whole-meets F c e h = rw (le-leb (0 * (F / 1)) (c + e) (omega arith), le-leb c ((0 + 1) * (F / 1)) (omega arith))
+
+-- every shot belongs to it: an entry a shot, and the two starting places
+pub one-cell-need : {F E : ℕ} {coords : List ℕ} → Valid F E 1 coords → need F E 1 coords ≡ shotCount coords + 2
+unfolding need pairs total
+one-cell-need {F} {E} {coords} v = omega (arith, total-agree (shotCount coords) _ _ touched ∙ total-ones (shotCount coords))
+  where
+    touched : (i : ℕ) → i < shotCount coords → bit (touchesCell F 1 0 (shotAt E coords i)) ≡ 1
+    touched i h =
+        let t = shotAt E coords i in
+        let p = stay-at F E coords (v .inside) i h in
+        rw (whole-meets F (t .x) (t .edge) (omega (arith, p .x-in)), whole-meets F (t .y) (t .edge) (omega (arith, p .y-in)), whole-meets F (t .z) (t .edge) (omega (arith, p .z-in)))

@@ -15,6 +15,19 @@ use Rattle.job.specs.Conditions.{Each, Says, First}
 pub apart : {P : Type 0} {r : Refusal} → Refused r ≡ Accepted → P
 apart e = let z : _≡_ {A = ℕ} 0 1 = cc in absurd (omega arith)
 
+-- ---- one test after another
+pub first-here : (t : Test) (ts : List Test) → t .holds ≡ true → Refused (t .gives) ≡ firstOf (t ∷ ts)
+unfolding firstOf
+first-here t ts h = rw h
+
+pub first-next : (t : Test) (ts : List Test) → t .holds ≡ false → {c : Checked} → c ≡ firstOf ts → c ≡ firstOf (t ∷ ts)
+unfolding firstOf
+first-next t ts h e = rw h e
+
+pub first-none : Accepted ≡ firstOf []
+unfolding firstOf
+first-none = refl
+
 -- ---- one list of tests after another
 module _ (us : List Test) where
   pub first-passed : (ts : List Test) → firstOf ts ≡ Accepted → firstOf (ts ++ us) ≡ firstOf us

@@ -1,11 +1,10 @@
--- Tests joined by 'or'. Assumes nothing.
-use mathlib.Core.Path.{_≡_, refl}
-use mathlib.Core.Logic.{_⊎_, inl, inr, ⊎-elim}
-use mathlib.Core.Bool.{Bool, true, false, _||_, true≢false}
+-- Tests, joined by 'or' and 'and', and what they say of numbers. Assumes nothing.
+use mathlib.Core.Path.{_≡_, refl, sym}
+use mathlib.Core.Logic.{_↔_, _⊎_, inl, inr, ⊎-elim}
+use mathlib.Core.Bool.{Bool, true, false, not, _&&_, _||_, true≢false}
 use Prim.Native.Nat.{ℕ, _≤_, _<_}
-use native.Mathlib.Omega.{arith}
-use lib.Dec.{T, ltb, eqb}
-use borrow.Author.Tests.{ltb-true, ltb-false, eqb-true, eqb-false, lt-ltb}
+use lib.Dec.{T, ltb, leb, eqb}
+use borrow.Author.Tests.{ltb-true, ltb-false, leb-true, eqb-true, eqb-false, lt-ltb, le-leb, eq-eqb}
 use Rattle.job.specs.Checking.{outside}
 
 pub or-first : (a b : Bool) → a ≡ true → true ≡ a || b
@@ -60,3 +59,27 @@ settled a b h = go (eqb a b) refl
     go : (t : Bool) → eqb a b ≡ t → a ≡ b
     go true e = eqb-true a b e
     go false e = absurd (h (eqb-false a b e))
+
+-- ---- what a test says
+pub ltb-says : (a b : ℕ) → (ltb a b ≡ true) ↔ (a < b)
+ltb-says a b = (ltb-true a b, lt-ltb a b)
+
+pub leb-says : (a b : ℕ) → (leb a b ≡ true) ↔ (a ≤ b)
+leb-says a b = (leb-true a b, le-leb a b)
+
+pub eqb-says : (a b : ℕ) → (eqb a b ≡ true) ↔ (a ≡ b)
+eqb-says a b = (eqb-true a b, eq-eqb a b)
+
+pub not-says : (a : Bool) {P : Type 0} → (a ≡ true) ↔ P → (not a ≡ true) ↔ (¬ P)
+not-says true s = (λ e. absurd (true≢false (sym e)), λ n. absurd (n (s .0 refl)))
+not-says false s = (λ e p. true≢false (sym (s .1 p)), λ n. refl)
+
+pub or-says : (a b : Bool) {P Q : Type 0} → (a ≡ true) ↔ P → (b ≡ true) ↔ Q → (a || b ≡ true) ↔ (P ⊎ Q)
+or-says a b s t = (λ e. ⊎-elim (λ h. inl (s .0 h)) (λ h. inr (t .0 h)) (or-true a b e), ⊎-elim (λ p. or-true-left a b (s .1 p)) (λ q. or-true-right a b (t .1 q)))
+
+pub and-says : (a b : Bool) {P Q : Type 0} → (a ≡ true) ↔ P → (b ≡ true) ↔ Q → (a && b ≡ true) ↔ (P × Q)
+and-says true b s t = (λ e. (s .0 refl, t .0 e), λ p. t .1 (p .1))
+and-says false b s t = (λ e. absurd (true≢false (sym e)), λ p. absurd (true≢false (sym (s .1 (p .0)))))
+
+pub outside-says : (least most a : ℕ) → (outside least most a ≡ true) ↔ ((a < least) ⊎ (most < a))
+outside-says least most a = (out least most a, is-out least most a)

@@ -5,7 +5,7 @@ use Rattle.job.specs.declared.Place.the-variants.{Byte, Shot, Nowhere}
 use Rattle.job.specs.declared.Checked.{Checked}
 use Rattle.job.specs.declared.Checked.the-variants.{Accepted, Refused}
 use Rattle.job.specs.declared.Refusal.{Refusal}
-use Rattle.job.specs.declared.Refusal.the-variants.{BrokenShot, TooManyShots, NoPlace, UnknownBit, CutShort, FieldRange, EdgeRange, GridRange, OutsideField, ShortWork, ShortListing, ShortFile}
+use Rattle.job.specs.declared.Refusal.the-variants.{BrokenShot, TooManyShots, NoPlace, UnknownBit, CutShort, FieldRange, EdgeRange, GridRange, OutsideField, ShortWork, ShortListing, ShortFile, NotVox, BrokenChunk, VoxelRange}
 
 abbrev pub numberOf : Refusal → ℕ
 numberOf BrokenShot = 1
@@ -20,8 +20,11 @@ numberOf (OutsideField shot) = 9
 numberOf (ShortWork entries) = 10
 numberOf (ShortListing corners) = 11
 numberOf (ShortFile bytes) = 12
+numberOf (NotVox at) = 13
+numberOf (BrokenChunk at) = 14
+numberOf (VoxelRange at) = 15
 
--- a map's place for the reader, the first shot outside, or what would be long enough; 0 otherwise
+-- the place in the file for a reader, the first shot outside, or what would be long enough; 0 otherwise
 abbrev pub detailOf : Refusal → ℕ
 detailOf BrokenShot = 0
 detailOf (TooManyShots at) = at
@@ -35,6 +38,9 @@ detailOf (OutsideField shot) = shot
 detailOf (ShortWork entries) = entries
 detailOf (ShortListing corners) = corners
 detailOf (ShortFile bytes) = bytes
+detailOf (NotVox at) = at
+detailOf (BrokenChunk at) = at
+detailOf (VoxelRange at) = at
 
 -- where a refusal is met: at a byte of a file or at a shot of the list, which its detail names, or nowhere in particular
 abbrev pub metAt : Refusal → Place
@@ -50,6 +56,9 @@ metAt (OutsideField shot) = Shot
 metAt (ShortWork entries) = Nowhere
 metAt (ShortListing corners) = Nowhere
 metAt (ShortFile bytes) = Nowhere
+metAt (NotVox at) = Byte
+metAt (BrokenChunk at) = Byte
+metAt (VoxelRange at) = Byte
 
 -- the numbers that a check answers: 0 and 0 where the list is accepted, else the refusal's number and its detail
 pub record Numbers : Type 0 where

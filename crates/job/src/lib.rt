@@ -41,6 +41,12 @@ pub enum Refusal {
     ShortListing { corners: usize },
     // The byte buffer is shorter than the file of these bytes.
     ShortFile { bytes: usize },
+    // Where the mark of a VOX file or a chunk is required, at `at`, there is another or none.
+    NotVox { at: usize },
+    // The chunk at `at` is cut short, or a size of it overruns or does not match.
+    BrokenChunk { at: usize },
+    // The SIZE chunk at `at` has a side outside its range, or the voxel at `at` is outside SIZE or has colour 0.
+    VoxelRange { at: usize },
 }
 
 // What the checks of a list and its settings find.
@@ -51,7 +57,7 @@ pub enum Checked {
 
 // Where a refusal is met; the refusal's detail says at which one.
 pub enum Place {
-    // At a byte of a file, where the map of the faulty record stands.
+    // At a byte of a file, where the faulty record, mark, chunk or voxel begins.
     Byte,
     // At a shot of the list.
     Shot,
@@ -76,6 +82,9 @@ pub fn number(refusal: Refusal) -> u8
         Refusal::ShortWork { entries: _ } => 10,
         Refusal::ShortListing { corners: _ } => 11,
         Refusal::ShortFile { bytes: _ } => 12,
+        Refusal::NotVox { at: _ } => 13,
+        Refusal::BrokenChunk { at: _ } => 14,
+        Refusal::VoxelRange { at: _ } => 15,
     }
 }
 
@@ -96,6 +105,9 @@ pub fn detail(refusal: Refusal) -> usize
         Refusal::ShortWork { entries } => entries,
         Refusal::ShortListing { corners } => corners,
         Refusal::ShortFile { bytes } => bytes,
+        Refusal::NotVox { at } => at,
+        Refusal::BrokenChunk { at } => at,
+        Refusal::VoxelRange { at } => at,
     }
 }
 
@@ -116,6 +128,9 @@ pub fn met_at(refusal: Refusal) -> Place
         Refusal::ShortWork { entries: _ } => Place::Nowhere,
         Refusal::ShortListing { corners: _ } => Place::Nowhere,
         Refusal::ShortFile { bytes: _ } => Place::Nowhere,
+        Refusal::NotVox { at: _ } => Place::Byte,
+        Refusal::BrokenChunk { at: _ } => Place::Byte,
+        Refusal::VoxelRange { at: _ } => Place::Byte,
     }
 }
 

@@ -3,7 +3,7 @@ use Prim.Native.Nat.{_≤_}
 use native.Mathlib.Omega.{arith}
 use lib.ListN.{length}
 use Rattle.job.specs.declared.Refusal.{Refusal}
-use Rattle.job.specs.declared.Refusal.the-variants.{BrokenShot, TooManyShots, NoPlace, UnknownBit, CutShort, FieldRange, EdgeRange, GridRange, OutsideField, ShortWork, ShortListing, ShortFile}
+use Rattle.job.specs.declared.Refusal.the-variants.{BrokenShot, TooManyShots, NoPlace, UnknownBit, CutShort, FieldRange, EdgeRange, GridRange, OutsideField, ShortWork, ShortListing, ShortFile, NotVox, BrokenChunk, VoxelRange}
 use Rattle.text_wording.specs.Sentences.{sentence}
 
 pub sentence-length : (r : Refusal) → length (sentence r) ≤ 64
@@ -20,3 +20,6 @@ sentence-length (OutsideField shot) = omega arith
 sentence-length (ShortWork entries) = omega arith
 sentence-length (ShortListing corners) = omega arith
 sentence-length (ShortFile bytes) = omega arith
+sentence-length (NotVox at) = omega arith
+sentence-length (BrokenChunk at) = omega arith
+sentence-length (VoxelRange at) = omega arith

@@ -53,5 +53,20 @@ pub fn put_sentence(out: &mut [u8], at: usize, refusal: Refusal) -> usize
             at,
             b"the byte buffer is shorter than the file",
         ),
+        Refusal::NotVox { at: _ } => put_word(
+            out,
+            at,
+            b"no VOX mark of version 150, or not the chunk required here",
+        ),
+        Refusal::BrokenChunk { at: _ } => put_word(
+            out,
+            at,
+            b"this chunk is cut short, or a size of it does not match",
+        ),
+        Refusal::VoxelRange { at: _ } => put_word(
+            out,
+            at,
+            b"a side is not 1 to 256, or a voxel is outside or has colour 0",
+        ),
     }
 }

@@ -114,6 +114,33 @@ slice-aggregate-put-word-12 c = search needs
 put-word-requires-12 : tie.Need-put-word-requires-12
 put-word-requires-12 c κs = search needs
 
+enum-told-13 : tie.Need-enum-told-13
+enum-told-13 c = search needs
+
+slice-aggregate-put-word-13 : tie.Need-slice-aggregate-put-word-13
+slice-aggregate-put-word-13 c = search needs
+
+put-word-requires-13 : tie.Need-put-word-requires-13
+put-word-requires-13 c κs = search needs
+
+enum-told-14 : tie.Need-enum-told-14
+enum-told-14 c = search needs
+
+slice-aggregate-put-word-14 : tie.Need-slice-aggregate-put-word-14
+slice-aggregate-put-word-14 c = search needs
+
+put-word-requires-14 : tie.Need-put-word-requires-14
+put-word-requires-14 c κs = search needs
+
+enum-told-15 : tie.Need-enum-told-15
+enum-told-15 c = search needs
+
+slice-aggregate-put-word-15 : tie.Need-slice-aggregate-put-word-15
+slice-aggregate-put-word-15 c = search needs
+
+put-word-requires-15 : tie.Need-put-word-requires-15
+put-word-requires-15 c κs = search needs
+
 same-length : tie.Need-same-length
 same-length c = search needs
 
@@ -198,6 +225,27 @@ returns-12 : tie.Need-returns-12
 unfolding sentence
 returns-12 c = wrote-as (ap sentence (sym (c .before .before .before .before .before .enum-told12 .given .1))) (c .before .before .put-word12 .ensures)
 
+same-length-13 : tie.Need-same-length-13
+same-length-13 c = search needs
+
+returns-13 : tie.Need-returns-13
+unfolding sentence
+returns-13 c = wrote-as (ap sentence (sym (c .before .before .before .before .before .enum-told13 .given .1))) (c .before .before .put-word13 .ensures)
+
+same-length-14 : tie.Need-same-length-14
+same-length-14 c = search needs
+
+returns-14 : tie.Need-returns-14
+unfolding sentence
+returns-14 c = wrote-as (ap sentence (sym (c .before .before .before .before .before .enum-told14 .given .1))) (c .before .before .put-word14 .ensures)
+
+same-length-15 : tie.Need-same-length-15
+same-length-15 c = search needs
+
+returns-15 : tie.Need-returns-15
+unfolding sentence
+returns-15 c = wrote-as (ap sentence (sym (c .before .before .before .before .before .enum-told15 .given .1))) (c .before .before .put-word15 .ensures)
+
 pub put-sentence-spec : {M : Type 1} → statement M
 put-sentence-spec =
     tie.close
@@ -238,6 +286,15 @@ put-sentence-spec =
     enum-told-12
     slice-aggregate-put-word-12
     put-word-requires-12
+    enum-told-13
+    slice-aggregate-put-word-13
+    put-word-requires-13
+    enum-told-14
+    slice-aggregate-put-word-14
+    put-word-requires-14
+    enum-told-15
+    slice-aggregate-put-word-15
+    put-word-requires-15
     same-length
     returns
     same-length-2
@@ -261,4 +318,10 @@ put-sentence-spec =
     same-length-11
     returns-11
     same-length-12
-    returns-12)
+    returns-12
+    same-length-13
+    returns-13
+    same-length-14
+    returns-14
+    same-length-15
+    returns-15)
