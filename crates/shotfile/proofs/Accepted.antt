@@ -1,5 +1,6 @@
 -- What an answer of `read` or `write` says, by the call's contract: the file that was read and where its list is stored, the list that was
--- written and its file. Assumes nothing.
+-- written and its file. What is stored is said of any call that answers and stores what a file says (`FileRead`), so that it serves files of
+-- another form too. Assumes nothing.
 use mathlib.Core.Path.{_≡_, refl, sym, ap, _∙_}
 use mathlib.Core.List.{List}
 use Prim.Native.Nat.{ℕ, _≤_}
@@ -24,44 +25,74 @@ use Rattle.shotfile.proofs.Shortest.{file-parts}
 use Rattle.shotfile.proofs.Writing.{tests-accepted}
 
 -- ---- reading
--- a file that `read` accepts, and its list in the coordinate slice
-pub record AcceptedFile (s before : List ℕ) (F E G n : ℕ) (after : List ℕ) : Type 0 where
+-- the coordinates of an accepted file are whole shots, and each has its place
+abbrev pub Fits : ℕ → File → Type 0
+Fits places (file f coords) = (length coords ≡ placeOf (shotCount coords)) × (shotCount coords ≤ places)
+Fits places (refused r) = Unit {0}
+
+pub file-fits : (places : ℕ) (s : List ℕ) → Fits places (fileIn places s)
+file-fits places s = go (fileIn places s) refl
+  where
+    go : (k : File) → fileIn places s ≡ k → Fits places k
+    go (file f coords) q = let rest = file-parts s places q .rest in (reads-whole rest, reads-room rest)
+    go (refused r) q = tt
+
+-- what a call that reads a file of any form answers and stores, where k is what the file says
+pub record FileRead (k : File) (before : List ℕ) (r : ReadAnswer) (after : List ℕ) : Type 0 where
+  pub answer : r ≡ readAnswer k
+  pub coordinates : after ≡ readCoords k before
+  pub fits : Fits (shotCount before) k
+
+-- a file that is accepted, and its list in the coordinate slice
+pub record ListStored (k : File) (before : List ℕ) (F E G n : ℕ) (after : List ℕ) : Type 0 where
   pub coords : List ℕ
-  pub is : fileIn (shotCount before) s ≡ file (settingFields F E G) coords
+  pub is : k ≡ file (settingFields F E G) coords
   pub count : n ≡ shotCount coords
   pub room : n ≤ shotCount before
   pub same-length : length after ≡ length before
   pub stored : firstShots n after ≡ coords
 
+pub stored-list : (k : File) {before after : List ℕ} {r : ReadAnswer} → FileRead k before r after → {F E G n : ℕ} → r ≡ Read F E G n → ListStored k before F E G n after
+stored-list (refused p) c {F} {E} {G} {n} e = let u : Unread p ≡ Read F E G n = sym (c .answer) ∙ e in let z : _≡_ {A = ℕ} 0 1 = cc in absurd (omega arith)
+stored-list (file f coords) {before} {after} c {F} {E} {G} {n} e =
+    let u : Read (f .first) (f .second) (f .third) (shotCount coords) ≡ Read F E G n = sym (c .answer) ∙ e in
+    let p₁ : f .first ≡ F = cc in
+    let p₂ : f .second ≡ E = cc in
+    let p₃ : f .third ≡ G = cc in
+    let m : shotCount coords ≡ n = cc in
+    let (whole, room) = c .fits in
+    let is : after ≡ inFront coords before = c .coordinates in
+    let fits : length coords ≤ length before = places-fit coords before whole room in
+    record {
+      coords = coords;
+      is = rw (← p₁, ← p₂, ← p₃);
+      count = sym m;
+      room = omega (arith, m, room);
+      same-length = ap length is ∙ (length-append coords (drop (length coords) before) ∙ omega (arith, length-drop (length coords) before));
+      stored = ap (firstShots n) is ∙ take-at coords (drop (length coords) before) (placeOf n) (whole ∙ rw m);
+    }
+
+-- a file that is refused stores nothing
+pub stored-none : (k : File) {before after : List ℕ} {r : ReadAnswer} → FileRead k before r after → {q : Refusal} → r ≡ Unread q → (k ≡ refused q) × (after ≡ before)
+stored-none (file f coords) c {q} e = let u : Read (f .first) (f .second) (f .third) (shotCount coords) ≡ Unread q = sym (c .answer) ∙ e in let z : _≡_ {A = ℕ} 0 1 = cc in absurd (omega arith)
+stored-none (refused p) c {q} e =
+    let u : Unread p ≡ Unread q = sym (c .answer) ∙ e in
+    let same : p ≡ q = cc in
+    (ap refused same, c .coordinates)
+
+-- a file that `read` accepts
+abbrev pub AcceptedFile : (s before : List ℕ) (F E G n : ℕ) (after : List ℕ) → Type 0
+AcceptedFile s before F E G n after = ListStored (fileIn (shotCount before) s) before F E G n after
+
 module _ {s before after : List ℕ} {r : ReadAnswer} (c : ReadCall s before r after) where
+  pub file-read : FileRead (fileIn (shotCount before) s) before r after
+  file-read = record { answer = c .answer; coordinates = c .coordinates; fits = file-fits (shotCount before) s }
+
   pub accepted-file : {F E G n : ℕ} → r ≡ Read F E G n → AcceptedFile s before F E G n after
-  accepted-file {F} {E} {G} {n} e = go (fileIn (shotCount before) s) refl (sym (c .answer) ∙ e)
-    where
-      go : (k : File) → fileIn (shotCount before) s ≡ k → readAnswer k ≡ Read F E G n → AcceptedFile s before F E G n after
-      go (refused r) q e = let z : _≡_ {A = ℕ} 0 1 = cc in absurd (omega arith)
-      go (file f coords) q e =
-          let p₁ : f .first ≡ F = cc in
-          let p₂ : f .second ≡ E = cc in
-          let p₃ : f .third ≡ G = cc in
-          let m : shotCount coords ≡ n = cc in
-          let rest = file-parts s (shotCount before) q .rest in
-          let is : after ≡ inFront coords before = c .coordinates ∙ ap (λ (k : File). readCoords k before) q in
-          let fits : length coords ≤ length before = places-fit coords before (reads-whole rest) (reads-room rest) in
-          record {
-            coords = coords;
-            is = q ∙ rw (← p₁, ← p₂, ← p₃);
-            count = sym m;
-            room = omega (arith, m, reads-room rest);
-            same-length = ap length is ∙ (length-append coords (drop (length coords) before) ∙ omega (arith, length-drop (length coords) before));
-            stored = ap (firstShots n) is ∙ take-at coords (drop (length coords) before) (placeOf n) (reads-whole rest ∙ rw m);
-          }
+  accepted-file e = stored-list (fileIn (shotCount before) s) file-read e
 
   pub refused-file : {q : Refusal} → r ≡ Unread q → (fileIn (shotCount before) s ≡ refused q) × (after ≡ before)
-  refused-file {q} e = go (fileIn (shotCount before) s) refl (sym (c .answer) ∙ e)
-    where
-      go : (k : File) → fileIn (shotCount before) s ≡ k → readAnswer k ≡ Unread q → (fileIn (shotCount before) s ≡ refused q) × (after ≡ before)
-      go (file f coords) h e = let z : _≡_ {A = ℕ} 0 1 = cc in absurd (omega arith)
-      go (refused p) h e = let same : p ≡ q = cc in (h ∙ ap refused same, c .coordinates ∙ ap (λ (k : File). readCoords k before) h)
+  refused-file e = stored-none (fileIn (shotCount before) s) file-read e
 
 -- ---- writing
 -- a list that `write` accepts, and its file in the byte buffer

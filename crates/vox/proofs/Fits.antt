@@ -1,0 +1,39 @@
+-- The coordinates that a VOX file says are whole shots and have their places, and an accepted file passed the checks. Assumes nothing.
+use mathlib.Core.Path.{_≡_, refl, sym}
+use mathlib.Core.List.{List}
+use Prim.Native.Nat.{ℕ}
+use native.Mathlib.Omega.{arith}
+use Rattle.job.specs.declared.Checked.{Checked}
+use Rattle.job.specs.declared.Checked.the-variants.{Accepted, Refused}
+use Rattle.job.specs.Checking.{firstOf}
+use Rattle.shotfile_records.specs.declared.Fields.{Fields}
+use Rattle.shotfile.specs.Files.{settingFields, File, file}
+use Rattle.shotfile.proofs.Accepted.{Fits}
+use Rattle.vox.specs.Vox.{largestSide, voxelCount, voxels, voxTests, ifPassed, voxIn}
+use Rattle.vox.proofs.Passed.{Passed, passed-has, voxels-count, voxels-whole}
+
+module _ (places : ℕ) (s : List ℕ) where
+  abbrev given : Checked → File
+  given c = ifPassed c (file (settingFields (largestSide s) 1 1) (voxels s 0 (voxelCount s)))
+
+  pub vox-fits : Fits places (voxIn places s)
+  unfolding voxIn
+  vox-fits = go (firstOf (voxTests places s)) refl
+    where
+      go : (c : Checked) → firstOf (voxTests places s) ≡ c → Fits places (given c)
+      go Accepted e = (voxels-whole s 0 (voxelCount s), omega (arith, voxels-count s 0 (voxelCount s), passed-has places s (sym e) .room))
+      go (Refused r) e = tt
+
+  -- an accepted file
+  pub record Accepts (f : Fields) (coords : List ℕ) : Type 0 where
+    pub passed : Passed places s
+    pub settings : f ≡ settingFields (largestSide s) 1 1
+    pub list : coords ≡ voxels s 0 (voxelCount s)
+
+  pub vox-accepted : {f : Fields} {coords : List ℕ} → voxIn places s ≡ file f coords → Accepts f coords
+  unfolding voxIn
+  vox-accepted {f} {coords} e = go (firstOf (voxTests places s)) refl e
+    where
+      go : (c : Checked) → firstOf (voxTests places s) ≡ c → given c ≡ file f coords → Accepts f coords
+      go (Refused r) h k = let z : _≡_ {A = ℕ} 0 1 = cc in absurd (omega arith)
+      go Accepted h k = record { passed = passed-has places s (sym h); settings = let z : settingFields (largestSide s) 1 1 ≡ f = cc in sym z; list = let z : voxels s 0 (voxelCount s) ≡ coords = cc in sym z }

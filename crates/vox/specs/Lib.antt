@@ -1,0 +1,2 @@
+pub mod Vox
+pub mod Conditions
