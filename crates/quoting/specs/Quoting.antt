@@ -1,4 +1,5 @@
 -- What the quoting program prints for a shot file, and what is in the lent slices then: docs/SCOPE.md, the end of 'Jobs with known totals'.
+-- And what is printed for a VOX file: docs/SCOPE.md, 'VOX file'.
 use mathlib.Core.Path.{_≡_}
 use mathlib.Core.List.{List}
 use Prim.Native.Nat.{ℕ}
@@ -9,6 +10,7 @@ use Rattle.job.specs.Refusals.{numberOf, detailOf}
 use Rattle.job.specs.declared.Refusal.{Refusal}
 use Rattle.shotfile.specs.Files.{File, file, refused, fileIn}
 use Rattle.shotfile.specs.Calls.{readCoords}
+use Rattle.vox.specs.Vox.{voxIn}
 use Rattle.measure_intake.specs.Intake.{measureAnswer, workAfter}
 use Rattle.measure_intake.specs.declared.Measured.{Measured}
 use Rattle.measure_intake.specs.declared.Measured.the-variants.{Quote, Refused}
@@ -31,6 +33,10 @@ quotedText (refused r) entries = refusalText r
 unfoldable pub quoteText : List ℕ → ℕ → ℕ → List ℕ
 quoteText bytes places entries = quotedText (fileIn places bytes) entries
 
+-- a VOX file is read in place of a shot file
+unfoldable pub voxText : List ℕ → ℕ → ℕ → List ℕ
+voxText bytes places entries = quotedText (voxIn places bytes) entries
+
 -- the work slice then: the index of the list, if neither the file nor the list is refused
 abbrev pub indexAfter : File → List ℕ → List ℕ
 indexAfter (file f coords) work = workAfter (f .first) (f .second) (f .third) coords work
@@ -47,3 +53,9 @@ pub record FileQuoted (bytes coords work out : List ℕ) (r : ℕ) (coords' work
   pub text : Wrote out out' 0 r (quoteText bytes (shotCount coords) (length work))
   pub coordinates : coords' ≡ readCoords (fileIn (shotCount coords) bytes) coords
   pub index : work' ≡ indexAfter (fileIn (shotCount coords) bytes) work
+
+-- quoting a VOX file: the same of what that says
+pub record VoxQuoted (bytes coords work out : List ℕ) (r : ℕ) (coords' work' out' : List ℕ) : Type 0 where
+  pub text : Wrote out out' 0 r (voxText bytes (shotCount coords) (length work))
+  pub coordinates : coords' ≡ readCoords (voxIn (shotCount coords) bytes) coords
+  pub index : work' ≡ indexAfter (voxIn (shotCount coords) bytes) work

@@ -1,11 +1,12 @@
-// From the bytes of a shot file to the bytes that a program prints: its quote, by specs/Quoting.antt, or its corner listing, by
-// specs/Listing.antt. The programs `quote`, `recount` and `listing` only move these bytes in and out. Stands on `shotfile`, `measure`,
-// `measure_shown` and `text_report`.
+// From the bytes of a shot file or a VOX file to the bytes that a program prints: its quote, by specs/Quoting.antt, or a shot file's corner
+// listing, by specs/Listing.antt. The programs `quote`, `quote_vox`, `recount` and `listing` only move these bytes in and out. Stands on
+// `shotfile`, `vox`, `measure`, `measure_shown` and `text_report`.
 ghost use Prim.Native.Nat.{_≤_};
 ghost use lib.ListN.{length};
 ghost use Rattle.buffer.specs.Wrote.{Wrote};
 ghost use Rattle.measure_intake.specs.Intake.{MeasureCall};
-ghost use Rattle.quoting.specs.Quoting.{refusalText, ListQuoted, FileQuoted};
+ghost use Rattle.quoting.specs.Quoting.{refusalText, ListQuoted, FileQuoted, VoxQuoted};
+ghost use Rattle.quoting.specs.Answered.{ShotsThere, answeredFile, Quoted};
 ghost use Rattle.quoting.specs.Listing.{FileListed};
 use job::Refusal;
 use measure_intake::Measured;
@@ -57,6 +58,33 @@ fn quote_list(
     }
 }
 
+// Goes on from what reading a file answers: measures the list that stands in the coordinates, and puts what is printed to the front.
+fn quote_read(
+    again: bool,
+    read: ReadAnswer,
+    coords: &[u16],
+    work: &mut [u32],
+    out: &mut [u8],
+) -> usize
+    requires { ⌜ 128 ≤ length (now out) ⌝ }
+    requires { ⌜ ShotsThere read (now coords) ⌝ }
+    ensures { λ r. ⌜ Quoted (answeredFile read (now (coords .entry))) (now (work .entry)) (now (out .entry))
+        r (now (work .exit)) (now (out .exit)) ⌝ }
+{
+    match read {
+        ReadAnswer::Read {
+            field,
+            edge,
+            grid,
+            shots,
+        } => {
+            let list = job::shot::first(coords, shots);
+            quote_list(again, field, edge, grid, list, work, out)
+        }
+        ReadAnswer::Refused(refusal) => refuse(out, refusal),
+    }
+}
+
 // Reads a shot file, measures the list that it holds, and puts what is printed to the front.
 fn quote_file(
     again: bool,
@@ -70,18 +98,7 @@ fn quote_file(
         r (now (coords .exit)) (now (work .exit)) (now (out .exit)) ⌝ }
 {
     let read = shotfile::read(bytes, coords);
-    match read {
-        ReadAnswer::Read {
-            field,
-            edge,
-            grid,
-            shots,
-        } => {
-            let list = job::shot::first(coords, shots);
-            quote_list(again, field, edge, grid, list, work, out)
-        }
-        ReadAnswer::Refused(refusal) => refuse(out, refusal),
-    }
+    quote_read(again, read, coords, work, out)
 }
 
 // What the quoting program prints for a shot file, put to the front of a slice of at least 128 bytes. The coordinates and the index of
@@ -101,6 +118,16 @@ pub fn recount(bytes: &[u8], coords: &mut [u16], work: &mut [u32], out: &mut [u8
         r (now (coords .exit)) (now (work .exit)) (now (out .exit)) ⌝ }
 {
     quote_file(true, bytes, coords, work, out)
+}
+
+// What is printed for a VOX file, put to the front in the same way.
+pub fn quote_vox(bytes: &[u8], coords: &mut [u16], work: &mut [u32], out: &mut [u8]) -> usize
+    requires { ⌜ 128 ≤ length (now out) ⌝ }
+    ensures { λ r. ⌜ VoxQuoted (now (bytes .entry)) (now (coords .entry)) (now (work .entry)) (now (out .entry))
+        r (now (coords .exit)) (now (work .exit)) (now (out .exit)) ⌝ }
+{
+    let read = vox::read_vox(bytes, coords);
+    quote_read(false, read, coords, work, out)
 }
 
 // Reads a shot file, measures the list that it holds, and fills the front of the buffer with its corner listing, 7 bytes a corner.
