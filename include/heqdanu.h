@@ -1,7 +1,8 @@
 /* heqdanu.h: cube-shot quotes for C and C++.
  *
  * The calls measure a union of equal axis-aligned cubes ("shots") on a whole-number lattice, list its corner points,
- * file the shots in a grid index, and read and write shot files. They live in target/staticlib/libcapi.a, which `rt staticlib capi` proves and writes:
+ * file the shots in a grid index, read and write shot files, and read the VOX files of a voxel editor. They live in
+ * target/staticlib/libcapi.a, which `rt staticlib capi` proves and writes:
  *
  *     cc program.c -Iinclude target/staticlib/libcapi.a -o program
  *
@@ -39,13 +40,15 @@
 extern "C" {
 #endif
 
-/* Why a call refuses, with the detail that goes with it. A call gives the first of its refusals, in this order, whose
- * condition holds; the reader takes the file record by record, and the first faulty record decides. */
+/* Why a call refuses, with the detail that goes with it. A call on a list gives the first of its refusals, in this
+ * order, whose condition holds. A reader takes its file from front to back, and the first faulty record, chunk or voxel
+ * decides; heqdanu_read_vox tests 13, 14, 2, 3, 15 in this order on one chunk, 2 and 3 before any voxel. */
 enum {
     HEQDANU_ACCEPTED = 0,
     HEQDANU_BROKEN_SHOT = 1,      /* ncoords is not a multiple of 3; 0 */
-    HEQDANU_TOO_MANY_SHOTS = 2,   /* more than 4,096 shots; 0, for the reader the offset of the 4,097th shot's map */
-    HEQDANU_NO_PLACE = 3,         /* no three places left in coords for the shot that begins; its map's offset */
+    HEQDANU_TOO_MANY_SHOTS = 2,   /* more than 4,096 shots; 0, reading the offset of the 4,097th's map, or of XYZI */
+    HEQDANU_NO_PLACE = 3,         /* no three places in coords for the shot that begins; its map's offset; or not three
+                                   * for each voxel; the offset of XYZI */
     HEQDANU_UNKNOWN_BIT = 4,      /* a map has a bit above bit 2; the map's offset */
     HEQDANU_CUT_SHORT = 5,        /* the file ends inside a record, or is empty; that record's map's offset, 0 if empty */
     HEQDANU_FIELD_RANGE = 6,      /* field is out of range; 0 */
@@ -54,7 +57,10 @@ enum {
     HEQDANU_OUTSIDE_FIELD = 9,    /* a shot leaves the field; the first such shot, counted from 0 */
     HEQDANU_SHORT_WORK = 10,      /* the work slice is too short; the entries needed */
     HEQDANU_SHORT_LISTING = 11,   /* the listing is shorter than 7 times the corner count; the corners */
-    HEQDANU_SHORT_FILE = 12       /* the byte buffer is shorter than the file; the bytes needed */
+    HEQDANU_SHORT_FILE = 12,      /* the byte buffer is shorter than the file; the bytes needed */
+    HEQDANU_NOT_VOX = 13,         /* not the mark and version, or a required chunk is missing or another; its offset */
+    HEQDANU_BROKEN_CHUNK = 14,    /* a chunk is cut short, or a size of it overruns or does not match; its offset */
+    HEQDANU_VOXEL_RANGE = 15      /* a side of SIZE not 1 to 256, or a voxel outside SIZE or of colour 0; its offset */
 };
 
 /* Places of `answer`, call by call, and how many a call needs. */
@@ -70,7 +76,7 @@ enum {
     HEQDANU_MEASURE_ANSWER = 6,
     /* heqdanu_index */
     HEQDANU_INDEX_ANSWER = 2,
-    /* heqdanu_read */
+    /* heqdanu_read, heqdanu_read_vox */
     HEQDANU_READ_FIELD = 2,
     HEQDANU_READ_EDGE = 3,
     HEQDANU_READ_GRID = 4,
@@ -146,6 +152,28 @@ uint8_t heqdanu_index(uint16_t field, uint16_t edge, uint16_t grid, const uint16
  */
 uint8_t heqdanu_read(const uint8_t *bytes, size_t nbytes, uint16_t *coords, size_t ncoords, uint64_t *answer,
                      size_t nanswer);
+
+/* Reads a VOX file of the voxel editor MagicaVoxel: each voxel is a shot of edge 1, in file order.
+ *
+ * answer: number, detail, field (the largest side of SIZE), edge 1, grid 1, number of voxels. Every such list is
+ * accepted by the calls that take one, and its index needs the number of voxels and 2 more work entries.
+ *
+ * The file is the mark `VOX ` and version 150, then the chunk MAIN without content, whose children are the rest of the
+ * file: SIZE, XYZI, and any others, which are skipped with their children. A chunk is a name of four bytes, the sizes
+ * of its content and of its children, and then both. SIZE holds three sides of 1 to 256; XYZI holds a count and four
+ * bytes a voxel: x, y, z, each below the side of its axis, and a colour, which is not 0. These two have no children.
+ * Numbers have 32 bits, least byte first.
+ *
+ * `coords` takes three numbers a voxel; 12,288 places are enough for every file.
+ *
+ * Refusals: 13, 14, 2, 3, 15, in this order on one chunk. 13 is for a wrong or cut mark or version (detail 0), or where
+ * MAIN, SIZE or XYZI is required no byte or another name; 1 to 3 bytes there are 14. 2 and 3 are for the whole of XYZI
+ * and have its offset. A chunk after XYZI is looked at after all voxels.
+ * After success `coords` holds the voxels in its first places, later places keep their values. After a refusal `coords`
+ * is as it was.
+ */
+uint8_t heqdanu_read_vox(const uint8_t *bytes, size_t nbytes, uint16_t *coords, size_t ncoords, uint64_t *answer,
+                         size_t nanswer);
 
 /* Writes the shortest shot file of a list.
  *

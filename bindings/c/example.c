@@ -1,4 +1,5 @@
-/* Two overlapping cubes, measured, listed, written as a shot file and read back.
+/* Two overlapping cubes, measured, listed, written as a shot file and read back; then a VOX file of two voxels, read
+ * and measured.
  *
  *     cc example.c -I../../include ../../target/staticlib/libcapi.a -o example
  */
@@ -7,6 +8,14 @@
 #include <inttypes.h>
 #include <stdio.h>
 #include <stdlib.h>
+
+/* A VOX file: SIZE 2 x 1 x 3, and in XYZI the voxels (1, 0, 2) and (0, 0, 0). */
+static const uint8_t vox[] = {
+    'V', 'O', 'X', ' ', 150, 0, 0, 0,
+    'M', 'A', 'I', 'N', 0, 0, 0, 0, 48, 0, 0, 0,
+    'S', 'I', 'Z', 'E', 12, 0, 0, 0, 0, 0, 0, 0, 2, 0, 0, 0, 1, 0, 0, 0, 3, 0, 0, 0,
+    'X', 'Y', 'Z', 'I', 12, 0, 0, 0, 0, 0, 0, 0, 2, 0, 0, 0, 1, 0, 2, 1, 0, 0, 0, 255
+};
 
 /* Ends the program unless the call wrote its answer and accepted. */
 static void expect(const char *call, uint8_t written, const uint64_t *answer)
@@ -60,6 +69,16 @@ int main(void)
     expect("read", heqdanu_read(file, length, back, 12, answer, HEQDANU_ANSWER), answer);
     printf("read back: field %" PRIu64 ", edge %" PRIu64 ", grid %" PRIu64 ", %" PRIu64 " shots\n", answer[2],
            answer[3], answer[4], answer[5]);
+
+    /* Each voxel is a shot of edge 1; the index needs two entries more than there are voxels. */
+    expect("read_vox", heqdanu_read_vox(vox, sizeof vox, back, 12, answer, HEQDANU_ANSWER), answer);
+    uint16_t side = (uint16_t)answer[2];
+    printf("VOX file: field %" PRIu64 ", edge %" PRIu64 ", grid %" PRIu64 ", %" PRIu64 " voxels\n", answer[2],
+           answer[3], answer[4], answer[5]);
+    size_t voxels = answer[5];
+    expect("measure", heqdanu_measure(side, 1, 1, back, 3 * voxels, work, voxels + 2, answer, HEQDANU_ANSWER), answer);
+    printf("its volume %" PRIu64 ", area %" PRIu64 ", edge %" PRIu64 ", corners %" PRIu64 "\n", answer[2], answer[3],
+           answer[4], answer[5]);
     free(work);
     return 0;
 }

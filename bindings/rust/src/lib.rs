@@ -1,9 +1,9 @@
 //! Cube-shot quotes: volume, area, edge length and corner points of a union of equal axis-aligned cubes on a
-//! whole-number lattice, and the shot files that hold such lists.
+//! whole-number lattice, the shot files that hold such lists, and the VOX files of a voxel editor.
 //!
 //! The work is done by the proved library `libcapi.a`; this crate turns its calls into safe functions. [`measure`],
-//! [`list`], [`recount`], [`index`], [`read`] and [`write`] use buffers that the caller lends and allocate nothing;
-//! [`quote`], [`corners`], [`from_file`] and [`to_file`] allocate what they need.
+//! [`list`], [`recount`], [`index`], [`read`], [`read_vox`] and [`write`] use buffers that the caller lends and
+//! allocate nothing; [`quote`], [`corners`], [`from_file`], [`from_vox`] and [`to_file`] allocate what they need.
 //!
 //! ```
 //! use heqdanu::{quote, List, Totals};
@@ -53,7 +53,7 @@ pub struct Totals {
     pub corners: u64,
 }
 
-/// What a shot file's header says, and how many shots follow it.
+/// What a shot file's header says, and how many shots follow it; or the same of a VOX file.
 #[derive(Clone, Copy, Debug, PartialEq, Eq)]
 pub struct Header {
     /// The field side.
@@ -150,17 +150,22 @@ fn answer_of<const N: usize>(call: raw::Indexing, list: &List, work: &mut [u32])
 /// Reads a shot file. Success stores the shots in the first places of `coords`; nothing else changes. Ranges are not
 /// tested here.
 pub fn read(bytes: &[u8], coords: &mut [u16]) -> Result<Header, Refusal> {
+    read_by(raw::heqdanu_read, bytes, coords)
+}
+
+/// Reads a VOX file of the voxel editor MagicaVoxel. Success stores each voxel as a shot, in file order, in the first
+/// places of `coords`; nothing else changes. The header has the largest side as field, edge 1 and grid 1; every such
+/// list is accepted, and its index needs two work entries more than there are shots.
+pub fn read_vox(bytes: &[u8], coords: &mut [u16]) -> Result<Header, Refusal> {
+    read_by(raw::heqdanu_read_vox, bytes, coords)
+}
+
+/// Reads a file by one of the calls that do.
+fn read_by(call: raw::Reading, bytes: &[u8], coords: &mut [u16]) -> Result<Header, Refusal> {
     let mut answer = [0; 6];
     // SAFETY: each pointer comes from a slice with the length beside it, and no two of them overlap.
     let written = unsafe {
-        raw::heqdanu_read(
-            bytes.as_ptr(),
-            bytes.len(),
-            coords.as_mut_ptr(),
-            coords.len(),
-            answer.as_mut_ptr(),
-            answer.len(),
-        )
+        call(bytes.as_ptr(), bytes.len(), coords.as_mut_ptr(), coords.len(), answer.as_mut_ptr(), answer.len())
     };
     let [field, edge, grid, shots] = numbers(written, answer)?;
     Ok(Header { field: field as u16, edge: edge as u16, grid: grid as u16, shots: shots as usize })
@@ -221,8 +226,21 @@ pub fn records(listing: &[u8]) -> impl Iterator<Item = Corner> + '_ {
 
 /// What a shot file holds: its header and its shots' coordinates.
 pub fn from_file(bytes: &[u8]) -> Result<(Header, Vec<u16>), Refusal> {
+    held(read, bytes)
+}
+
+/// What a VOX file holds: its header and its voxels' coordinates.
+pub fn from_vox(bytes: &[u8]) -> Result<(Header, Vec<u16>), Refusal> {
+    held(read_vox, bytes)
+}
+
+/// What a file holds, by its reader.
+fn held(
+    reader: impl Fn(&[u8], &mut [u16]) -> Result<Header, Refusal>,
+    bytes: &[u8],
+) -> Result<(Header, Vec<u16>), Refusal> {
     let mut coords = vec![0; MOST_COORDS];
-    let header = read(bytes, &mut coords)?;
+    let header = reader(bytes, &mut coords)?;
     coords.truncate(3 * header.shots);
     Ok((header, coords))
 }

@@ -4,6 +4,9 @@
 /// `heqdanu_index`.
 pub type Indexing = unsafe extern "C" fn(u16, u16, u16, *const u16, usize, *mut u32, usize, *mut u64, usize) -> u8;
 
+/// The calls that read a file into a coordinate slice: `heqdanu_read` and `heqdanu_read_vox`.
+pub type Reading = unsafe extern "C" fn(*const u8, usize, *mut u16, usize, *mut u64, usize) -> u8;
+
 #[allow(missing_docs)]
 extern "C" {
     pub fn heqdanu_measure(
@@ -57,6 +60,15 @@ extern "C" {
     ) -> u8;
 
     pub fn heqdanu_read(
+        bytes: *const u8,
+        nbytes: usize,
+        coords: *mut u16,
+        ncoords: usize,
+        answer: *mut u64,
+        nanswer: usize,
+    ) -> u8;
+
+    pub fn heqdanu_read_vox(
         bytes: *const u8,
         nbytes: usize,
         coords: *mut u16,

@@ -3,14 +3,16 @@
 use std::error::Error;
 use std::fmt;
 
-/// The twelve reasons, in the order in which a call tests them; a call gives the first that holds.
+/// The fifteen reasons, in the order in which a call on a list tests them; it gives the first that holds. A reader
+/// takes its file from front to back, [`read_vox`](crate::read_vox) with 13, 14, 2, 3, 15 in this order on one chunk.
 #[derive(Clone, Copy, Debug, PartialEq, Eq, Hash, PartialOrd, Ord)]
 pub enum Reason {
     /// 1: the coordinates' count is not a multiple of three.
     BrokenShot = 1,
-    /// 2: more than 4,096 shots. The reader's detail is the offset of the map of the first shot too many.
+    /// 2: more than 4,096 shots. A reader's detail is the offset of the map of the first shot too many, or of XYZI.
     TooManyShots,
-    /// 3: the coordinate slice lacks three places for the shot that begins; the offset of its map.
+    /// 3: the coordinate slice lacks three places for the shot that begins, or for each voxel; the offset of its map,
+    /// or of XYZI.
     NoPlace,
     /// 4: a map has a bit that has no meaning; the offset of the map.
     UnknownBit,
@@ -30,10 +32,16 @@ pub enum Reason {
     ShortListing,
     /// 12: the byte buffer is shorter than the file; the bytes needed.
     ShortFile,
+    /// 13: no VOX mark of version 150, or no chunk or another where one is required; the offset of the mark or chunk.
+    NotVox,
+    /// 14: a chunk is cut short, or a size of it overruns or does not match; the chunk's offset.
+    BrokenChunk,
+    /// 15: a side is outside 1 to 256, the offset of SIZE; or a voxel is outside SIZE or has colour 0, its offset.
+    VoxelRange,
 }
 
 impl Reason {
-    const ALL: [Reason; 12] = [
+    const ALL: [Reason; 15] = [
         Reason::BrokenShot,
         Reason::TooManyShots,
         Reason::NoPlace,
@@ -46,9 +54,12 @@ impl Reason {
         Reason::ShortWork,
         Reason::ShortListing,
         Reason::ShortFile,
+        Reason::NotVox,
+        Reason::BrokenChunk,
+        Reason::VoxelRange,
     ];
 
-    /// The refusal's number, 1 to 12.
+    /// The refusal's number, 1 to 15.
     pub fn number(self) -> u64 {
         self as u64
     }
@@ -67,6 +78,9 @@ impl Reason {
             Reason::ShortWork => "the work slice is too short, the entries needed being",
             Reason::ShortListing => "the listing is too short, the corners being",
             Reason::ShortFile => "the byte buffer is too short, the bytes needed being",
+            Reason::NotVox => "there is no VOX mark of version 150, or not the chunk required, at byte",
+            Reason::BrokenChunk => "a chunk is cut short, or a size of it does not match, at byte",
+            Reason::VoxelRange => "a side is outside 1 to 256, or a voxel is outside or has colour 0, at byte",
         }
     }
 }
@@ -93,7 +107,9 @@ impl fmt::Display for Refusal {
     fn fmt(&self, f: &mut fmt::Formatter<'_>) -> fmt::Result {
         f.write_str(self.reason.words())?;
         match self.reason {
-            Reason::BrokenShot | Reason::TooManyShots | Reason::FieldRange | Reason::EdgeRange | Reason::GridRange => Ok(()),
+            Reason::BrokenShot | Reason::TooManyShots | Reason::FieldRange | Reason::EdgeRange | Reason::GridRange => {
+                Ok(())
+            }
             _ => write!(f, " {}", self.detail),
         }
     }

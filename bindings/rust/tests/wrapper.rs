@@ -1,13 +1,20 @@
 //! The wrapper on the request's examples: totals, corners, files, and each refusal that a caller can meet.
 
 use heqdanu::{
-    corners, from_file, index, list, measure, quote, read, recount, to_file, work_needed, write, Corner, Header, List,
-    Reason, Refusal, Totals,
+    corners, from_file, from_vox, index, list, measure, quote, read, read_vox, recount, to_file, work_needed, write,
+    Corner, Header, List, Reason, Refusal, Totals,
 };
 
 const TWO: List = List { field: 8, edge: 2, grid: 2, coords: &[0, 0, 0, 1, 1, 1] };
 const TWO_TOTALS: Totals = Totals { volume: 15, area: 42, edge: 48, corners: 20 };
 const TWO_FILE: [u8; 15] = [7, 8, 0, 2, 0, 2, 0, 0, 7, 1, 0, 1, 0, 1, 0];
+
+/// A VOX file of two voxels, sides 2, 1, 3, and a chunk that is skipped with its child.
+const VOX: [u8; 94] = *b"VOX \x96\0\0\0\
+    MAIN\0\0\0\0\x4a\0\0\0\
+    SIZE\x0c\0\0\0\0\0\0\0\x02\0\0\0\x01\0\0\0\x03\0\0\0\
+    XYZI\x0c\0\0\0\0\0\0\0\x02\0\0\0\x01\0\x02\x01\0\0\0\xff\
+    nTRN\x02\0\0\0\x0c\0\0\0abnote\0\0\0\0\0\0\0\0";
 
 fn refused<T>(reason: Reason, detail: u64) -> Result<T, Refusal> {
     Err(Refusal { reason, detail })
@@ -76,10 +83,58 @@ fn refusals() {
 }
 
 #[test]
+fn vox_files() {
+    let header = Header { field: 3, edge: 1, grid: 1, shots: 2 };
+    let mut coords = [9; 8];
+    assert_eq!(read_vox(&VOX, &mut coords), Ok(header));
+    assert_eq!(coords, [1, 0, 2, 0, 0, 0, 9, 9]);
+    let (header, coords) = from_vox(&VOX).unwrap();
+    let list = List { field: header.field, edge: header.edge, grid: header.grid, coords: &coords };
+    assert_eq!(work_needed(&list), Ok(4));
+    assert_eq!(quote(&list), Ok(Totals { volume: 2, area: 12, edge: 24, corners: 16 }));
+}
+
+#[test]
+fn refusals_of_vox_files() {
+    // Each is the file with one byte changed, with so many places.
+    for (place, byte, places, reason, detail) in [
+        (0, b'v', 6, Reason::NotVox, 0),
+        (4, 151, 6, Reason::NotVox, 0),
+        (8, b'm', 6, Reason::NotVox, 8),
+        (16, 0x4b, 6, Reason::BrokenChunk, 8),
+        (47, b'X', 6, Reason::NotVox, 44),
+        (52, 1, 6, Reason::BrokenChunk, 44),
+        (56, 1, 0, Reason::BrokenChunk, 44),
+        (63, 0, 5, Reason::NoPlace, 44),
+        (36, 0, 6, Reason::VoxelRange, 20),
+        (62, 3, 6, Reason::VoxelRange, 60),
+        (67, 0, 6, Reason::VoxelRange, 64),
+        (72, 3, 6, Reason::BrokenChunk, 68),
+    ] {
+        let mut file = VOX;
+        file[place] = byte;
+        let mut coords = vec![9; places];
+        assert_eq!(read_vox(&file, &mut coords), refused(reason, detail), "byte {byte} at {place}");
+        assert_eq!(coords, vec![9; places]);
+    }
+    assert_eq!(from_vox(&TWO_FILE), refused(Reason::NotVox, 0));
+    assert_eq!(from_file(&VOX), refused(Reason::UnknownBit, 0));
+    let mut crowded = VOX[..60].to_vec();
+    crowded.resize(60 + 4 * 4097, 0);
+    for (place, number) in [(16, 40 + 4 * 4097), (48, 4 + 4 * 4097), (56, 4097u32)] {
+        crowded[place..place + 4].copy_from_slice(&number.to_le_bytes());
+    }
+    assert_eq!(read_vox(&crowded, &mut [0; 20_000]), refused(Reason::TooManyShots, 44));
+}
+
+#[test]
 fn a_refusal_in_words() {
     let refusal = Refusal { reason: Reason::ShortWork, detail: 17 };
     assert_eq!(refusal.to_string(), "the work slice is too short, the entries needed being 17");
     assert_eq!(refusal.reason.number(), 10);
     let refusal = Refusal { reason: Reason::GridRange, detail: 0 };
     assert!(refusal.to_string().ends_with("does not divide the field side"));
+    let refusal = Refusal { reason: Reason::BrokenChunk, detail: 44 };
+    assert_eq!(refusal.to_string(), "a chunk is cut short, or a size of it does not match, at byte 44");
+    assert_eq!([Reason::NotVox.number(), Reason::VoxelRange.number()], [13, 15]);
 }

@@ -19,8 +19,9 @@ use Rattle.shotfile.specs.Files.{File, file, refused, fileIn, fileOf}
 use Rattle.buffer.specs.Wrote.{inFront}
 use Rattle.shotfile.specs.Calls.{readNumbers, readValues, readCoords, writtenNumbers, writeTests, ifWritten, writeValues, writeBytes, ReadCall, WriteCall}
 use Rattle.shotfile.specs.declared.reader.ReadAnswer.{ReadAnswer}
+use Rattle.vox.specs.Vox.{voxIn, VoxCall}
 use Rattle.shotfile.specs.declared.writer.WriteAnswer.{WriteAnswer}
-use Rattle.capi.specs.Answered.{indexPlaces, measurePlaces, fits, Told, ifTold, IndexTold, MeasureTold, ListTold, ReadTold, WriteTold}
+use Rattle.capi.specs.Answered.{indexPlaces, measurePlaces, fits, Told, ifTold, IndexTold, MeasureTold, ListTold, ReadTold, VoxTold, WriteTold}
 
 -- ---- stores
 pub two-stored : (l : List ℕ) (a b : ℕ) → 2 ≤ length l → set (set l 0 a) 1 b ≡ inFront (a ∷ b ∷ []) l
@@ -124,19 +125,27 @@ module _ {F E G : ℕ} {coords work : List ℕ} (answer : List ℕ) where
         listing = done-is n refl answer h (listingAfter F E G coords (length work) buffer) buffer (call .listing);
       }
 
+-- a file that says f, whatever its form
+module _ (f : File) (coords answer : List ℕ) where
+  file-untold : length answer < 6 → Told (readValues f) answer 0 answer × (coords ≡ ifTold (readValues f) answer (readCoords f coords) coords)
+  file-untold h = (untold (readValues f) (read-six f) answer h, kept (readValues f) (read-six f) answer h (readCoords f coords) coords)
+
+  file-told : {put coords' answer' : List ℕ} → 6 ≤ length answer → put ≡ readValues f → coords' ≡ readCoords f coords → answer' ≡ inFront put answer
+      → Told (readValues f) answer 1 answer' × (coords' ≡ ifTold (readValues f) answer (readCoords f coords) coords)
+  file-told h n c e = (told (readValues f) (read-six f) answer h e n, done-is (readValues f) (read-six f) answer h (readCoords f coords) coords c)
+
 module _ {bytes coords : List ℕ} (answer : List ℕ) where
   pub read-untold : length answer < 6 → ReadTold bytes coords answer 0 coords answer
-  read-untold h =
-      let f = fileIn (shotCount coords) bytes in
-      record { told = untold (readValues f) (read-six f) answer h; coordinates = kept (readValues f) (read-six f) answer h (readCoords f coords) coords }
+  read-untold h = let (t, c) = file-untold (fileIn (shotCount coords) bytes) coords answer h in record { told = t; coordinates = c }
 
   pub read-told : {a : ReadAnswer} {coords' answer' : List ℕ} → 6 ≤ length answer → ReadCall bytes coords a coords' → answer' ≡ inFront (readNumbers a) answer → ReadTold bytes coords answer 1 coords' answer'
-  read-told h call e =
-      let f = fileIn (shotCount coords) bytes in
-      record {
-        told = told (readValues f) (read-six f) answer h e (call .numbers);
-        coordinates = done-is (readValues f) (read-six f) answer h (readCoords f coords) coords (call .coordinates);
-      }
+  read-told h call e = let (t, c) = file-told (fileIn (shotCount coords) bytes) coords answer h (call .numbers) (call .coordinates) e in record { told = t; coordinates = c }
+
+  pub vox-untold : length answer < 6 → VoxTold bytes coords answer 0 coords answer
+  vox-untold h = let (t, c) = file-untold (voxIn (shotCount coords) bytes) coords answer h in record { told = t; coordinates = c }
+
+  pub vox-told : {a : ReadAnswer} {coords' answer' : List ℕ} → 6 ≤ length answer → VoxCall bytes coords a coords' → answer' ≡ inFront (readNumbers a) answer → VoxTold bytes coords answer 1 coords' answer'
+  vox-told h call e = let (t, c) = file-told (voxIn (shotCount coords) bytes) coords answer h (call .numbers) (call .coordinates) e in record { told = t; coordinates = c }
 
 module _ {F E G : ℕ} {coords bytes : List ℕ} (answer : List ℕ) where
   pub write-untold : length answer < 3 → WriteTold F E G coords bytes answer 0 bytes answer

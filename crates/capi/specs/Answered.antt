@@ -14,6 +14,7 @@ use Rattle.measure.specs.Answers.{listNumbers, listingAfter}
 use Rattle.shotfile.specs.Files.{fileIn}
 use Rattle.buffer.specs.Wrote.{inFront}
 use Rattle.shotfile.specs.Calls.{readValues, readCoords, writeValues, writeBytes}
+use Rattle.vox.specs.Vox.{voxIn}
 
 -- ---- numbers in the order of their places
 -- of the index: the refusal's number and detail, 0 and 0 where there is none
@@ -51,6 +52,9 @@ listTells F E G coords work buffer = measurePlaces (listNumbers F E G coords (le
 abbrev pub readTells : List ℕ → List ℕ → List ℕ
 readTells bytes coords = readValues (fileIn (shotCount coords) bytes)
 
+abbrev pub voxTells : List ℕ → List ℕ → List ℕ
+voxTells bytes coords = readValues (voxIn (shotCount coords) bytes)
+
 abbrev pub writeTells : ℕ → ℕ → ℕ → List ℕ → List ℕ → List ℕ
 writeTells F E G coords bytes = writeValues F E G coords (length bytes)
 
@@ -75,6 +79,11 @@ pub record ListTold (F E G : ℕ) (coords work buffer answer : List ℕ) (r : �
 pub record ReadTold (bytes coords answer : List ℕ) (r : ℕ) (coords' answer' : List ℕ) : Type 0 where
   pub told : Told (readTells bytes coords) answer r answer'
   pub coordinates : coords' ≡ ifTold (readTells bytes coords) answer (readCoords (fileIn (shotCount coords) bytes) coords) coords
+
+-- `heqdanu_read_vox`
+pub record VoxTold (bytes coords answer : List ℕ) (r : ℕ) (coords' answer' : List ℕ) : Type 0 where
+  pub told : Told (voxTells bytes coords) answer r answer'
+  pub coordinates : coords' ≡ ifTold (voxTells bytes coords) answer (readCoords (voxIn (shotCount coords) bytes) coords) coords
 
 -- `heqdanu_write`
 pub record WriteTold (F E G : ℕ) (coords bytes answer : List ℕ) (r : ℕ) (bytes' answer' : List ℕ) : Type 0 where

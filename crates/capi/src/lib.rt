@@ -1,6 +1,6 @@
 // The calls for C and Rust: numbers and slices only. include/heqdanu.h describes them for their users.
 // Each answer goes, as numbers, into a lent slice whose length is checked: specs/Answered.antt. Stands on `measure`,
-// `measure_cells` and `shotfile`.
+// `measure_cells`, `shotfile` and `vox`.
 pub mod places;
 
 ghost use mathlib.Core.Path.{_≡_};
@@ -11,7 +11,7 @@ ghost use Rattle.job.specs.Refusals.{checkedNumbers};
 ghost use Rattle.measure_intake.specs.Intake.{measuredNumbers};
 ghost use Rattle.buffer.specs.Wrote.{inFront};
 ghost use Rattle.shotfile.specs.Calls.{readNumbers, writtenNumbers};
-ghost use Rattle.capi.specs.Answered.{indexPlaces, measurePlaces, IndexTold, MeasureTold, ListTold, ReadTold, WriteTold};
+ghost use Rattle.capi.specs.Answered.{indexPlaces, measurePlaces, IndexTold, MeasureTold, ListTold, ReadTold, VoxTold, WriteTold};
 use crate::places::AREA;
 use crate::places::CORNERS;
 use crate::places::DETAIL;
@@ -235,6 +235,20 @@ pub extern "C" fn heqdanu_read(bytes: &[u8], coords: &mut [u16], answer: &mut [u
         return 0;
     }
     let read = shotfile::read(bytes, coords);
+    put_read(answer, read);
+    1
+}
+
+// Reads a VOX file: see `vox::read_vox`. The numbers as in reading a shot file.
+#[no_mangle]
+pub extern "C" fn heqdanu_read_vox(bytes: &[u8], coords: &mut [u16], answer: &mut [u64]) -> u8
+    ensures { λ r. ⌜ VoxTold (now (bytes .entry)) (now (coords .entry)) (now (answer .entry))
+        r (now (coords .exit)) (now (answer .exit)) ⌝ }
+{
+    if answer.len() < READ_ANSWER {
+        return 0;
+    }
+    let read = vox::read_vox(bytes, coords);
     put_read(answer, read);
     1
 }

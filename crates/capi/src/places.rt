@@ -20,7 +20,7 @@ pub const MEASURE_ANSWER: usize = 6;
 // The index alone.
 pub const INDEX_ANSWER: usize = 2;
 
-// Reading.
+// Reading a shot file or a VOX file.
 pub const READ_FIELD: usize = 2;
 
 pub const READ_EDGE: usize = 3;
