@@ -8,6 +8,7 @@
 #include <algorithm>
 #include <cstddef>
 #include <cstdint>
+#include <cstring>
 #include <initializer_list>
 #include <vector>
 
@@ -210,7 +211,7 @@ inline Measured sums(const uint8_t *listing, size_t corners) {
     return result;
 }
 
-// What a shot file holds, or why it is refused.
+// What a file holds, or why it is refused. The header begins as what absent fields of a shot file mean.
 struct File {
     Refusal refusal = {0, 0};
     uint16_t header[3] = {1024, 16, 8};
@@ -244,6 +245,60 @@ inline File read(const uint8_t *bytes, size_t nbytes, size_t places) {
         file.coords.insert(file.coords.end(), previous, previous + 3);
         shots++;
     }
+    return file;
+}
+
+// A number of a VOX file: 32 bits, least byte first.
+inline uint64_t vox_number(const uint8_t *bytes, uint64_t at) {
+    return bytes[at] | uint64_t(bytes[at + 1]) << 8 | uint64_t(bytes[at + 2]) << 16 | uint64_t(bytes[at + 3]) << 24;
+}
+
+// What is wrong with the head of the chunk that a VOX file must have at a place, which is not past its end; 0: nothing.
+inline uint64_t head_fault(const uint8_t *bytes, uint64_t nbytes, uint64_t at, const char *name) {
+    uint64_t left = nbytes - at;
+    bool named = left < 4 || memcmp(bytes + at, name, 4) == 0;
+    return left == 0 || !named ? 13 : left < 12 ? 14 : 0;
+}
+
+// A VOX file has SIZE at 20 and XYZI at 44, or is refused before that matters.
+inline File read_vox(const uint8_t *bytes, size_t nbytes, size_t places) {
+    auto refuse = [](uint64_t number, uint64_t at) {
+        File refused;
+        refused.refusal = {number, at};
+        return refused;
+    };
+    auto number = [&](uint64_t at) { return vox_number(bytes, at); };
+    auto fault = [&](uint64_t at, const char *name) { return head_fault(bytes, nbytes, at, name); };
+    if (nbytes < 8 || memcmp(bytes, "VOX ", 4) != 0 || number(4) != 150) return refuse(13, 0);
+    if (uint64_t found = fault(8, "MAIN")) return refuse(found, 8);
+    if (number(12) != 0 || 20 + number(16) != nbytes) return refuse(14, 8);
+    if (uint64_t found = fault(20, "SIZE")) return refuse(found, 20);
+    if (number(24) != 12 || number(28) != 0 || nbytes < 44) return refuse(14, 20);
+    uint64_t sides[3] = {number(32), number(36), number(40)};
+    for (uint64_t side : sides)
+        if (side < 1 || side > 256) return refuse(15, 20);
+    if (uint64_t found = fault(44, "XYZI")) return refuse(found, 44);
+    if (number(52) != 0 || nbytes < 60) return refuse(14, 44);
+    uint64_t count = number(56), end = 60 + 4 * count;
+    if (number(48) < 4 || number(48) != 4 + 4 * count || end > nbytes) return refuse(14, 44);
+    if (count > 4096) return refuse(2, 44);
+    if (places < 3 * count) return refuse(3, 44);
+    File file;
+    for (uint64_t at = 60; at < end; at += 4) {
+        for (int axis = 0; axis < 3; axis++) {
+            if (bytes[at + uint64_t(axis)] >= sides[axis]) return refuse(15, at);
+            file.coords.push_back(bytes[at + uint64_t(axis)]);
+        }
+        if (bytes[at + 3] == 0) return refuse(15, at);
+    }
+    while (end < nbytes) {
+        if (nbytes - end < 12) return refuse(14, end);
+        uint64_t next = end + 12 + number(end + 4) + number(end + 8);
+        if (next > nbytes) return refuse(14, end);
+        end = next;
+    }
+    file.header[0] = uint16_t(std::max({sides[0], sides[1], sides[2]}));
+    file.header[1] = file.header[2] = 1;
     return file;
 }
 

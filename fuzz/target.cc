@@ -1,7 +1,8 @@
 // The fuzz target: calls of heqdanu.h on any bytes, held to a brute-force oracle.
 //
-// The input's first six bytes choose the buffers' lengths and how the list is made; the rest is a shot file. The file is
-// read; the list that it holds, as it is or squeezed into a small field, goes through measure, recount, index, list and
+// The input's first six bytes choose the buffers' lengths and how the list is made; the rest is a file. It is read as a
+// VOX file, with MAIN's size put right or a voxel repeated past 4,096 times where that is chosen, and as a shot file;
+// the list that it holds, as it is or squeezed into a small field, goes through measure, recount, index, list and
 // write. Answers and every place of every buffer must be the oracle's. Lists whose cells are too many to count here are
 // held to what the calls say of each other: a listing's sums give the totals, and what is written reads back.
 //
@@ -28,7 +29,7 @@ const uint8_t *input;
 size_t input_length;
 
 [[noreturn]] void fail(const char *call, const char *what) {
-    fprintf(stderr, "fault: %s: %s\nshot file:", call, what);
+    fprintf(stderr, "fault: %s: %s\nfile:", call, what);
     for (size_t at = 6; at < input_length; at++) fprintf(stderr, " %02x", input[at]);
     fprintf(stderr, "\nchosen by:");
     for (size_t at = 0; at < 6 && at < input_length; at++) fprintf(stderr, " %02x", input[at]);
@@ -112,25 +113,60 @@ bool expect_answer(size_t places, oracle::Refusal refusal, std::initializer_list
 
 size_t answer_places(uint8_t choice) { return choice < 200 ? 6 : choice % 10; }
 
+typedef uint8_t (*Read)(const uint8_t *, size_t, uint16_t *, size_t, uint64_t *, size_t);
+typedef oracle::File (*Reading)(const uint8_t *, size_t, size_t);
+
 // Reads the file with the library, holds it to the oracle, and gives what the file holds.
-oracle::File read(const uint8_t *file, size_t length, const uint8_t *choice) {
+oracle::File read(const char *call, Read library, Reading reading, const std::vector<uint8_t> &file,
+                  const uint8_t *choice) {
     Buffers &lent = buffers();
-    size_t places = choice[0] < 128 ? 3 * length : choice[0] % 64;
-    lent.bytes.lend(length, 0);
-    if (length > 0) memcpy(lent.bytes.places, file, lent.bytes.length);
+    size_t places = choice[0] < 128 ? 3 * file.size() : choice[0] % 64;
+    lent.bytes.lend(file.size(), 0);
+    std::copy(file.begin(), file.begin() + long(lent.bytes.length), lent.bytes.places);
     lent.bytes.expected.assign(lent.bytes.places, lent.bytes.places + lent.bytes.length);
     lent.coords.lend(places, choice[5]);
     lent.answer.lend(answer_places(choice[4]), choice[5]);
-    uint8_t written = heqdanu_read(lent.bytes.places, lent.bytes.length, lent.coords.places, lent.coords.length,
-                                   lent.answer.places, lent.answer.length);
-    oracle::File held = oracle::read(lent.bytes.places, lent.bytes.length, lent.coords.length);
+    uint8_t written = library(lent.bytes.places, lent.bytes.length, lent.coords.places, lent.coords.length,
+                              lent.answer.places, lent.answer.length);
+    oracle::File held = reading(lent.bytes.places, lent.bytes.length, lent.coords.length);
     bool room = expect_answer(6, held.refusal, {held.header[0], held.header[1], held.header[2], held.coords.size() / 3});
     if (room && held.refusal.number == 0) lent.coords.store(held.coords);
-    expect(written == room, "read", "says wrongly whether it answered");
-    lent.answer.check("read", "the answer differs");
-    lent.coords.check("read", "the coordinates differ");
-    lent.bytes.check("read", "the file changed");
+    expect(written == room, call, "says wrongly whether it answered");
+    lent.answer.check(call, "the answer differs");
+    lent.coords.check(call, "the coordinates differ");
+    lent.bytes.check(call, "the file changed");
     return held;
+}
+
+void put_number(std::vector<uint8_t> &file, size_t at, uint64_t number) {
+    for (size_t byte = 0; byte < 4; byte++) file[at + byte] = uint8_t(number >> (8 * byte));
+}
+
+// The bytes as they are, or as those of a VOX file with MAIN's size of children put right, and with its first voxel
+// repeated until there are 4,095 to 4,098.
+std::vector<uint8_t> file_of(const uint8_t *bytes, size_t length, const uint8_t *choice) {
+    std::vector<uint8_t> file(bytes, bytes + length);
+    if ((choice[5] & 24) == 24 && length >= 64) {
+        uint64_t count = oracle::vox_number(bytes, 56), wanted = 4095 + choice[3] % 4;
+        std::vector<uint8_t> voxels;
+        for (; count < wanted; count++) voxels.insert(voxels.end(), bytes + 60, bytes + 64);
+        file.insert(file.begin() + 60, voxels.begin(), voxels.end());
+        put_number(file, 56, count);
+        put_number(file, 48, 4 + 4 * count);
+    }
+    if (choice[5] & 8 && length >= 20) put_number(file, 16, file.size() - 20);
+    return file;
+}
+
+// What the file holds: as a VOX file where it is one, else as a shot file.
+oracle::File read_both(const std::vector<uint8_t> &file, const uint8_t *choice) {
+    oracle::File vox = read("read_vox", heqdanu_read_vox, oracle::read_vox, file, choice);
+    oracle::File shots = read("read", heqdanu_read, oracle::read, file, choice);
+    if (vox.refusal.number != 0) return shots;
+    oracle::List list = {vox.header[0], 1, 1, vox.coords.data(), vox.coords.size()};
+    bool quoted = oracle::check(list).number == 0 && oracle::need(list) == list.shots() + 2;
+    expect(quoted, "read_vox", "the list is refused");
+    return vox;
 }
 
 // What the calls on one list are expected to say and store.
@@ -267,7 +303,7 @@ extern "C" int LLVMFuzzerTestOneInput(const uint8_t *data, size_t size) {
     if (size < 6 || size > 36000) return 0;
     input = data;
     input_length = size;
-    oracle::File file = read(data + 6, size - 6, data);
+    oracle::File file = read_both(file_of(data + 6, size - 6, data), data);
     std::vector<uint16_t> coords = file.coords;
     if (data[5] & 1) squeeze(file.header, coords);
     if ((data[5] & 6) == 6 && !coords.empty()) coords.pop_back();

@@ -56,6 +56,41 @@ uint8_t measure(const oracle::List &list, uint32_t *work, size_t nwork, uint64_t
     return answered(answer, {0, 0, result.volume, result.area, result.edge, result.corners});
 }
 
+// The VOX file as the stand-in looks at it: faults 14 to 16 change bytes of it.
+std::vector<uint8_t> looked_at(const uint8_t *bytes, size_t nbytes) {
+    std::vector<uint8_t> file(bytes, bytes + nbytes);
+    if (nbytes < 60) return file;
+    // A voxel equal to its side is taken.
+    for (size_t axis = 0; axis < 3; axis++)
+        if (FAULT == 14 && file[32 + 4 * axis] > 0 && file[32 + 4 * axis] < 255) file[32 + 4 * axis]++;
+    size_t after = 60 + 4 * size_t(oracle::vox_number(bytes, 56));
+    // Colour 0 is taken.
+    for (size_t at = 63; FAULT == 15 && at < std::min(after, nbytes); at += 4) file[at] |= 1;
+    // Children of a later chunk are taken for chunks.
+    while (FAULT == 16 && after + 12 <= nbytes) {
+        std::fill(file.begin() + long(after + 8), file.begin() + long(after + 12), uint8_t(0));
+        after += 12 + oracle::vox_number(bytes, after + 4);
+    }
+    return file;
+}
+
+// What a VOX file holds, with faults 14 to 18.
+oracle::File held_vox(const uint8_t *bytes, size_t nbytes, size_t ncoords) {
+    std::vector<uint8_t> file = looked_at(bytes, nbytes);
+    oracle::File held = oracle::read_vox(file.data(), nbytes, ncoords);
+    if (held.refusal.number == 0) {
+        // The field is the largest side, or with fault 17 the smallest.
+        auto sides = {oracle::vox_number(bytes, 32), oracle::vox_number(bytes, 36), oracle::vox_number(bytes, 40)};
+        held.header[0] = uint16_t(FAULT == 17 ? std::min(sides) : std::max(sides));
+    }
+    // A voxel is looked at before the places are counted.
+    if (FAULT == 18 && held.refusal.number == 3) {
+        oracle::File roomy = oracle::read_vox(file.data(), nbytes, 12288);
+        if (roomy.refusal.number == 15) return roomy;
+    }
+    return held;
+}
+
 }  // namespace
 
 extern "C" uint8_t heqdanu_measure(uint16_t field, uint16_t edge, uint16_t grid, const uint16_t *coords, size_t ncoords,
@@ -99,6 +134,19 @@ extern "C" uint8_t heqdanu_read(const uint8_t *bytes, size_t nbytes, uint16_t *c
     if (FAULT == 9 && file.refusal.number == 3 && nbytes > 0 && bytes[nbytes - 1] > 7) file.refusal.number = 4;
     if (file.refusal.number != 0) {
         if (FAULT == 10 && file.refusal.number == 5 && ncoords > 0) coords[0] = 0;
+        return refused(answer, file.refusal, false);
+    }
+    std::copy(file.coords.begin(), file.coords.end(), coords);
+    return answered(answer, {0, 0, file.header[0], file.header[1], file.header[2], file.coords.size() / 3});
+}
+
+extern "C" uint8_t heqdanu_read_vox(const uint8_t *bytes, size_t nbytes, uint16_t *coords, size_t ncoords,
+                                    uint64_t *answer, size_t nanswer) {
+    if (nanswer < HEQDANU_ANSWER) return 0;
+    oracle::File file = held_vox(bytes, nbytes, ncoords);
+    if (file.refusal.number != 0) {
+        // Voxels are stored before a later chunk is looked at.
+        if (FAULT == 19 && file.refusal.number == 14 && file.refusal.detail > 60 && ncoords > 0) coords[0] = bytes[60];
         return refused(answer, file.refusal, false);
     }
     std::copy(file.coords.begin(), file.coords.end(), coords);

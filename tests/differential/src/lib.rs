@@ -2,11 +2,11 @@
 //!
 //! A case is an input and the lengths of the lent buffers. Each buffer is filled with junk and lies between junk on both
 //! sides; the oracle gets copies. Afterwards the answers and every place of every buffer, the junk about it included,
-//! must agree. A case that fails is made smaller as long as it still fails, and printed as a shot file.
+//! must agree. A case that fails is made smaller as long as it still fails, and printed as a shot file or a VOX file.
 //!
 //! - [`lent`]: buffers filled with junk
 //! - [`lists`]: cases for measure, recount, index, list and write
-//! - [`files`]: cases for read
+//! - [`files`]: cases for read and read_vox
 //! - [`smallest`]: making a failing case smaller
 
 pub mod files;

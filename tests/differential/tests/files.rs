@@ -1,6 +1,6 @@
 //! Whole and damaged shot files: read against the oracle, and what is written reads back.
 
-use differential::files::FileCase;
+use differential::files::{FileCase, SHOTS};
 use differential::hold;
 use heqdanu::{from_file, to_file};
 use oracle::inputs::{accepted, crowded_file, file, Random, Size};
@@ -11,7 +11,7 @@ fn files_whole_and_damaged() {
     for turn in 0..40_000 {
         let shots = if turn % 50 == 0 { 500 } else { 12 };
         let file = file(&mut random, Size { field: 1024, shots });
-        hold(FileCase::any(&mut random, file));
+        hold(FileCase::any(&mut random, &SHOTS, file));
     }
 }
 
@@ -20,7 +20,7 @@ fn files_about_the_largest_number_of_shots() {
     let mut random = Random::new(22);
     for _ in 0..400 {
         let file = crowded_file(&mut random);
-        hold(FileCase::any(&mut random, file));
+        hold(FileCase::any(&mut random, &SHOTS, file));
     }
 }
 
@@ -31,7 +31,7 @@ fn every_cut_of_a_file() {
         let list = accepted(&mut random, Size { field: 300, shots: 12 });
         let whole = oracle::inputs::longer_file(&mut random, &list);
         for length in 0..=whole.len() {
-            hold(FileCase::any(&mut random, whole[..length].to_vec()));
+            hold(FileCase::any(&mut random, &SHOTS, whole[..length].to_vec()));
         }
     }
 }
@@ -44,7 +44,7 @@ fn every_map_byte() {
             for shot in [false, true] {
                 let mut file = if shot { vec![0, map] } else { vec![map] };
                 file.extend((0..bytes).map(|_| random.number() as u8));
-                hold(FileCase::any(&mut random, file));
+                hold(FileCase::any(&mut random, &SHOTS, file));
             }
         }
     }

@@ -2,7 +2,7 @@
 
 use crate::cells::Cells;
 use crate::list::{refusal, List, Refusal};
-use crate::{corners, grid, shotfile, totals};
+use crate::{corners, grid, shotfile, totals, vox};
 use std::cell::OnceCell;
 
 /// A call's answer: refusal number (0 if accepted), detail, then the call's numbers (all 0 if refused).
@@ -117,9 +117,19 @@ pub fn list(list: &List, work: &mut [u32], listing: &mut [u8]) -> Answer<6> {
     Calls::on(list).list(work, listing)
 }
 
-/// The reader; a refusal stores nothing.
+/// The reader of shot files; a refusal stores nothing.
 pub fn read(file: &[u8], coords: &mut [u16]) -> Answer<6> {
-    match shotfile::read(file, coords.len()) {
+    store(shotfile::read(file, coords.len()), coords)
+}
+
+/// The reader of VOX files; a refusal stores nothing.
+pub fn read_vox(file: &[u8], coords: &mut [u16]) -> Answer<6> {
+    store(vox::read(file, coords.len()), coords)
+}
+
+/// What a reader answers for what its file holds; the coordinates of a list are stored.
+fn store(held: Result<List, Refusal>, coords: &mut [u16]) -> Answer<6> {
+    match held {
         Err(refusal) => refused(refusal),
         Ok(list) => {
             coords[..list.coords.len()].copy_from_slice(&list.coords);

@@ -200,7 +200,8 @@ pub fn crowded_file(random: &mut Random) -> Vec<u8> {
     file
 }
 
-fn flip(random: &mut Random, file: &mut [u8], most: usize) {
+/// Flips one bit or a few, up to `most`.
+pub fn flip(random: &mut Random, file: &mut [u8], most: usize) {
     if file.is_empty() {
         return;
     }

@@ -9,10 +9,12 @@
 //! - [`corners`]: patterns, the seven weights, the listing, the corner sums
 //! - [`grid`]: the grid index
 //! - [`shotfile`]: the reader and the writer
-//! - [`calls`]: measure, list, index, read and write with lent buffers, as a caller sees them
-//! - [`quote`]: the quoting program
+//! - [`vox`]: the reader of VOX files
+//! - [`calls`]: measure, list, index, read, read_vox and write with lent buffers, as a caller sees them
+//! - [`quote`]: the quoting programs
 //! - [`literal`]: the definitions once more, cell by cell and point by point, for small fields
 //! - [`inputs`]: random and damaged inputs, from a seed
+//! - [`vox_inputs`]: VOX files, whole and damaged, from a seed
 
 pub mod calls;
 pub mod cells;
@@ -24,3 +26,5 @@ pub mod literal;
 pub mod quote;
 pub mod shotfile;
 pub mod totals;
+pub mod vox;
+pub mod vox_inputs;

@@ -1,4 +1,4 @@
-//! The quoting program: a shot file from standard input, four lines or a refusal to standard output.
+//! The quoting programs: a shot file, or a VOX file, from standard input, four lines or a refusal to standard output.
 
 use crate::calls;
 use crate::list::List;
@@ -11,10 +11,26 @@ pub const PLACES: usize = 12_288;
 /// The work entries that it has.
 pub const ENTRIES: usize = 16_384;
 
+/// The bytes of a VOX file that `quote_vox` has room for; a longer input is no file for it.
+pub const VOX_BYTES: usize = 1_048_575;
+
 /// What the quoting program prints for this input.
 pub fn quote(input: &[u8]) -> String {
     let mut coords = vec![0; PLACES];
-    let [number, detail, field, edge, grid, shots] = calls::read(&input[..input.len().min(BYTES)], &mut coords);
+    let answer = calls::read(&input[..input.len().min(BYTES)], &mut coords);
+    quote_read(answer, coords)
+}
+
+/// What `quote_vox` prints for an input that it has room for.
+pub fn quote_vox(input: &[u8]) -> String {
+    assert!(input.len() <= VOX_BYTES, "a longer input has no quote");
+    let mut coords = vec![0; PLACES];
+    let answer = calls::read_vox(input, &mut coords);
+    quote_read(answer, coords)
+}
+
+/// The quote of what a reader answered and stored.
+fn quote_read([number, detail, field, edge, grid, shots]: [u64; 6], mut coords: Vec<u16>) -> String {
     if number != 0 {
         return format!("refused {number} {detail}\n");
     }

@@ -58,7 +58,7 @@ fn crates_of(program: &str) -> usize {
 #[test]
 fn plain_lines_where_there_is_no_terminal() {
     let tree = Tree::bare(PROVES);
-    for script in ["quote", "recount", "shots"] {
+    for script in ["quote", "quote_vox", "recount", "shots"] {
         // Standard input is the program's, not that of what proves it.
         tree.shell(&format!("\"$TREE/{script}\""), b"input\n").is(
             "input\nvolume 8\n",
@@ -67,7 +67,7 @@ fn plain_lines_where_there_is_no_terminal() {
         );
         tree.shell(&format!("\"$TREE/{script}\""), &[]).is("volume 8\n", "", 0);
     }
-    assert_eq!(tree.calls(), "check quote\ncheck recount\ncheck shots\n");
+    assert_eq!(tree.calls(), "check quote\ncheck quote_vox\ncheck recount\ncheck shots\n");
 }
 
 #[test]

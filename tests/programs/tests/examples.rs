@@ -1,11 +1,13 @@
-//! The files in examples/: what each is made of, and the quote that README gives it. An accepted one is what
+//! The files in examples/: what each is made of, and the quote that README gives it. An accepted shot file is what
 //! `write_shots` makes of the text here, as in
-//! `printf 'field 8\nedge 2\ngrid 2\nshot 1 1 1\n' | ./write_shots >examples/one_cube.shots`.
+//! `printf 'field 8\nedge 2\ngrid 2\nshot 1 1 1\n' | ./write_shots >examples/one_cube.shots`; the VOX file is what the
+//! script beside it writes.
 
 use programs::run::on;
 use std::collections::BTreeSet;
 use std::fs;
 use std::path::PathBuf;
+use std::process::Command;
 
 /// Name, the typed list, and volume, area, edge length, corners.
 const ACCEPTED: [(&str, &str, [u64; 4]); 7] = [
@@ -56,11 +58,26 @@ fn refused_examples() {
 }
 
 #[test]
+fn the_arch_of_voxels() {
+    let file = fs::read(folder().join("arch.vox")).expect("the arch is there");
+    let made = Command::new(folder().join("make_arch")).output().expect("the script runs");
+    assert_eq!((made.stdout, made.stderr, made.status.code()), (file.clone(), vec![], Some(0)));
+    assert_eq!(on("quote_vox", &file).text(), "volume 69\narea 142\nedge 88\ncorners 16\n");
+    // Pillars on both sides of a gap, and a lintel over it.
+    let list = oracle::vox::read(&file, 12_288).expect("the arch is accepted");
+    assert_eq!((list.field, list.edge, list.grid), (7, 1, 1));
+    let there: BTreeSet<[usize; 3]> = list.shots().into_iter().collect();
+    let arch = (0..105).map(|n| [n % 7, n / 7 % 3, n / 21]).filter(|[x, _, z]| *z == 4 || !(2..5).contains(x));
+    assert_eq!(there, arch.collect());
+}
+
+#[test]
 fn no_other_file_is_there() {
     let there: BTreeSet<String> = fs::read_dir(folder())
         .expect("the examples are there")
         .map(|entry| entry.expect("an example").file_name().to_string_lossy().into_owned())
         .collect();
-    let known = ACCEPTED.iter().map(|(name, ..)| *name).chain(["shell", "cut_off", "outside"]);
-    assert_eq!(there, known.map(|name| format!("{name}.shots")).collect());
+    let shots = ACCEPTED.iter().map(|(name, ..)| *name).chain(["shell", "cut_off", "outside"]);
+    let known = shots.map(|name| format!("{name}.shots")).chain(["arch.vox".into(), "make_arch".into()]);
+    assert_eq!(there, known.collect());
 }

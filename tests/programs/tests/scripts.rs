@@ -112,6 +112,30 @@ fn one_status_for_each_outcome() {
 }
 
 #[test]
+fn vox_files_have_a_status_too() {
+    let tree = Tree::built();
+    let arch = include_bytes!("../../../examples/arch.vox");
+    let quote = "volume 69\narea 142\nedge 88\ncorners 16\n";
+    let too_long = "quote_vox: the input has more than 1,048,575 bytes\n";
+    tree.file("arch", arch);
+    tree.file("cut", &arch[..300]);
+    tree.file("shots", &CUBE);
+    tree.file("long", &vec![0; 1_048_576]);
+    tree.run("quote_vox", &["arch"]).is(quote, "", 0);
+    tree.run("quote_vox", &["cut"]).is("refused 14 8\n", "", 1);
+    tree.run("quote_vox", &["shots"]).is("refused 13 0\n", "", 1);
+    tree.run("quote_vox", &["long"]).is("", too_long, 2);
+    tree.run("quote", &["arch"]).is("refused 4 0\n", "", 1);
+    tree.shell("\"$TREE/quote_vox\" - <arch", &[]).is(quote, "", 0);
+    tree.shell("\"$TREE/quote_vox\" </", &[]).is("", "quote_vox: standard input cannot be read\n", 2);
+    let headed = format!("==> arch <==\n{quote}\n==> shots <==\nrefused 13 0\n");
+    tree.run("quote_vox", &["arch", "shots"]).is(&headed, "", 1);
+    tree.run("quote_vox", &["arch", "missing", "shots"]).is(&headed, "quote_vox: missing: no such file\n", 2);
+    let headed = format!("==> long <==\n\n==> arch <==\n{quote}\n==> cut <==\nrefused 14 8\n");
+    tree.run("quote_vox", &["long", "arch", "cut"]).is(&headed, too_long, 2);
+}
+
+#[test]
 fn listings_have_a_status_too() {
     let tree = Tree::built();
     for (name, file, status) in [("good", &OVERLAP[..], 0), ("cut", &OVERLAP[..14], 1), ("nothing", &OVERLAP[..7], 0)] {

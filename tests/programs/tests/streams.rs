@@ -2,8 +2,9 @@
 
 use programs::run::with;
 
-const INPUTS: [(&str, &[u8]); 5] = [
+const INPUTS: [(&str, &[u8]); 6] = [
     ("quote", &[7, 8, 0, 2, 0, 2, 0, 0]),
+    ("quote_vox", include_bytes!("../../../examples/arch.vox")),
     ("recount", &[7, 8, 0, 2, 0, 2, 0, 0]),
     ("shots", &[7, 8, 0, 2, 0, 2, 0, 0]),
     ("write_shots", b"shot 1 2 3\n"),
