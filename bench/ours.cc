@@ -1,6 +1,6 @@
 // Ours: one call of heqdanu.h, timed: `ours FILE SECONDS [CALL]`, CALL being measure (unless said), list, index,
-// recount, need, read or write. `need` is the measuring call with an empty work slice: the list's checks and the count
-// of the index's entries.
+// recount, need, read, read_vox or write. `need` is the measuring call with an empty work slice: the list's checks and
+// the count of the index's entries. FILE is a shot file, and a VOX file for read_vox.
 #include "../include/heqdanu.h"
 #include "common.hpp"
 
@@ -23,11 +23,21 @@ static Totals answered(uint8_t written, uint64_t expected = HEQDANU_ACCEPTED) {
     return totals;
 }
 
+// One of the readers, timed; its figures are field, edge, grid and shots.
+static int read_again(decltype(heqdanu_read) *reading, const char *path, double patience) {
+    std::vector<uint8_t> file = read_bytes(path);
+    std::vector<uint16_t> places(12288);
+    return report(patience, [&] {
+        return answered(reading(file.data(), file.size(), places.data(), places.size(), answer, HEQDANU_ANSWER));
+    });
+}
+
 int main(int count, char **arguments) {
-    List list = read_list(arguments[1]);
-    std::vector<uint8_t> file = read_bytes(arguments[1]);
     double patience = atof(arguments[2]);
     std::string call = count > 3 ? arguments[3] : "measure";
+    if (call == "read") return read_again(heqdanu_read, arguments[1], patience);
+    if (call == "read_vox") return read_again(heqdanu_read_vox, arguments[1], patience);
+    List list = read_list(arguments[1]);
     const uint16_t *coords = list.coords.data();
     size_t ncoords = list.coords.size();
     auto measure = [&](uint32_t *work, size_t nwork) {
@@ -51,12 +61,6 @@ int main(int count, char **arguments) {
         return report(patience, [&] {
             return answered(heqdanu_list(list.field, list.edge, list.grid, coords, ncoords, work.data(), work.size(),
                                          listing.data(), listing.size(), answer, HEQDANU_ANSWER));
-        });
-    }
-    if (call == "read") {
-        std::vector<uint16_t> places(12288);
-        return report(patience, [&] {
-            return answered(heqdanu_read(file.data(), file.size(), places.data(), places.size(), answer, HEQDANU_ANSWER));
         });
     }
     std::vector<uint8_t> bytes(28680);
