@@ -160,15 +160,15 @@ uint8_t heqdanu_read(const uint8_t *bytes, size_t nbytes, uint16_t *coords, size
  *
  * The file is the mark `VOX ` and version 150, then the chunk MAIN without content, whose children are the rest of the
  * file: SIZE, XYZI, and any others, which are skipped with their children. A chunk is a name of four bytes, the sizes
- * of its content and of its children, and then both. SIZE holds three sides of 1 to 256; XYZI holds a count and four
- * bytes a voxel: x, y, z, each below the side of its axis, and a colour, which is not 0. These two have no children.
- * Numbers have 32 bits, least byte first.
+ * of its content and of its children, and then both. In SIZE are the sides on x, y and z, each 1 to 256; in XYZI the
+ * number of voxels, and then for each voxel its three coordinates, each below the side of its axis, and its colour,
+ * which is not 0, a byte for each. These two have no children. Numbers have 32 bits, least byte first.
  *
  * `coords` takes three numbers a voxel; 12,288 places are enough for every file.
  *
- * Refusals: 13, 14, 2, 3, 15, in this order on one chunk. 13 is for a wrong or cut mark or version (detail 0), or where
- * MAIN, SIZE or XYZI is required no byte or another name; 1 to 3 bytes there are 14. 2 and 3 are for the whole of XYZI
- * and have its offset. A chunk after XYZI is looked at after all voxels.
+ * Refusals: 13, 14, 2, 3, 15, in this order on one chunk. 13 is for a file that does not begin with the mark and the
+ * version (detail 0), or has no byte or another name where MAIN, SIZE or XYZI must be; 1 to 3 bytes there are 14. 2 and
+ * 3 are for the whole of XYZI and have its offset. A chunk after XYZI is looked at after all voxels.
  * After success `coords` holds the voxels in its first places, later places keep their values. After a refusal `coords`
  * is as it was.
  */

@@ -68,7 +68,7 @@ impl Reason {
         match self {
             Reason::BrokenShot => "the coordinates' count is not a multiple of three",
             Reason::TooManyShots => "there are more than 4,096 shots",
-            Reason::NoPlace => "the coordinate slice has no three places left for the shot that begins at byte",
+            Reason::NoPlace => "the coordinate slice has too few places for the shots, at byte",
             Reason::UnknownBit => "a bit without meaning stands in the map at byte",
             Reason::CutShort => "the file ends within the record at byte",
             Reason::FieldRange => "the field side is outside 1 to 1,024",

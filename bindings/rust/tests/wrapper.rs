@@ -136,5 +136,7 @@ fn a_refusal_in_words() {
     assert!(refusal.to_string().ends_with("does not divide the field side"));
     let refusal = Refusal { reason: Reason::BrokenChunk, detail: 44 };
     assert_eq!(refusal.to_string(), "a chunk is cut short, or a size of it does not match, at byte 44");
+    let refusal = read_vox(&VOX, &mut [0; 5]).unwrap_err();
+    assert_eq!(refusal.to_string(), "the coordinate slice has too few places for the shots, at byte 44");
     assert_eq!([Reason::NotVox.number(), Reason::VoxelRange.number()], [13, 15]);
 }

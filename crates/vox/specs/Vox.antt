@@ -51,10 +51,11 @@ voxelAt n = 60 + 4 * n
 abbrev pub byteOf : List ℕ → ℕ → ℕ → ℕ
 byteOf s n part = getD s (voxelAt n + part) 0
 
--- voxel n is outside SIZE, each axis held against its own side, or has colour 0
+-- voxel n is outside SIZE on an axis, which has a side of its own
 abbrev pub beyond : List ℕ → ℕ → ℕ → Bool
 beyond s n axis = leb (sideOn s axis) (byteOf s n axis)
 
+-- it is so on some axis, or has colour 0
 unfoldable pub wrongVoxel : List ℕ → ℕ → Bool
 wrongVoxel s n = beyond s n 0 || (beyond s n 1 || (beyond s n 2 || eqb (byteOf s n 3) 0))
 
@@ -63,10 +64,11 @@ unfoldable pub firstWrong : List ℕ → ℕ → ℕ → ℕ
 firstWrong s n zero = n
 firstWrong s n (suc left) = cond (wrongVoxel s n) n (firstWrong s (suc n) left)
 
--- the coordinates of `left` voxels from voxel n on, in file order
+-- the coordinates of voxel n
 abbrev pub voxelFields : List ℕ → ℕ → Fields
 voxelFields s n = record { first = byteOf s n 0; second = byteOf s n 1; third = byteOf s n 2 }
 
+-- of `left` voxels from voxel n on, in file order
 unfoldable pub voxels : List ℕ → ℕ → ℕ → List ℕ
 voxels s n zero = []
 voxels s n (suc left) = shotNumbers (voxelFields s n) ++ voxels s (suc n) left

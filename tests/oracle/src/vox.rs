@@ -104,7 +104,7 @@ fn sides(rest: &mut Rest) -> Result<[u64; 3], Refusal> {
     Ok(sides)
 }
 
-/// XYZI: a count, and four bytes a voxel. The chunk as a whole is looked at before any voxel is.
+/// XYZI: how many voxels there are, and then each in four bytes. The chunk as a whole is looked at before any voxel is.
 fn voxels(rest: &mut Rest, sides: [u64; 3], places: usize) -> Result<Vec<u16>, Refusal> {
     let xyzi = rest.required(b"XYZI")?;
     let broken = refusal(14, xyzi.offset);
