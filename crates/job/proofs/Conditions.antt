@@ -2,7 +2,7 @@
 -- and only if none holds, which is to say that it is valid; and a valid list's cells lie in the field. Assumes nothing.
 use mathlib.Core.Path.{_≡_, refl, sym, _∙_}
 use mathlib.Core.Bool.{Bool, true, false, not, _||_, true≢false}
-use mathlib.Core.List.{List, [], _∷_}
+use mathlib.Core.List.{List}
 use mathlib.Core.Logic.{_↔_, _⊎_, inl, inr, ⊎-elim}
 use Prim.Native.Nat.{ℕ, _%_, _<_}
 use native.Mathlib.Omega.{arith}
@@ -16,11 +16,11 @@ use Rattle.job.specs.declared.Refusal.{Refusal}
 use Rattle.job.specs.declared.Refusal.the-variants.{BrokenShot, TooManyShots, FieldRange, EdgeRange, GridRange, OutsideField}
 use Rattle.job.specs.declared.Checked.the-variants.{Accepted, Refused}
 use Rattle.job.specs.Job.{shotsOf, shotCount, shotAt, Valid}
-use Rattle.job.specs.Checking.{outside, leaves, firstLeaving, settingTests, shotTests, tests, checked, Test}
+use Rattle.job.specs.Checking.{outside, leaves, firstLeaving, settingTests, shotTests, tests, checked}
 use Rattle.job.specs.Conditions.{FirstOutside, Condition, broken-shot, too-many-shots, field-range, edge-range, grid-range, outside-field, Each, Says, First}
 use Rattle.job.proofs.Tests.{within, out, is-out, settled, or-false, or-true, or-true-left, or-true-right}
 use Rattle.job.proofs.Shots.{shots-count, shots-at, any-leaves, stays, stays-not, all-stay, first-leaves, earlier-stays, stay-at}
-use Rattle.job.proofs.Places.{passes, first-iff, none-iff}
+use Rattle.job.proofs.Places.{passes, first-iff, none-each, none-iff}
 
 module _ (F E G : ℕ) (coords : List ℕ) where
   abbrev found : ℕ
@@ -131,16 +131,12 @@ module _ (F E G : ℕ) (coords : List ℕ) where
   valid-none v q (grid-range h) = ⊎-elim (λ m. omega (arith, v .grid-least)) (⊎-elim (λ m. omega (arith, v .grid-most)) (λ n. n (v .grid-divides))) h
   valid-none v q (outside-field f) = f .leaves-field (stay-at F E coords (v .inside) _ (f .is-shot))
 
-  none-each : ((q : Refusal) → ¬ Condition F E G coords q) → (ts : List Test) → Each (λ t. ¬ Condition F E G coords (t .gives)) ts
-  none-each n [] = tt
-  none-each n (t ∷ ts) = (n (t .gives), none-each n ts)
-
   pub accepted-valid : (checked F E G coords ≡ Accepted) ↔ Valid F E G coords
-  accepted-valid = (valid-if, λ v. none-iff (Condition F E G coords) (tests F E G coords) tests-say .1 (none-each (valid-none v) (tests F E G coords)))
+  accepted-valid = (valid-if, λ v. none-iff (Condition F E G coords) (tests F E G coords) tests-say .1 (none-each (Condition F E G coords) (valid-none v) (tests F E G coords)))
 
   -- a list is accepted if and only if no condition holds
   pub accepted-iff : (checked F E G coords ≡ Accepted) ↔ ((q : Refusal) → ¬ Condition F E G coords q)
-  accepted-iff = (λ e. valid-none (valid-if e), λ n. none-iff (Condition F E G coords) (tests F E G coords) tests-say .1 (none-each n (tests F E G coords)))
+  accepted-iff = (λ e. valid-none (valid-if e), λ n. none-iff (Condition F E G coords) (tests F E G coords) tests-say .1 (none-each (Condition F E G coords) n (tests F E G coords)))
 
 -- the cells of a valid list lie in the field
 pub valid-within : {F E G : ℕ} {coords : List ℕ} → Valid F E G coords → Within F (cells (shotsOf E coords))

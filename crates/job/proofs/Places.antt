@@ -116,6 +116,11 @@ module _ (condition : Refusal → Type 0) where
           ∙ given-first (f .before) (f .here) (f .after) (subst (Each (Says condition)) (f .is) s) (f .none-before) (subst condition (sym (f .gives-it)) (f .holds))
           ∙ ap Refused (f .gives-it)
 
+  -- where no condition holds, that of no test does
+  pub none-each : ((q : Refusal) → ¬ condition q) → (ts : List Test) → Each (λ t. ¬ condition (t .gives)) ts
+  none-each n [] = tt
+  none-each n (t ∷ ts) = (n (t .gives), none-each n ts)
+
   pub none-iff : (ts : List Test) → Each (Says condition) ts → (firstOf ts ≡ Accepted) ↔ Each (λ t. ¬ condition (t .gives)) ts
   unfolding firstOf
   none-iff [] s = (λ e. tt, λ n. refl)

@@ -33,7 +33,8 @@ pub same-iff : (a b : List ℕ) → (same a b ≡ true) ↔ (a ≡ b)
 same-iff a b = (same-is a b, λ e. rw (← e) (same-self a))
 
 -- ---- byte after byte
-here : (s : List ℕ) (i : ℕ) → i < length s → drop i s ≡ getD s i 0 ∷ drop (i + 1) s
+-- the bytes from a place on: the one there, and those after it
+pub here : (s : List ℕ) (i : ℕ) → i < length s → drop i s ≡ getD s i 0 ∷ drop (i + 1) s
 here s i h = rw (add-one i) (drop-cons s i 0 h)
 
 same-cons : (a b : ℕ) (s t : List ℕ) → same (a ∷ s) (b ∷ t) ≡ eqb a b && same s t

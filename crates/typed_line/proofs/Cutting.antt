@@ -3,19 +3,15 @@ use mathlib.Core.Path.{_≡_, refl, sym, ap, _∙_}
 use mathlib.Core.Bool.{Bool, true, false, cond}
 use mathlib.Core.List.{List, [], _∷_, _++_, append-assoc, append-nil}
 use Prim.Native.Nat.{ℕ, suc, _+_, _-_, _≤_, _<_}
-use native.Mathlib.Numerals.{add-one}
 use native.Mathlib.Decide.{decLt}
 use native.Mathlib.Omega.{arith}
 use lib.Dec.{eqb}
 use lib.ListN.{length, take, drop, getD, length-drop, drop-of-length-le}
-use lib.Seq.{drop-cons, drop-drop}
+use lib.Seq.{drop-drop}
 use borrow.Author.Tests.{eq-eqb, ne-eqb}
+use Rattle.text_same.proofs.SameLaws.{here}
 use Rattle.typed_line.specs.Words.{before, newline, hash, blank, uncommented, linesFrom, linesOf, ended, wordsFrom, wordsOf, part}
 use Rattle.typed_line.specs.Cursors.{Skipped, NextWord}
-
--- the bytes from a place on: the one there, and those after it
-pub here : (s : List ℕ) (i : ℕ) → i < length s → drop i s ≡ getD s i 0 ∷ drop (i + 1) s
-here s i h = rw (add-one i) (drop-cons s i 0 h)
 
 -- ---- blanks
 module _ (b : ℕ) where

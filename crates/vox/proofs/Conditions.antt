@@ -1,14 +1,14 @@
 -- Each refusal of a VOX file is given if its condition holds and that of no test before it does, and never otherwise; a file is accepted
 -- exactly if no condition holds. The statements are of the call, by what it promises. Assumes nothing.
 use mathlib.Core.Path.{_≡_, refl, sym, ap, subst, _∙_}
-use mathlib.Core.Bool.{Bool, true, false, not, cond, _&&_, _||_, true≢false}
-use mathlib.Core.List.{List, [], _∷_}
+use mathlib.Core.Bool.{Bool, true, false, not, _||_}
+use mathlib.Core.List.{List}
 use mathlib.Core.Logic.{_↔_, _⊎_}
-use Prim.Native.Nat.{ℕ, zero, suc, _+_, _-_, _*_, _≤_, _<_}
+use Prim.Native.Nat.{ℕ, _+_, _-_, _≤_, _<_}
 use native.Mathlib.Omega.{arith}
 use lib.Dec.{ltb, leb, eqb}
 use lib.ListN.{length, take, drop}
-use borrow.Author.Tests.{ltb-true, ltb-false, lt-ltb, le-ltb, leb-true, leb-false}
+use borrow.Author.Tests.{ltb-true, ltb-false}
 use Rattle.job.specs.declared.Refusal.{Refusal}
 use Rattle.job.specs.declared.Refusal.the-variants.{TooManyShots, NoPlace, NotVox, BrokenChunk, VoxelRange}
 use Rattle.job.specs.declared.Checked.{Checked}
@@ -17,18 +17,17 @@ use Rattle.job.specs.Job.{shotCount}
 use Rattle.job.specs.Checking.{Test, firstOf}
 use Rattle.job.specs.Conditions.{Each, Says, First}
 use Rattle.job.proofs.Tests.{ltb-says, leb-says, eqb-says, not-says, or-says, and-says, outside-says}
-use Rattle.job.proofs.Places.{first-iff, none-iff}
-use Rattle.shotfile.specs.Files.{settingFields, file}
+use Rattle.job.proofs.Places.{first-iff, none-each, none-iff}
 use Rattle.shotfile.specs.Calls.{readAnswer}
 use Rattle.shotfile.specs.declared.reader.ReadAnswer.{ReadAnswer}
 use Rattle.shotfile.specs.declared.reader.ReadAnswer.the-variants.{Read, Refused as Unread}
 use Rattle.text_same.proofs.SameLaws.{same-iff}
 use Rattle.text_report.specs.Text.{text}
 use Rattle.vox_chunks.specs.Chunks.{numberAt, stands, contentAt, childrenAt, afterChunk, missing, overruns, mismatched}
-use Rattle.vox.specs.Vox.{unmarked, unfilled, sideOn, wrongSide, largestSide, voxelCount, voxelAt, byteOf, beyond, wrongVoxel, firstWrong, voxels, firstOverrun, overrunFrom, openingTests, voxelTests, voxTests, ifPassed, voxIn, VoxCall}
-use Rattle.vox.specs.Conditions.{Named, NoChunk, no-mark, no-main, no-size, no-xyzi, Ends, Misfits, LaterChunk, first-later, next-later, BrokenAt, main-broken, size-broken, xyzi-broken, later-broken, WrongSide, WrongVoxel, FirstWrong, wrong-side, wrong-voxel, VoxCondition, not-vox, broken-chunk, voxel-range, too-many-shots, no-place}
-use Rattle.vox.proofs.Walks.{over-found, over-next}
-use Rattle.vox.proofs.Passed.{voxels-count}
+use Rattle.vox.specs.Vox.{unmarked, unfilled, sideOn, wrongSide, largestSide, voxelCount, voxelAt, overrunFrom, openingTests, voxelTests, voxTests, voxIn, VoxCall}
+use Rattle.vox.specs.Conditions.{Named, NoChunk, Required, main, size, xyzi, no-mark, no-chunk, Misfits, Sized, size-content, xyzi-content, BrokenAt, main-broken, misfit, later-broken, WrongSide, wrong-side, wrong-voxel, VoxCondition, not-vox, broken-chunk, voxel-range, too-many-shots, no-place}
+use Rattle.vox.proofs.Passed.{voxels-count, given}
+use Rattle.vox.proofs.Faults.{firstFault, right-before, fault-is, afterVoxels, later-past, later-inside, walk-past, stops-broken, later-stops}
 
 -- ---- the tests in words of numbers
 module _ (s : List ℕ) where
@@ -49,97 +48,27 @@ module _ (s : List ℕ) where
       or-says (overruns s at) _ (ltb-says (length s) (afterChunk s at))
       (or-says (not (eqb (childrenAt s at) 0)) (not (eqb (contentAt s at) content)) (unlike-says (childrenAt s at) 0) (unlike-says (contentAt s at) content))
 
-  wrong-says : (n : ℕ) → (wrongVoxel s n ≡ true) ↔ WrongVoxel s n
-  unfolding wrongVoxel
-  wrong-says n =
-      or-says (beyond s n 0) _ (leb-says (sideOn s 0) (byteOf s n 0))
-      (or-says (beyond s n 1) _ (leb-says (sideOn s 1) (byteOf s n 1))
-      (or-says (beyond s n 2) (eqb (byteOf s n 3) 0) (leb-says (sideOn s 2) (byteOf s n 2)) (eqb-says (byteOf s n 3) 0)))
-
   side-says : (axis : ℕ) → (wrongSide s axis ≡ true) ↔ WrongSide s axis
   side-says axis = outside-says 1 256 (sideOn s axis)
 
-  -- ---- the first wrong voxel
-  first-wrong-at : (n left : ℕ) → firstWrong s n left < n + left → wrongVoxel s (firstWrong s n left) ≡ true
-  unfolding firstWrong
-  first-wrong-at n zero h = absurd (omega arith)
-  first-wrong-at n (suc left) h = go (wrongVoxel s n) refl h (first-wrong-at (suc n) left)
-    where
-      go : (b : Bool) → wrongVoxel s n ≡ b → cond b n (firstWrong s (suc n) left) < n + suc left → (firstWrong s (suc n) left < suc n + left → wrongVoxel s (firstWrong s (suc n) left) ≡ true) → wrongVoxel s (cond b n (firstWrong s (suc n) left)) ≡ true
-      go true e h f = e
-      go false e h f = f (omega arith)
+-- ---- the chunks that must be there
+required-past : {at : ℕ} {name : List ℕ} → Required at name → 8 ≤ at
+required-past main = omega arith
+required-past size = omega arith
+required-past xyzi = omega arith
 
-  pub first-before : (n left m : ℕ) → n ≤ m → m < firstWrong s n left → wrongVoxel s m ≡ false
-  unfolding firstWrong
-  first-before n zero m l h = absurd (omega arith)
-  first-before n (suc left) m l h = go (wrongVoxel s n) refl h (first-before (suc n) left m)
-    where
-      here : wrongVoxel s n ≡ false → (b : Bool) → leb (suc n) m ≡ b → (suc n ≤ m → wrongVoxel s m ≡ false) → wrongVoxel s m ≡ false
-      here e true k f = f (leb-true (suc n) m k)
-      here e false k f =
-          let q : m ≡ n = omega (arith, leb-false (suc n) m k) in
-          rw q e
+required-one : {at : ℕ} {a b : List ℕ} → Required at a → Required at b → a ≡ b
+required-one main main = refl
+required-one size size = refl
+required-one xyzi xyzi = refl
 
-      go : (b : Bool) → wrongVoxel s n ≡ b → m < cond b n (firstWrong s (suc n) left) → (suc n ≤ m → m < firstWrong s (suc n) left → wrongVoxel s m ≡ false) → wrongVoxel s m ≡ false
-      go true e h f = absurd (omega arith)
-      go false e h f = here e (leb (suc n) m) refl (λ k. f k h)
+sized-range : {s : List ℕ} {at content : ℕ} → Sized s at content → (20 ≤ at) × (at ≤ 44)
+sized-range size-content = (omega arith, omega arith)
+sized-range xyzi-content = (omega arith, omega arith)
 
-  abbrev firstFault : ℕ
-  firstFault = firstWrong s 0 (voxelCount s)
-
-  right-before : (n : ℕ) → n < firstFault → ¬ WrongVoxel s n
-  right-before n h w = true≢false (sym (wrong-says n .1 w) ∙ first-before 0 (voxelCount s) n (omega arith) h)
-
-  fault-is : firstFault < voxelCount s → FirstWrong s firstFault
-  fault-is h = record { is-voxel = h; is-wrong = wrong-says firstFault .0 (first-wrong-at 0 (voxelCount s) (omega arith)); earlier-right = right-before }
-
-  -- ---- the chunks after XYZI
-  abbrev afterVoxels : ℕ
-  afterVoxels = voxelAt (voxelCount s)
-
-  later-past : {at : ℕ} → LaterChunk s at → 60 ≤ at
-  later-past (first-later h) = omega arith
-  later-past (next-later l h) = omega (arith, later-past l)
-
-  later-inside : {at : ℕ} → LaterChunk s at → at < length s
-  later-inside (first-later h) = h
-  later-inside (next-later l h) = h
-
-  later-walk : {at : ℕ} → LaterChunk s at → overrunFrom s at ≡ overrunFrom s afterVoxels
-  later-walk (first-later h) = refl
-  later-walk (next-later {at} l h) = over-next s at (later-inside l) (le-ltb (length s) (afterChunk s at) (omega arith)) ∙ later-walk l
-
-  walk-past : (most at : ℕ) → at ≤ firstOverrun most s at
-  unfolding firstOverrun
-  walk-past zero at = omega arith
-  walk-past (suc most) at = go (ltb at (length s) && not (overruns s at)) (walk-past most (afterChunk s at))
-    where
-      go : (b : Bool) → afterChunk s at ≤ firstOverrun most s (afterChunk s at) → at ≤ cond b (firstOverrun most s (afterChunk s at)) at
-      go true h = omega (arith, h)
-      go false h = omega arith
-
-  -- where the walk stops in the file, a chunk ends past it
-  walk-stops : (most at : ℕ) → LaterChunk s at → length s ≤ at + most → firstOverrun most s at < length s → LaterChunk s (firstOverrun most s at) × Ends s (firstOverrun most s at)
-  unfolding firstOverrun
-  walk-stops zero at l h k = absurd (omega (arith, later-inside l))
-  walk-stops (suc most) at l h k = go (overruns s at) refl k (walk-stops most (afterChunk s at))
-    where
-      go : (b : Bool) → overruns s at ≡ b → cond (ltb at (length s) && not b) (firstOverrun most s (afterChunk s at)) at < length s
-          → (LaterChunk s (afterChunk s at) → length s ≤ afterChunk s at + most → firstOverrun most s (afterChunk s at) < length s → LaterChunk s (firstOverrun most s (afterChunk s at)) × Ends s (firstOverrun most s (afterChunk s at)))
-          → LaterChunk s (cond (ltb at (length s) && not b) (firstOverrun most s (afterChunk s at)) at) × Ends s (cond (ltb at (length s) && not b) (firstOverrun most s (afterChunk s at)) at)
-      go true e k f = rw (lt-ltb at (length s) (later-inside l)) (l, ltb-true (length s) (afterChunk s at) e)
-      go false e k f =
-          let in-file = lt-ltb at (length s) (later-inside l) in
-          let k' : firstOverrun most s (afterChunk s at) < length s = rw in-file at k in
-          rw in-file (f (next-later l (omega (arith, k', walk-past most (afterChunk s at)))) (omega arith) k')
-
-  stops-broken : overrunFrom s afterVoxels < length s → BrokenAt s (overrunFrom s afterVoxels)
-  stops-broken h =
-      let p = walk-stops (length s) afterVoxels (first-later (omega (arith, h, walk-past (length s) afterVoxels))) (omega arith) h in
-      later-broken (p .0) (p .1)
-
-  later-stops : {at : ℕ} → LaterChunk s at → Ends s at → at ≡ overrunFrom s afterVoxels
-  later-stops {at} l h = over-found s at (later-inside l) (lt-ltb (length s) (afterChunk s at) h) ∙ later-walk l
+sized-one : {s : List ℕ} {at a b : ℕ} → Sized s at a → Sized s at b → a ≡ b
+sized-one size-content size-content = refl
+sized-one xyzi-content xyzi-content = refl
 
 -- ---- each test says the condition of its refusal
 module _ (places : ℕ) (s : List ℕ) where
@@ -159,36 +88,14 @@ module _ (places : ℕ) (s : List ℕ) where
 
       from : VoxCondition places s (NotVox 0) → (length s < 8) ⊎ (¬ Named s 0 (text "VOX ") ⊎ ¬ (numberAt s 4 ≡ 150))
       from (not-vox (no-mark e p)) = p
-      from (not-vox (no-main e p)) = absurd (omega (arith, e))
-      from (not-vox (no-size e p)) = absurd (omega (arith, e))
-      from (not-vox (no-xyzi e p)) = absurd (omega (arith, e))
+      from (not-vox (no-chunk r p)) = absurd (omega (arith, required-past r))
 
-  says-main : SaysIt (record { holds = missing s 8 (text "MAIN"); gives = NotVox 8 })
-  says-main = says (missing s 8 (text "MAIN")) (NotVox 8) (missing-says s 8 (text "MAIN")) (λ p. not-vox (no-main refl p)) from
+  says-missing : {at : ℕ} {name : List ℕ} → Required at name → SaysIt (record { holds = missing s at name; gives = NotVox at })
+  says-missing {at} {name} r = says (missing s at name) (NotVox at) (missing-says s at name) (λ p. not-vox (no-chunk r p)) from
     where
-      from : VoxCondition places s (NotVox 8) → NoChunk s 8 (text "MAIN")
-      from (not-vox (no-mark e p)) = absurd (omega (arith, e))
-      from (not-vox (no-main e p)) = p
-      from (not-vox (no-size e p)) = absurd (omega (arith, e))
-      from (not-vox (no-xyzi e p)) = absurd (omega (arith, e))
-
-  says-size : SaysIt (record { holds = missing s 20 (text "SIZE"); gives = NotVox 20 })
-  says-size = says (missing s 20 (text "SIZE")) (NotVox 20) (missing-says s 20 (text "SIZE")) (λ p. not-vox (no-size refl p)) from
-    where
-      from : VoxCondition places s (NotVox 20) → NoChunk s 20 (text "SIZE")
-      from (not-vox (no-mark e p)) = absurd (omega (arith, e))
-      from (not-vox (no-main e p)) = absurd (omega (arith, e))
-      from (not-vox (no-size e p)) = p
-      from (not-vox (no-xyzi e p)) = absurd (omega (arith, e))
-
-  says-xyzi : SaysIt (record { holds = missing s 44 (text "XYZI"); gives = NotVox 44 })
-  says-xyzi = says (missing s 44 (text "XYZI")) (NotVox 44) (missing-says s 44 (text "XYZI")) (λ p. not-vox (no-xyzi refl p)) from
-    where
-      from : VoxCondition places s (NotVox 44) → NoChunk s 44 (text "XYZI")
-      from (not-vox (no-mark e p)) = absurd (omega (arith, e))
-      from (not-vox (no-main e p)) = absurd (omega (arith, e))
-      from (not-vox (no-size e p)) = absurd (omega (arith, e))
-      from (not-vox (no-xyzi e p)) = p
+      from : VoxCondition places s (NotVox at) → NoChunk s at name
+      from (not-vox (no-mark e p)) = absurd (omega (arith, e, required-past r))
+      from (not-vox (no-chunk q p)) = subst (NoChunk s at) (required-one q r) p
 
   says-unfilled : SaysIt (record { holds = unfilled s; gives = BrokenChunk 8 })
   says-unfilled = says (unfilled s) (BrokenChunk 8) is (λ p. broken-chunk (main-broken refl p)) from
@@ -198,27 +105,16 @@ module _ (places : ℕ) (s : List ℕ) where
 
       from : VoxCondition places s (BrokenChunk 8) → ¬ (contentAt s 8 ≡ 0) ⊎ ¬ (afterChunk s 8 ≡ length s)
       from (broken-chunk (main-broken e p)) = p
-      from (broken-chunk (size-broken e p)) = absurd (omega (arith, e))
-      from (broken-chunk (xyzi-broken e p)) = absurd (omega (arith, e))
+      from (broken-chunk (misfit z p)) = absurd (omega (arith, sized-range z .0))
       from (broken-chunk (later-broken l p)) = absurd (omega (arith, later-past s l))
 
-  says-unsized : SaysIt (record { holds = mismatched s 20 12; gives = BrokenChunk 20 })
-  says-unsized = says (mismatched s 20 12) (BrokenChunk 20) (mismatched-says s 20 12) (λ p. broken-chunk (size-broken refl p)) from
+  says-misfit : {at content : ℕ} → Sized s at content → SaysIt (record { holds = mismatched s at content; gives = BrokenChunk at })
+  says-misfit {at} {content} z = says (mismatched s at content) (BrokenChunk at) (mismatched-says s at content) (λ p. broken-chunk (misfit z p)) from
     where
-      from : VoxCondition places s (BrokenChunk 20) → Misfits s 20 12
-      from (broken-chunk (main-broken e p)) = absurd (omega (arith, e))
-      from (broken-chunk (size-broken e p)) = p
-      from (broken-chunk (xyzi-broken e p)) = absurd (omega (arith, e))
-      from (broken-chunk (later-broken l p)) = absurd (omega (arith, later-past s l))
-
-  says-miscounted : SaysIt (record { holds = mismatched s 44 (4 + 4 * voxelCount s); gives = BrokenChunk 44 })
-  says-miscounted = says (mismatched s 44 (4 + 4 * voxelCount s)) (BrokenChunk 44) (mismatched-says s 44 (4 + 4 * voxelCount s)) (λ p. broken-chunk (xyzi-broken refl p)) from
-    where
-      from : VoxCondition places s (BrokenChunk 44) → Misfits s 44 (4 + 4 * voxelCount s)
-      from (broken-chunk (main-broken e p)) = absurd (omega (arith, e))
-      from (broken-chunk (size-broken e p)) = absurd (omega (arith, e))
-      from (broken-chunk (xyzi-broken e p)) = p
-      from (broken-chunk (later-broken l p)) = absurd (omega (arith, later-past s l))
+      from : VoxCondition places s (BrokenChunk at) → Misfits s at content
+      from (broken-chunk (main-broken e p)) = absurd (omega (arith, e, sized-range z .0))
+      from (broken-chunk (misfit y p)) = subst (Misfits s at) (sized-one y z) p
+      from (broken-chunk (later-broken l p)) = absurd (omega (arith, later-past s l, sized-range z .1))
 
   says-sides : SaysIt (record { holds = wrongSide s 0 || (wrongSide s 1 || wrongSide s 2); gives = VoxelRange 20 })
   says-sides = says (wrongSide s 0 || (wrongSide s 1 || wrongSide s 2)) (VoxelRange 20) is (λ p. voxel-range (wrong-side refl p)) from
@@ -257,8 +153,7 @@ module _ (places : ℕ) (s : List ℕ) where
 
       from : VoxCondition places s (BrokenChunk (overrunFrom s (afterVoxels s))) → overrunFrom s (afterVoxels s) < length s
       from (broken-chunk (main-broken e p)) = absurd (omega (arith, e, past))
-      from (broken-chunk (size-broken e p)) = absurd (omega (arith, e, past))
-      from (broken-chunk (xyzi-broken e p)) = absurd (omega (arith, e, past))
+      from (broken-chunk (misfit z p)) = absurd (omega (arith, past, sized-range z .1))
       from (broken-chunk (later-broken l p)) = later-inside s l
 
   tests-say : Each (Says (VoxCondition places s)) (voxTests places s)
@@ -266,16 +161,16 @@ module _ (places : ℕ) (s : List ℕ) where
   tests-say = (
     says-mark,
     (
-      says-main,
+      says-missing main,
       (
         says-unfilled,
         (
-          says-size,
+          says-missing size,
           (
-            says-unsized,
+            says-misfit size-content,
             (
               says-sides,
-              (says-xyzi, (says-miscounted, (says-many, (says-crowded, (says-wrong, (says-overrun, tt)))))),
+              (says-missing xyzi, (says-misfit xyzi-content, (says-many, (says-crowded, (says-wrong, (says-overrun, tt)))))),
             ),
           ),
         ),
@@ -287,13 +182,13 @@ module _ (places : ℕ) (s : List ℕ) where
   none-holds : Each (λ t. ¬ VoxCondition places s (t .gives)) (voxTests places s) → (q : Refusal) → ¬ VoxCondition places s q
   unfolding openingTests voxelTests
   none-holds n q (not-vox (no-mark e p)) = n .0 (not-vox (no-mark refl p))
-  none-holds n q (not-vox (no-main e p)) = n .1 .0 (not-vox (no-main refl p))
+  none-holds n q (not-vox (no-chunk main p)) = n .1 .0 (not-vox (no-chunk main p))
   none-holds n q (broken-chunk (main-broken e p)) = n .1 .1 .0 (broken-chunk (main-broken refl p))
-  none-holds n q (not-vox (no-size e p)) = n .1 .1 .1 .0 (not-vox (no-size refl p))
-  none-holds n q (broken-chunk (size-broken e p)) = n .1 .1 .1 .1 .0 (broken-chunk (size-broken refl p))
+  none-holds n q (not-vox (no-chunk size p)) = n .1 .1 .1 .0 (not-vox (no-chunk size p))
+  none-holds n q (broken-chunk (misfit size-content p)) = n .1 .1 .1 .1 .0 (broken-chunk (misfit size-content p))
   none-holds n q (voxel-range (wrong-side e p)) = n .1 .1 .1 .1 .1 .0 (voxel-range (wrong-side refl p))
-  none-holds n q (not-vox (no-xyzi e p)) = n .1 .1 .1 .1 .1 .1 .0 (not-vox (no-xyzi refl p))
-  none-holds n q (broken-chunk (xyzi-broken e p)) = n .1 .1 .1 .1 .1 .1 .1 .0 (broken-chunk (xyzi-broken refl p))
+  none-holds n q (not-vox (no-chunk xyzi p)) = n .1 .1 .1 .1 .1 .1 .0 (not-vox (no-chunk xyzi p))
+  none-holds n q (broken-chunk (misfit xyzi-content p)) = n .1 .1 .1 .1 .1 .1 .1 .0 (broken-chunk (misfit xyzi-content p))
   none-holds n q (too-many-shots h) = n .1 .1 .1 .1 .1 .1 .1 .1 .0 (too-many-shots h)
   none-holds n q (no-place h) = n .1 .1 .1 .1 .1 .1 .1 .1 .1 .0 (no-place h)
   none-holds n q (voxel-range (wrong-voxel {n = m} e f)) = go (ltb m (firstFault s)) refl
@@ -303,16 +198,12 @@ module _ (places : ℕ) (s : List ℕ) where
       go false h = n .1 .1 .1 .1 .1 .1 .1 .1 .1 .1 .0 (voxel-range (wrong-voxel refl (fault-is s (omega (arith, ltb-false m (firstFault s) h, f .is-voxel)))))
   none-holds n q (broken-chunk (later-broken l p)) = n .1 .1 .1 .1 .1 .1 .1 .1 .1 .1 .1 .0 (broken-chunk (subst (BrokenAt s) (later-stops s l p) (later-broken l p)))
 
-  none-each : ((q : Refusal) → ¬ VoxCondition places s q) → (ts : List Test) → Each (λ t. ¬ VoxCondition places s (t .gives)) ts
-  none-each n [] = tt
-  none-each n (t ∷ ts) = (n (t .gives), none-each n ts)
-
   -- ---- what the file says
   passes-iff : (firstOf (voxTests places s) ≡ Accepted) ↔ ((q : Refusal) → ¬ VoxCondition places s q)
-  passes-iff = let i = none-iff (VoxCondition places s) (voxTests places s) tests-say in (λ e. none-holds (i .0 e), λ n. i .1 (none-each n (voxTests places s)))
+  passes-iff = let i = none-iff (VoxCondition places s) (voxTests places s) tests-say in (λ e. none-holds (i .0 e), λ n. i .1 (none-each (VoxCondition places s) n (voxTests places s)))
 
   abbrev said : Checked → ReadAnswer
-  said c = readAnswer (ifPassed c (file (settingFields (largestSide s) 1 1) (voxels s 0 (voxelCount s))))
+  said c = readAnswer (given s c)
 
   says-read : (c : Checked) → (c ≡ Accepted) ↔ (said c ≡ Read (largestSide s) 1 1 (voxelCount s))
   says-read Accepted = (λ e. rw (voxels-count s 0 (voxelCount s)), λ e. refl)

@@ -7,20 +7,17 @@ use Rattle.job.specs.declared.Checked.{Checked}
 use Rattle.job.specs.declared.Checked.the-variants.{Accepted, Refused}
 use Rattle.job.specs.Checking.{firstOf}
 use Rattle.shotfile_records.specs.declared.Fields.{Fields}
-use Rattle.shotfile.specs.Files.{settingFields, File, file}
+use Rattle.shotfile.specs.Files.{settingFields, file}
 use Rattle.shotfile.proofs.Accepted.{Fits}
-use Rattle.vox.specs.Vox.{largestSide, voxelCount, voxels, voxTests, ifPassed, voxIn}
-use Rattle.vox.proofs.Passed.{Passed, passed-has, voxels-count, voxels-whole}
+use Rattle.vox.specs.Vox.{largestSide, voxelCount, voxels, voxTests, voxIn}
+use Rattle.vox.proofs.Passed.{Passed, passed-has, voxels-count, voxels-whole, given}
 
 module _ (places : ℕ) (s : List ℕ) where
-  abbrev given : Checked → File
-  given c = ifPassed c (file (settingFields (largestSide s) 1 1) (voxels s 0 (voxelCount s)))
-
   pub vox-fits : Fits places (voxIn places s)
   unfolding voxIn
   vox-fits = go (firstOf (voxTests places s)) refl
     where
-      go : (c : Checked) → firstOf (voxTests places s) ≡ c → Fits places (given c)
+      go : (c : Checked) → firstOf (voxTests places s) ≡ c → Fits places (given s c)
       go Accepted e = (voxels-whole s 0 (voxelCount s), omega (arith, voxels-count s 0 (voxelCount s), passed-has places s (sym e) .room))
       go (Refused r) e = tt
 
@@ -34,6 +31,6 @@ module _ (places : ℕ) (s : List ℕ) where
   unfolding voxIn
   vox-accepted {f} {coords} e = go (firstOf (voxTests places s)) refl e
     where
-      go : (c : Checked) → firstOf (voxTests places s) ≡ c → given c ≡ file f coords → Accepts f coords
+      go : (c : Checked) → firstOf (voxTests places s) ≡ c → given s c ≡ file f coords → Accepts f coords
       go (Refused r) h k = let z : _≡_ {A = ℕ} 0 1 = cc in absurd (omega arith)
       go Accepted h k = record { passed = passed-has places s (sym h); settings = let z : settingFields (largestSide s) 1 1 ≡ f = cc in sym z; list = let z : voxels s 0 (voxelCount s) ≡ coords = cc in sym z }

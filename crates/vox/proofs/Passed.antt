@@ -75,13 +75,14 @@ voxels-whole s n zero = refl
 voxels-whole s n (suc left) = places-more (voxelFields s n) (voxels s (suc n) left) (voxels-whole s (suc n) left)
 
 -- ---- the call
-module _ (s before : List ℕ) where
-  abbrev given : Checked → File
-  given c = ifPassed c (file (settingFields (largestSide s) 1 1) (voxels s 0 (voxelCount s)))
+-- what the file says, by what the checks found
+abbrev pub given : List ℕ → Checked → File
+given s c = ifPassed c (file (settingFields (largestSide s) 1 1) (voxels s 0 (voxelCount s)))
 
-  vox-is : {c : Checked} → c ≡ firstOf (voxTests (shotCount before) s) → given c ≡ voxIn (shotCount before) s
+module _ (s before : List ℕ) where
+  vox-is : {c : Checked} → c ≡ firstOf (voxTests (shotCount before) s) → given s c ≡ voxIn (shotCount before) s
   unfolding voxIn
-  vox-is e = ap given e
+  vox-is e = ap (given s) e
 
   pub vox-refused : {r : Refusal} → Refused r ≡ firstOf (voxTests (shotCount before) s) → VoxCall s before (Unread r) before
   unfolding readNumbers readValues

@@ -23,7 +23,7 @@ use Rattle.vox.specs.Vox.{sideOn, largestSide, voxelCount, byteOf, beyon
 use Rattle.vox.specs.Conditions.{voxelShot, HasVoxel, VoxList}
 use Rattle.vox.proofs.Passed.{Passed, voxels-count, voxels-whole}
 use Rattle.vox.proofs.Fits.{vox-fits, vox-accepted}
-use Rattle.vox.proofs.Conditions.{first-before}
+use Rattle.vox.proofs.Faults.{first-before}
 
 -- ---- the voxels as shots
 module _ (s : List ℕ) where

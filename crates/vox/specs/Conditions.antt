@@ -50,11 +50,15 @@ Named s at name = take 4 (drop at s) ≡ name
 abbrev pub NoChunk : List ℕ → ℕ → List ℕ → Type 0
 NoChunk s at name = (length s ≤ at) ⊎ ((at + 4 ≤ length s) × ¬ Named s at name)
 
+-- the chunks that a file must have, each at its place with its name
+pub data Required : ℕ → List ℕ → Type 0 where
+  main : Required 8 (text "MAIN")
+  size : Required 20 (text "SIZE")
+  xyzi : Required 44 (text "XYZI")
+
 pub data NoVoxAt (s : List ℕ) (at : ℕ) : Type 0 where
   no-mark : at ≡ 0 → (length s < 8) ⊎ (¬ Named s 0 (text "VOX ") ⊎ ¬ (numberAt s 4 ≡ 150)) → NoVoxAt s at
-  no-main : at ≡ 8 → NoChunk s 8 (text "MAIN") → NoVoxAt s at
-  no-size : at ≡ 20 → NoChunk s 20 (text "SIZE") → NoVoxAt s at
-  no-xyzi : at ≡ 44 → NoChunk s 44 (text "XYZI") → NoVoxAt s at
+  no-chunk : {name : List ℕ} → Required at name → NoChunk s at name → NoVoxAt s at
 
 -- ---- 14
 -- the file ends before the chunk at a place does; or it has children, or content of another size than this
@@ -64,6 +68,11 @@ Ends s at = length s < afterChunk s at
 abbrev pub Misfits : List ℕ → ℕ → ℕ → Type 0
 Misfits s at content = Ends s at ⊎ (¬ (childrenAt s at ≡ 0) ⊎ ¬ (contentAt s at ≡ content))
 
+-- the chunks without children, each with the size that its content must have
+pub data Sized (s : List ℕ) : ℕ → ℕ → Type 0 where
+  size-content : Sized s 20 12
+  xyzi-content : Sized s 44 (4 + 4 * voxelCount s)
+
 -- a chunk after XYZI begins at a place: the first where the voxels end, each other one where the one before it ends, if a byte is left there
 pub data LaterChunk (s : List ℕ) : ℕ → Type 0 where
   first-later : voxelAt (voxelCount s) < length s → LaterChunk s (voxelAt (voxelCount s))
@@ -71,8 +80,7 @@ pub data LaterChunk (s : List ℕ) : ℕ → Type 0 where
 
 pub data BrokenAt (s : List ℕ) (at : ℕ) : Type 0 where
   main-broken : at ≡ 8 → ¬ (contentAt s 8 ≡ 0) ⊎ ¬ (afterChunk s 8 ≡ length s) → BrokenAt s at
-  size-broken : at ≡ 20 → Misfits s 20 12 → BrokenAt s at
-  xyzi-broken : at ≡ 44 → Misfits s 44 (4 + 4 * voxelCount s) → BrokenAt s at
+  misfit : {content : ℕ} → Sized s at content → Misfits s at content → BrokenAt s at
   later-broken : LaterChunk s at → Ends s at → BrokenAt s at
 
 -- ---- 15
