@@ -14,8 +14,11 @@
 #include <ctime>
 #include <vector>
 
+// What an absent field of a shot file's header means: field side, shot edge, grid size.
+const uint16_t ABSENT[3] = {1024, 16, 16};
+
 struct List {
-    uint16_t field = 1024, edge = 16, grid = 8;
+    uint16_t field = 0, edge = 0, grid = 0;
     std::vector<uint16_t> coords;
 
     size_t shots() const { return coords.size() / 3; }
@@ -41,7 +44,7 @@ inline std::vector<uint8_t> read_bytes(const char *path) {
 inline List read_list(const char *path) {
     std::vector<uint8_t> bytes = read_bytes(path);
     List list;
-    uint16_t header[3] = {1024, 16, 8}, shot[3] = {0, 0, 0};
+    uint16_t header[3] = {ABSENT[0], ABSENT[1], ABSENT[2]}, shot[3] = {0, 0, 0};
     size_t at = 0;
     auto record = [&](uint16_t *values) {
         uint8_t map = bytes[at++];

@@ -9,10 +9,13 @@ import time
 
 import numpy as np
 
+# What an absent field of a shot file's header means: field side, shot edge, grid size.
+ABSENT = (1024, 16, 16)
+
 
 def read_list(path):
     data = open(path, "rb").read()
-    header, shot, shots, at = [1024, 16, 8], [0, 0, 0], [], 0
+    header, shot, shots, at = list(ABSENT), [0, 0, 0], [], 0
     while at < len(data):
         values = shot if at else header
         bits = data[at]

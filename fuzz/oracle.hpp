@@ -211,10 +211,13 @@ inline Measured sums(const uint8_t *listing, size_t corners) {
     return result;
 }
 
-// What a file holds, or why it is refused. The header begins as what absent fields of a shot file mean.
+// What an absent field of a shot file's header means: field side, shot edge, grid size.
+const uint16_t ABSENT[3] = {1024, 16, 16};
+
+// What a file holds, or why it is refused. The header begins as what its absent fields mean.
 struct File {
     Refusal refusal = {0, 0};
-    uint16_t header[3] = {1024, 16, 8};
+    uint16_t header[3] = {ABSENT[0], ABSENT[1], ABSENT[2]};
     std::vector<uint16_t> coords;
 };
 
@@ -315,8 +318,8 @@ inline std::vector<uint8_t> write(const List &list) {
             bytes.push_back(uint8_t(values[bit] >> 8));
         }
     };
-    const uint16_t header[3] = {list.field, list.edge, list.grid}, absent[3] = {1024, 16, 8}, zero[3] = {0, 0, 0};
-    put(header, absent);
+    const uint16_t header[3] = {list.field, list.edge, list.grid}, zero[3] = {0, 0, 0};
+    put(header, ABSENT);
     for (size_t shot = 0; shot < list.shots(); shot++)
         put(list.coords + 3 * shot, shot == 0 ? zero : list.coords + 3 * (shot - 1));
     return bytes;

@@ -133,7 +133,7 @@ fn most_shots() {
     end_line();
 }
 
-// The example list of docs/SCOPE.md, with one place to spare, exactly enough, and one too few; and defaults that are left out.
+// The example list of docs/SCOPE.md, with one place to spare, exactly enough, and one too few; and a list whose fields can be left out.
 fn written() {
     let coords = [0u16, 0, 0, 1, 1, 1];
     let mut sixteen = [9u8; 16];
@@ -144,9 +144,18 @@ fn written() {
     show_write(8, 2, 2, &coords, &mut fourteen);
     let repeats = [0u16, 0, 0, 0, 0, 0, 300, 0, 1, 300, 0, 1];
     let mut twelve = [9u8; 12];
-    show_write(1024, 16, 8, &repeats, &mut twelve);
+    show_write(1024, 16, 16, &repeats, &mut twelve);
+}
+
+// No shots, with a grid size of 16, which is left out, and with 8, which is named: written, and read back.
+fn settings() {
     let none = [0u16; 0];
-    show_write(1024, 16, 8, &none, &mut twelve);
+    let mut left_out = [9u8; 4];
+    show_write(1024, 16, 16, &none, &mut left_out);
+    show_cut(&left_out, 1);
+    let mut named = [9u8; 4];
+    show_write(1024, 16, 8, &none, &mut named);
+    show_cut(&named, 3);
 }
 
 // Each refusal of the writer at its edge, with a buffer that is long enough and one that is not.
@@ -166,16 +175,16 @@ fn refused_lists() {
     let outside = [6u16, 6, 6, 7, 6, 6];
     show_write(8, 2, 2, &outside, &mut bytes);
     let wraps = [0u16, 0, 65520];
-    show_write(1024, 16, 8, &wraps, &mut bytes);
+    show_write(1024, 16, 16, &wraps, &mut bytes);
 }
 
 // 1 before 2, and 2.
 fn too_many() {
     let coords = [0u16; 12291];
     let mut bytes = [9u8; 4];
-    show_write(1024, 16, 8, &coords[..12289], &mut bytes);
-    show_write(1024, 16, 8, &coords, &mut bytes);
-    show_write(1024, 16, 8, &coords[..12288], &mut bytes);
+    show_write(1024, 16, 16, &coords[..12289], &mut bytes);
+    show_write(1024, 16, 16, &coords, &mut bytes);
+    show_write(1024, 16, 16, &coords[..12288], &mut bytes);
 }
 
 fn main() {
@@ -192,6 +201,7 @@ fn main() {
     show_bit(128);
     most_shots();
     written();
+    settings();
     refused_lists();
     too_many();
 }

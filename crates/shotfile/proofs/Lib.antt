@@ -13,3 +13,4 @@ pub mod Accepted
 pub mod Faults
 pub mod Conditions
 pub mod RoundTrip
+pub mod Examples

@@ -10,9 +10,9 @@ use Rattle.shotfile_records.specs.declared.Fields.{Fields}
 use Rattle.shotfile_records.specs.declared.Taken.{Taken}
 use Rattle.shotfile_records.specs.declared.Taken.the-variants.{Whole, Refused}
 
--- what the header's absent fields mean: a field side of 1,024, a shot edge of 16, a grid size of 8
+-- what the header's absent fields mean: a field side of 1,024, a shot edge of 16, a grid size of 16
 unfoldable pub headerAbsent : Fields
-headerAbsent = record { first = 1024; second = 16; third = 8 }
+headerAbsent = record { first = 1024; second = 16; third = 16 }
 
 -- an absent coordinate is the previous shot's, and 0 for the first shot
 unfoldable pub firstAbsent : Fields

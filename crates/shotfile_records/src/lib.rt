@@ -13,7 +13,7 @@ const FIELD: u16 = 1024;
 
 const EDGE: u16 = 16;
 
-const GRID: u16 = 8;
+const GRID: u16 = 16;
 
 // The three numbers of a record: F, E, G of the header, x, y, z of a shot.
 pub struct Fields {

@@ -19,12 +19,13 @@ abbrev says : String → Typed → Type 0
 says t answer = typedList 2 (text t) ≡ answer
 
 pub examples :
-    says "" (Listed 1024 16 8 0)
-    × says "\n\n" (Listed 1024 16 8 0)
-    × says "# nothing but a comment" (Listed 1024 16 8 0)
-    × says "field 8\nedge 2\ngrid 8 # default\nshot 0 0 0 # number 0, byte 7\nshot 1 1 1 # number 1, byte 8\n" (Listed 8 2 8 2)
-    × says "shot 1 1 1\n  field  0008#no blank before the comment" (Listed 8 16 8 1)
-    × says "field 65535" (Listed 65535 16 8 0)
+    says "" (Listed 1024 16 16 0)
+    × says "\n\n" (Listed 1024 16 16 0)
+    × says "# nothing but a comment" (Listed 1024 16 16 0)
+    × says "field 8\nedge 2\ngrid 16 # default\nshot 0 0 0 # number 0, byte 5\nshot 1 1 1 # number 1, byte 6\n" (Listed 8 2 16 2)
+    × says "shot 1 1 1\n  field  0008#no blank before the comment" (Listed 8 16 16 1)
+    × says "grid 8" (Listed 1024 16 8 0)
+    × says "field 65535" (Listed 65535 16 16 0)
     × says "field 65536" (Mistaken 1 LargeNumber)
     × says "field 8\nrefused 5 at byte 8" (Mistaken 2 UnknownWord)
     × says "fields 8" (Mistaken 1 UnknownWord)
@@ -37,4 +38,4 @@ pub examples :
     × says "shot 1 1 1\nshot 1 1 1\nshot 1 1 1" (Mistaken 3 NoPlace)
     × (shotsIn (linesOf (text "shot 1 2 3\nedge 2\nshot 4 5 6 # the second")) ≡ numbersOf 1 2 3 ++ numbersOf 4 5 6)
 unfolding headerAbsent before linesFrom wordsFrom digitsOnly valueFrom wordNumber same commandOf onNumber settingOf shotOf commanded entryOf nothingYet settled shotMore then typedFrom typedList shotsIn
-examples = (refl, refl, refl, refl, refl, refl, refl, refl, refl, refl, refl, refl, refl, refl, refl, refl, refl)
+examples = (refl, refl, refl, refl, refl, refl, refl, refl, refl, refl, refl, refl, refl, refl, refl, refl, refl, refl)

@@ -3,7 +3,7 @@
 use crate::list::{refusal, List, Refusal, MOST_SHOTS};
 
 /// What an absent header field means: field side, shot edge, grid size.
-pub const ABSENT: [u16; 3] = [1024, 16, 8];
+pub const ABSENT: [u16; 3] = [1024, 16, 16];
 
 /// Reads one record at `offset`: a map, then the fields that it names; absent ones keep their values. Gives the
 /// record's values and the offset after it.

@@ -112,10 +112,12 @@ fn the_reader_s_first_faulty_record_decides() {
 fn absent_fields_repeat_axis_by_axis() {
     let mut coords = vec![7; 16];
     let file = [0, 5, 1, 0, 2, 0, 2, 3, 0, 1, 0, 0, 0];
-    assert_eq!(calls::read(&file, &mut coords), [0, 0, 1024, 16, 8, 4]);
+    assert_eq!(calls::read(&file, &mut coords), [0, 0, 1024, 16, 16, 4]);
     assert_eq!(coords, [1, 0, 2, 1, 3, 2, 0, 3, 2, 0, 3, 2, 7, 7, 7, 7]);
-    assert_eq!(calls::read(&[0], &mut coords), [0, 0, 1024, 16, 8, 0]);
+    assert_eq!(calls::read(&[0], &mut coords), [0, 0, 1024, 16, 16, 0]);
+    assert_eq!(calls::read(&[4, 8, 0], &mut coords), [0, 0, 1024, 16, 8, 0]);
     let read = shotfile::read(&file, 12).unwrap();
     assert_eq!(shotfile::shortest(&read), file);
-    assert_eq!(shotfile::shortest(&list(1024, 16, 8, &[0, 0, 0])), [0, 0]);
+    assert_eq!(shotfile::shortest(&list(1024, 16, 16, &[0, 0, 0])), [0, 0]);
+    assert_eq!(shotfile::shortest(&list(1024, 16, 8, &[0, 0, 0])), [4, 8, 0, 0]);
 }
