@@ -4,7 +4,8 @@
 -- for every list that either call accepts, the totals are the cell counts and the corner sums, the corner count is the number of
 -- lattice points with a nonzero weight, and the work slice holds the index; for every list that `list` accepts, the first 7 bytes for each
 -- corner hold each corner point once, with its pattern, in rising order, and nothing else, and the corner sums from these bytes alone are
--- the same figures; and for every two such lists, these bytes are the same exactly when the lists cover the same cells.
+-- the same figures; and for every two such lists, these bytes are the same exactly when the lists cover the same cells. What follows at
+-- the end says what does not matter: the grid, the order, repeats.
 use mathlib.Core.Path.{_≡_, sym, _∙_, ap, subst}
 use mathlib.Core.Logic.{_↔_}
 use mathlib.Core.List.{List, _++_}
@@ -112,6 +113,21 @@ module _ {F E G : ℕ} {coords work' : List ℕ} {t : Totals} (one : Accepted F 
 
   pub count-same : t .corners ≡ t₂ .corners
   count-same = count-corners one ∙ ap length corners-same ∙ sym (count-corners two)
+
+-- the grid does not matter: one field, edge and shots, in any two grids that a call accepts, have the same totals and corner count, and
+-- the same listing bytes
+module _ {F E : ℕ} {coords : List ℕ} {G : ℕ} {work work' : List ℕ} {t : Totals} (one : MeasureCall F E G coords work (Quote t) work')
+    {G₂ : ℕ} {work₂ work₂' : List ℕ} {t₂ : Totals} (two : MeasureCall F E G₂ coords work₂ (Quote t₂) work₂') where
+  pub measured-any-grid : t ≡ t₂
+  measured-any-grid = measure-accepted one .totals-are ∙ sym (measure-accepted two .totals-are)
+
+module _ {F E : ℕ} {coords : List ℕ} {G : ℕ} {work buffer work' buffer' : List ℕ} {t : Totals} (one : ListCall F E G coords work buffer (Quote t) work' buffer')
+    {G₂ : ℕ} {work₂ buffer₂ work₂' buffer₂' : List ℕ} {t₂ : Totals} (two : ListCall F E G₂ coords work₂ buffer₂ (Quote t₂) work₂' buffer₂') where
+  pub totals-any-grid : t ≡ t₂
+  totals-any-grid = list-accepted one .totals-are ∙ sym (list-accepted two .totals-are)
+
+  pub listing-any-grid : take (7 * t .corners) buffer' ≡ take (7 * t₂ .corners) buffer₂'
+  listing-any-grid = bytes-are one ∙ sym (bytes-are two)
 
 -- neither order nor repeats change the cells: two lists of one edge cover the same cells if each has every shot of the other
 module _ (E : ℕ) (coords coords₂ : List ℕ) where
