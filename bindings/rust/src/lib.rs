@@ -147,8 +147,8 @@ fn answer_of<const N: usize>(call: raw::Indexing, list: &List, work: &mut [u32])
     (written, answer)
 }
 
-/// Reads a shot file. Success stores the shots in the first places of `coords`; nothing else changes. Ranges are not
-/// tested here.
+/// Reads a shot file. Success stores the shots in the first places of `coords`; nothing else changes. What the file's
+/// header leaves out is field 1,024, edge 16, grid 16. Ranges are not tested here.
 pub fn read(bytes: &[u8], coords: &mut [u16]) -> Result<Header, Refusal> {
     read_by(raw::heqdanu_read, bytes, coords)
 }

@@ -50,6 +50,14 @@ fn files() {
 }
 
 #[test]
+fn settings_that_a_file_leaves_out() {
+    assert_eq!(from_file(&[0]), Ok((Header { field: 1024, edge: 16, grid: 16, shots: 0 }, vec![])));
+    assert_eq!(from_file(&[4, 8, 0]), Ok((Header { field: 1024, edge: 16, grid: 8, shots: 0 }, vec![])));
+    assert_eq!(to_file(&List { field: 1024, edge: 16, grid: 16, coords: &[] }).unwrap(), [0]);
+    assert_eq!(to_file(&List { field: 1024, edge: 16, grid: 8, coords: &[] }).unwrap(), [4, 8, 0]);
+}
+
+#[test]
 fn the_index_stays_in_the_work_slice() {
     let one = List { coords: &[1, 1, 1], ..TWO };
     let mut work = [5; 11];

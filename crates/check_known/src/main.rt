@@ -1,5 +1,5 @@
-// Runs the jobs with known totals of docs/SCOPE.md, the limits named under its table, and each refusal of the measuring and the listing
-// call. Every entry and byte that is lent is junk before the call. A line names the job and the call, gives the answer, and then, of
+// Runs the jobs with known totals of docs/SCOPE.md, the limits named under its table, each refusal of the measuring and the listing call,
+// and files that leave out the grid size. Every entry and byte that is lent is junk before the call. A line names the job and the call, gives the answer, and then, of
 // each lent slice, how many places in front changed and how many in all kept their junk: together they are all places where only the
 // front was written. The index in front is printed too, where it is short, and the listing.
 mod junk;
@@ -9,6 +9,7 @@ ghost use lib.ListN.{length};
 use check_print::print_number;
 use check_print::print_refusal;
 use measure_intake::Measured;
+use shotfile::ReadAnswer;
 
 // A list's settings, and how long the lent slices are.
 struct Lent {
@@ -333,6 +334,44 @@ fn many_shots() {
     show_first(b"2 before 6", 0, &coords, 12291);
 }
 
+// Reads a file of one shot, and shows its list, with so many entries.
+fn show_file(name: &[u8], file: &[u8], entries: usize) {
+    let mut coords = [0u16; 3];
+    let answer = shotfile::read(file, &mut coords);
+    match answer {
+        ReadAnswer::Read {
+            field,
+            edge,
+            grid,
+            shots: _,
+        } => {
+            let lent = Lent {
+                field: field,
+                edge: edge,
+                grid: grid,
+                entries: entries,
+                room: 60,
+            };
+            show(name, lent, &coords);
+        }
+        ReadAnswer::Refused(refusal) => {
+            io::write_all(1, name);
+            print_refusal(refusal);
+            io::write_all(1, b"\n");
+        }
+    }
+}
+
+// Files that leave out the grid size, with as many entries as a grid of 8 needs: 16 does not divide the field side, or needs more. Then the
+// same files with 8 named, and one with as many entries as 16 needs.
+fn left_out_grids() {
+    show_file(b"field 8, no grid, in 540", &[3, 8, 0, 2, 0, 0], 540);
+    show_file(b"field 8, grid 8, in 540", &[7, 8, 0, 2, 0, 8, 0, 0], 540);
+    show_file(b"field 1024, no grid, in 514", &[0, 0], 514);
+    show_file(b"field 1024, grid 8, in 514", &[4, 8, 0, 0], 514);
+    show_file(b"field 1024, no grid, in 4098", &[0, 0], 4098);
+}
+
 fn main() {
     small_jobs();
     hollow();
@@ -346,4 +385,5 @@ fn main() {
     broken_shots();
     many_shots();
     order();
+    left_out_grids();
 }

@@ -2,8 +2,9 @@
 //!
 //! The same seed gives the same inputs on every machine.
 
+use crate::grid;
 use crate::list::{List, MOST_SHOTS};
-use crate::{grid, shotfile};
+use crate::shotfile::{self, ABSENT};
 
 /// A small generator of random numbers (splitmix64).
 #[derive(Clone)]
@@ -45,22 +46,36 @@ pub struct Size {
     pub shots: usize,
 }
 
-/// A list within the size that every call accepts, given room.
+/// A list within the size that every call accepts, given room. Often enough its settings are such as a shot file leaves
+/// out.
 pub fn accepted(random: &mut Random, size: Size) -> List {
-    let field = random.within(1, size.field);
-    let edge = match random.within(0, 4) {
+    let field = field(random, size.field);
+    let edge = match random.within(0, 5) {
         0 => 1,
         1 => random.within(1, field),
         2 => field - random.within(0, field.min(3) - 1),
+        3 if field > ABSENT[1].into() => ABSENT[1].into(),
         _ => random.within(1, field.div_ceil(3)),
     };
     accepted_with(random, field, edge, size.shots)
 }
 
+/// A field side up to the largest, one in six that the absent grid size divides; one in twelve the absent field side,
+/// where it is not too large.
+fn field(random: &mut Random, most: usize) -> usize {
+    let [absent, _, grid] = ABSENT.map(usize::from);
+    match random.within(1, 12) {
+        1 if absent <= most => absent,
+        2 | 3 if grid <= most => grid * random.within(1, most / grid),
+        _ => random.within(1, most),
+    }
+}
+
 /// A list with the given field and edge that every call accepts, given room.
 pub fn accepted_with(random: &mut Random, field: usize, edge: usize, most_shots: usize) -> List {
     let grids: Vec<usize> = (1..=field.min(64)).filter(|g| field.is_multiple_of(*g)).collect();
-    let grid = random.one_of(&grids);
+    let absent = ABSENT[2].into();
+    let grid = if grids.contains(&absent) && random.once_in(3) { absent } else { random.one_of(&grids) };
     let shots = if random.once_in(40) { 0 } else { random.within(1, most_shots) };
     let coords = coords(random, field, edge, grid, shots);
     List { field: field as u16, edge: edge as u16, grid: grid as u16, coords }
@@ -151,7 +166,7 @@ pub fn longer_file(random: &mut Random, list: &List) -> Vec<u8> {
             }
         }
     };
-    put([list.field, list.edge, list.grid], shotfile::ABSENT);
+    put([list.field, list.edge, list.grid], ABSENT);
     let mut previous = [0; 3];
     for shot in list.coords.chunks_exact(3) {
         put([shot[0], shot[1], shot[2]], previous);
@@ -160,9 +175,13 @@ pub fn longer_file(random: &mut Random, list: &List) -> Vec<u8> {
     file
 }
 
-/// A shot file: whole, cut, with flipped bits, with more bytes after it, or random bytes.
+/// A shot file: whole, cut, with flipped bits, with more bytes after it, or random bytes. One in sixteen has the grid
+/// size that files leave out, whether or not it divides the field side.
 pub fn file(random: &mut Random, size: Size) -> Vec<u8> {
-    let list = if random.once_in(4) { damaged(random, size) } else { accepted(random, size) };
+    let mut list = if random.once_in(4) { damaged(random, size) } else { accepted(random, size) };
+    if random.once_in(16) {
+        list.grid = ABSENT[2];
+    }
     let mut file = if random.once_in(2) { shotfile::shortest(&list) } else { longer_file(random, &list) };
     match random.within(0, 9) {
         0 => file.truncate(random.within(0, file.len())),

@@ -90,3 +90,31 @@ fn the_quoting_program_s_example() {
     assert_eq!(quote(&[1, 8, 0]), "refused 7 0\n");
     assert_eq!(quote(&[4, 64, 0]), "refused 10 262145\n");
 }
+
+#[test]
+fn files_that_leave_out_the_grid() {
+    // 16 does not divide the field side; 8, named, does.
+    assert_eq!(quote(&[3, 8, 0, 2, 0, 0]), "refused 8 0\n");
+    assert_eq!(quote(&[7, 8, 0, 2, 0, 8, 0, 0]), "volume 8\narea 24\nedge 24\ncorners 8\n");
+    // A shot of edge 16 at the origin needs 4,098 entries with 16, and 514 with 8.
+    let one = |grid| job(1024, 16, grid, &[[0; 3]]);
+    assert_eq!(calls::measure(&one(16), &mut vec![0; 514]), [10, 4098, 0, 0, 0, 0]);
+    for (grid, need) in [(8, 514), (16, 4098)] {
+        assert_eq!(calls::measure(&one(grid), &mut vec![0; need]), [0, 0, 4096, 1536, 192, 8]);
+    }
+}
+
+#[test]
+fn how_many_large_shots_the_quoting_program_has_entries_for() {
+    // Shots of edge 512 in a field of 1,024: on grid planes they touch most grid cells, between them fewest.
+    for (header, place, most, refused) in [
+        (&[2, 0, 2][..], 64, 12, 4097 + 13 * 1000),
+        (&[2, 0, 2], 1, 16, 4097 + 17 * 729),
+        (&[6, 0, 2, 8, 0], 128, 73, 513 + 74 * 216),
+        (&[6, 0, 2, 8, 0], 1, 126, 513 + 127 * 125),
+    ] {
+        let file = |shots: usize| [header, &[7, place, 0, place, 0, place, 0], &vec![0; shots - 1]].concat();
+        assert_eq!(quote(&file(most)), "volume 134217728\narea 1572864\nedge 6144\ncorners 8\n");
+        assert_eq!(quote(&file(most + 1)), format!("refused 10 {refused}\n"));
+    }
+}

@@ -55,6 +55,9 @@ fn refused_examples() {
     assert_eq!(on("quote", &example("cut_off")).text(), "refused 5 8\n");
     assert_eq!(example("outside"), [7, 8, 0, 2, 0, 2, 0, 0, 7, 7, 0, 6, 0, 6, 0]);
     assert_eq!(on("quote", &example("outside")).text(), "refused 9 1\n");
+    // The overlapping cubes without a grid size.
+    assert_eq!(example("no_grid"), [&[3], &overlap[1..5], &overlap[7..]].concat());
+    assert_eq!(on("quote", &example("no_grid")).text(), "refused 8 0\n");
 }
 
 #[test]
@@ -77,7 +80,7 @@ fn no_other_file_is_there() {
         .expect("the examples are there")
         .map(|entry| entry.expect("an example").file_name().to_string_lossy().into_owned())
         .collect();
-    let shots = ACCEPTED.iter().map(|(name, ..)| *name).chain(["shell", "cut_off", "outside"]);
+    let shots = ACCEPTED.iter().map(|(name, ..)| *name).chain(["shell", "cut_off", "outside", "no_grid"]);
     let known = shots.map(|name| format!("{name}.shots")).chain(["arch.vox".into(), "make_arch".into()]);
     assert_eq!(there, known.collect());
 }

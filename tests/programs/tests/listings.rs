@@ -45,8 +45,22 @@ fn refusals_with_their_sentences() {
     refused(&[0, 8], "refused 4 1: this map has a bit that has no meaning\n");
     refused(&[1, 0, 0], "refused 6 0: the field side is not 1 to 1,024\n");
     refused(&[7, 8, 0, 2, 0, 2, 0, 0, 1, 7, 0], "refused 9 1: a shot leaves the field\n");
+    refused(&[3, 8, 0, 2, 0, 0], "refused 8 0: the grid size is not 1 to 64, or does not divide the field side\n");
     refused(&[4, 64, 0], "refused 10 262145: the work slice is too short for the grid index\n");
     refused(&[0; 4098], "refused 2 4097: there are more than 4,096 shots\n");
+}
+
+#[test]
+fn one_listing_whatever_the_grid() {
+    // A grid of 16, left out, and others.
+    let shots = [7, 60, 0, 120, 0, 200, 3, 1, 70, 0, 0, 4, 190, 3, 2, 56, 1];
+    let file = |header: &[u8]| [header, &shots].concat();
+    let bytes = on("listing", &file(&[0])).good();
+    assert_eq!((bytes.len() % 7, bytes.len() > 7 * 16), (0, true));
+    for grid in [1, 2, 4, 8, 16] {
+        holds(&file(&[4, grid, 0]), 3);
+        assert_eq!(on("listing", &file(&[4, grid, 0])).good(), bytes, "grid {grid}");
+    }
 }
 
 #[test]

@@ -7,6 +7,7 @@ use std::os::unix::fs::symlink;
 
 const OVERLAP: [u8; 15] = [7, 8, 0, 2, 0, 2, 0, 0, 7, 1, 0, 1, 0, 1, 0];
 const OVERLAP_QUOTE: &str = "volume 15\narea 42\nedge 48\ncorners 20\n";
+const NO_GRID: &[u8] = include_bytes!("../../../examples/no_grid.shots");
 const CUBE: [u8; 8] = [7, 8, 0, 2, 0, 2, 0, 0];
 const CUBE_QUOTE: &str = "volume 8\narea 24\nedge 24\ncorners 8\n";
 
@@ -102,13 +103,37 @@ fn one_status_for_each_outcome() {
         tree.run("shots", &[file]).is(&told.text(), "", status);
     }
     tree.shell("\"$TREE/shots\" <&-", &[]).is("", "shots: standard input cannot be read\n", 2);
-    for (text, status) in
-        [("field 8\nedge 2\n", 0), ("field 8\nedge 2\ngrid 2\nshot 7 0 0\n", 1), ("field 8\nfield 8\n", 2)]
-    {
+    for (text, status) in [
+        ("field 8\nedge 2\ngrid 2\n", 0),
+        ("field 8\nedge 2\n", 1),
+        ("field 8\nedge 2\ngrid 2\nshot 7 0 0\n", 1),
+        ("field 8\nfield 8\n", 2),
+    ] {
         let told = run::on("write_shots", text.as_bytes());
         let ended = tree.shell("\"$TREE/write_shots\"", text.as_bytes());
         assert_eq!(ended, Ended { output: told.output, complaint: told.complaint, status });
     }
+}
+
+#[test]
+fn readme_names_a_grid_of_8() {
+    let tree = Tree::built();
+    let edit = "sed 's/^grid 16 # default$/grid 8/; /^refused 8:/d'";
+    assert!(include_str!("../../../README.md")
+        .contains(&format!("./shots examples/no_grid.shots | {edit} | ./write_shots")));
+    let line = format!("\"$TREE/shots\" part | {edit} | \"$TREE/write_shots\"");
+    let named = |file: &[u8]| {
+        tree.file("part", file);
+        tree.shell(&line, &[]).output
+    };
+    assert_eq!(named(NO_GRID), [&[7], &OVERLAP[1..5], &[8, 0], &OVERLAP[7..]].concat());
+    tree.shell(&format!("{line} | \"$TREE/quote\""), &[]).is(OVERLAP_QUOTE, "", 0);
+    // Files that are accepted get 8 too; a grid that is named stays.
+    assert_eq!(named(&[0, 0]), [4, 8, 0, 0]);
+    assert_eq!(named(&OVERLAP), OVERLAP);
+    // What is refused for another reason stays refused.
+    assert_eq!(named(&[3, 8, 0, 2, 0, 1, 7, 0]), []);
+    assert_eq!(named(&NO_GRID[..12]), []);
 }
 
 #[test]

@@ -68,6 +68,33 @@ fn as_many_shots_as_allowed_and_one_more() {
 }
 
 #[test]
+fn a_grid_that_is_left_out_is_16() {
+    // It does not divide a field side of 8; with 8 named the file is quoted.
+    let no_grid = [3, 8, 0, 2, 0, 0];
+    for name in ["quote", "recount"] {
+        assert_eq!(on(name, &no_grid).text(), "refused 8 0\n", "{name}");
+        assert_eq!(on(name, &[7, 8, 0, 2, 0, 8, 0, 0]).text(), "volume 8\narea 24\nedge 24\ncorners 8\n", "{name}");
+    }
+    assert_eq!(
+        on("shots", &no_grid).text(),
+        "field 8\nedge 2\ngrid 16 # default\nshot 0 0 0 # number 0, byte 5\n\
+         refused 8: the grid size is not 1 to 64, or does not divide the field side\n"
+    );
+    // Shots of edge 512 at (1,1,1) touch 9 intervals of 16 on each axis, and 5 of 8; there are 16,384 work entries.
+    let large = |header: &[u8], shots: usize| [header, &[7, 1, 0, 1, 0, 1, 0], &vec![0; shots - 1]].concat();
+    let cube = "volume 134217728\narea 1572864\nedge 6144\ncorners 8\n";
+    for (header, shots, told) in [
+        (&[2, 0, 2][..], 16, cube),
+        (&[2, 0, 2], 17, "refused 10 16490\n"),
+        (&[6, 0, 2, 8, 0], 17, cube),
+        (&[6, 0, 2, 8, 0], 126, cube),
+        (&[6, 0, 2, 8, 0], 127, "refused 10 16388\n"),
+    ] {
+        assert_eq!(on("quote", &large(header, shots)).text(), told, "{shots} shots");
+    }
+}
+
+#[test]
 fn more_bytes_than_are_read() {
     // The longest list, then much more: the byte after the list shows that there are too many shots.
     let mut file = vec![7, 0, 4, 16, 0, 8, 0];
@@ -89,6 +116,8 @@ fn more_bytes_than_are_read() {
 fn generated_files() {
     let mut random = Random::new(41);
     let mut refused = 0;
+    // Of the files whose header leaves out the grid size: quoted, and refused by 8 and by 10.
+    let mut no_grid = [0; 3];
     for number in 0..600 {
         let size = if number % 20 == 0 { Size { field: 1024, shots: 40 } } else { Size { field: 16, shots: 20 } };
         let file = inputs::file(&mut random, size);
@@ -97,9 +126,16 @@ fn generated_files() {
         for name in names {
             assert_eq!(in_pieces(name, &file, piece).text(), expected(name, &file), "{name} on {file:02x?}");
         }
-        refused += usize::from(quote::quote(&file).starts_with("refused"));
+        let told = quote::quote(&file);
+        refused += usize::from(told.starts_with("refused"));
+        if file.first().is_some_and(|map| map & 4 == 0) {
+            for (count, start) in no_grid.iter_mut().zip(["volume", "refused 8 ", "refused 10 "]) {
+                *count += usize::from(told.starts_with(start));
+            }
+        }
     }
     assert!((50..550).contains(&refused), "{refused} of the files are refused");
+    assert!(no_grid.into_iter().all(|count| count >= 3), "{no_grid:?} of the files without a grid size");
 }
 
 #[test]

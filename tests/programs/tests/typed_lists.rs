@@ -22,6 +22,8 @@ fn complaint(text: &[u8]) -> String {
 #[test]
 fn settings_shots_and_comments() {
     assert_eq!(written(""), [0]);
+    assert_eq!(written("field 1024\nedge 16\ngrid 16\n"), [0]);
+    assert_eq!(written("grid 8"), [4, 8, 0]);
     assert_eq!(
         written("field 8\nedge 2\ngrid 2\nshot 0 0 0\nshot 1 1 1\n"),
         [7, 8, 0, 2, 0, 2, 0, 0, 7, 1, 0, 1, 0, 1, 0]
@@ -57,9 +59,16 @@ fn mistakes_name_their_line() {
 
 #[test]
 fn lists_that_no_call_accepts() {
-    for (text, number) in
-        [("field 0", 6), ("field 1025", 6), ("edge 0", 7), ("field 8", 7), ("grid 3", 8), ("shot 1009 0 0", 9)]
-    {
+    for (text, number) in [
+        ("field 0", 6),
+        ("field 1025", 6),
+        ("edge 0", 7),
+        ("field 8", 7),
+        ("grid 3", 8),
+        ("field 24", 8),
+        ("field 8\nedge 2", 8),
+        ("shot 1009 0 0", 9),
+    ] {
         let told = complaint(text.as_bytes());
         assert!(told.contains(&number.to_string()) && told.contains(text::sentence(number)), "{told:?} for {text:?}");
     }
