@@ -141,8 +141,9 @@ uint8_t heqdanu_index(uint16_t field, uint16_t edge, uint16_t grid, const uint16
 
 /* Reads a shot file.
  *
- * answer: number, detail, field, edge, grid, number of shots. The ranges of these and of the coordinates are not
- * tested; the calls that take the list do that.
+ * answer: number, detail, field, edge, grid, number of shots. What the file's header leaves out is field 1,024, edge
+ * 16, grid 16; with that grid the work slice needs 4,097 entries and the pairs. The ranges of these numbers and of the
+ * coordinates are not tested; the calls that take the list do that.
  *
  * `coords` takes three numbers a shot; 12,288 places are enough for every file.
  *
@@ -177,7 +178,8 @@ uint8_t heqdanu_read_vox(const uint8_t *bytes, size_t nbytes, uint16_t *coords, 
 
 /* Writes the shortest shot file of a list.
  *
- * answer: number, detail, length of the file in bytes (HEQDANU_WRITE_ANSWER places).
+ * answer: number, detail, length of the file in bytes (HEQDANU_WRITE_ANSWER places). Field 1,024, edge 16 and grid 16
+ * are left out of the header, and of a shot each coordinate that is that of the shot before, or 0 in the first.
  *
  * `bytes` takes the file; 28,679 bytes are enough for every list.
  *

@@ -136,6 +136,8 @@ extern "C" uint8_t heqdanu_read(const uint8_t *bytes, size_t nbytes, uint16_t *c
         if (FAULT == 10 && file.refusal.number == 5 && ncoords > 0) coords[0] = 0;
         return refused(answer, file.refusal, false);
     }
+    // A grid size that is left out is taken for 8.
+    if (FAULT == 20 && (bytes[0] & 4) == 0) file.header[2] = 8;
     std::copy(file.coords.begin(), file.coords.end(), coords);
     return answered(answer, {0, 0, file.header[0], file.header[1], file.header[2], file.coords.size() / 3});
 }
