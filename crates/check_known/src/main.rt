@@ -1,7 +1,7 @@
 // Runs the jobs with known totals of docs/SCOPE.md, the limits named under its table, each refusal of the measuring and the listing call,
-// and files that leave out the grid size. Every entry and byte that is lent is junk before the call. A line names the job and the call, gives the answer, and then, of
-// each lent slice, how many places in front changed and how many in all kept their junk: together they are all places where only the
-// front was written. The index in front is printed too, where it is short, and the listing.
+// and files that leave out the grid size. Every entry and byte that is lent is junk before the call. A line names the job and the call,
+// gives the answer, and then, of each lent slice, how many places in front changed and how many in all kept their junk: together they are
+// all places where only the front was written. The index in front is printed too, where it is short, and the listing.
 mod junk;
 
 ghost use mathlib.Core.Path.{_≡_};
