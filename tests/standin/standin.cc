@@ -164,7 +164,9 @@ extern "C" uint8_t heqdanu_write(uint16_t field, uint16_t edge, uint16_t grid, c
     std::vector<uint8_t> file = oracle::write(list);
     if (FAULT == 11 && nbytes > file.size()) bytes[file.size()] = 0;
     if (nbytes < file.size()) return refused(answer, {12, file.size()}, true);
-    if (FAULT == 12 && list.grid == oracle::ABSENT[2] && file.size() > 30) return refused(answer, {12, file.size() + 2}, true);
+    // The grid size that is left out is counted.
+    bool left_out = list.grid == oracle::ABSENT[2];
+    if (FAULT == 12 && left_out && file.size() > 30) return refused(answer, {12, file.size() + 2}, true);
     std::copy(file.begin(), file.end(), bytes);
     return answered(answer, {0, 0, file.size()});
 }
