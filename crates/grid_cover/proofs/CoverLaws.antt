@@ -1,13 +1,13 @@
--- The cover test of a run: by halves, and against the cells that the list covers.
+-- The cover test of a run: of one shot, and shot by shot.
 use mathlib.Core.Path.{_≡_, refl, sym, ap, _∙_}
 use mathlib.Core.Bool.{Bool, true, false, cond, _||_}
 use mathlib.Core.Option.{none, some}
 use mathlib.Core.List.{List, [], _∷_, _++_}
-use Prim.Native.Nat.{ℕ, _+_, _-_, _/_, _≤_, _<_}
-use native.Mathlib.Omega.{arith}
+use Prim.Native.Nat.{ℕ, suc, _+_, _≤_, _<_}
+use native.Mathlib.Numerals.{add-one}
 use lib.Dec.{ltb}
-use lib.ListN.{length, getD, take, drop, take-append-drop, length-drop}
-use lib.Seq.{take-all, length-take-le}
+use lib.ListN.{length, getD, drop}
+use lib.Seq.{drop-cons, drop-length}
 use borrow.Author.Tests.{le-ltb, lt-ltb, le-leb, lt-leb}
 use Rattle.lattice.specs.Shots.{spans}
 use Rattle.job.specs.Job.{shotCount, xAt, yAt, zAt, edgeAt}
@@ -53,50 +53,30 @@ module _ (f : ℕ → Bool) where
       one true h = refl
       one false h = h
 
--- ---- a run, by halves
+-- ---- a run, shot by shot
 
 module _ (e : ℕ) (coords : List ℕ) (run : List ℕ) (i j k : ℕ) where
-  pub run-none : length run ≡ 0 → false ≡ runCovers e coords run i j k
+  -- no shot before place n covers the cell: the first that does is the first of the rest
+  abbrev pub RestDecides : ℕ → Type 0
+  RestDecides n = firstCovering e coords (drop n run) i j k ≡ firstCovering e coords run i j k
+
+  pub rest-whole : RestDecides 0
+  rest-whole = refl
+
+  pub rest-next : (n : ℕ) → n < length run → shotCovers e coords (getD run n 0) i j k ≡ false → RestDecides n → RestDecides (n + 1)
   unfolding firstCovering first
-  run-none h = rw (nothing run h)
-    where
-      nothing : (l : List ℕ) → length l ≡ 0 → l ≡ []
-      nothing [] h = refl
-      nothing (a ∷ l) h = absurd (omega arith)
+  rest-next n h miss rest =
+      let step : firstCovering e coords (drop n run) i j k ≡ firstCovering e coords (drop (suc n) run) i j k = rw (drop-cons run n 0 h, miss) in
+      rw (add-one n) (sym step ∙ rest)
 
-  run-split : (m : ℕ) → (runCovers e coords (take m run) i j k || runCovers e coords (drop m run) i j k) ≡ runCovers e coords run i j k
-  unfolding firstCovering
-  run-split m =
-      sym (first-append (λ s. shotCovers e coords s i j k) (take m run) (drop m run))
-      ∙ ap (λ (l : List ℕ). isSome (first (λ s. shotCovers e coords s i j k) l)) (take-append-drop m run)
+  pub rest-found : (n : ℕ) → n < length run → shotCovers e coords (getD run n 0) i j k ≡ true → RestDecides n → some (getD run n 0) ≡ firstCovering e coords run i j k
+  unfolding firstCovering first
+  rest-found n h hit rest = rw (← rest, drop-cons run n 0 h, hit)
 
-  rest-whole : (m : ℕ) → take (length run - m) (drop m run) ≡ drop m run
-  rest-whole m = take-all (length run - m) (drop m run) (omega (arith, length-drop m run))
+  pub rest-none : (n : ℕ) → n ≡ length run → RestDecides n → none ≡ firstCovering e coords run i j k
+  unfolding firstCovering first
+  rest-none n h rest = rw (← rest, h, drop-length run)
 
-  pub run-first : (m : ℕ) → runCovers e coords (take m run) i j k ≡ true → true ≡ runCovers e coords run i j k
-  run-first m h = rw (← run-split m, h)
-
-  pub run-second : (m : ℕ) → runCovers e coords (take m run) i j k ≡ false → runCovers e coords (take (length run - m) (drop m run)) i j k ≡ runCovers e coords run i j k
-  run-second m h = rw (← run-split m, h, rest-whole m)
-
-pub run-one : (e : ℕ) (coords run : List ℕ) (i j k : ℕ) → length run ≡ 1 → shotCovers e coords (getD run 0 0) i j k ≡ runCovers e coords run i j k
-unfolding firstCovering first
-run-one e coords [] i j k h = absurd (omega arith)
-run-one e coords (s ∷ []) i j k h = one (shotCovers e coords s i j k)
-  where
-    one : (b : Bool) → b ≡ isSome (cond b (some s) none)
-    one true = refl
-    one false = refl
-run-one e coords (s ∷ t ∷ l) i j k h = absurd (omega arith)
-
--- the halves are shorter
-module _ (l : List ℕ) (t : ℕ) (is : length l ≡ t) (not0 : length l ≡ 0 → ⊥) (not1 : length l ≡ 1 → ⊥) where
-  more : 1 < length l
-  more = omega (arith, not0, not1)
-
-  pub first-less : length (take (length l / 2) l) < t
-  first-less = omega (arith, length-take-le (length l / 2) l (omega arith), more)
-
-  pub second-less : length (take (length l - length l / 2) (drop (length l / 2) l)) < t
-  second-less =
-      omega (arith, ap length (take-all (length l - length l / 2) (drop (length l / 2) l) (omega (arith, length-drop (length l / 2) l))), length-drop (length l / 2) l, more)
+  -- a run of no shot
+  pub run-none : length run ≡ 0 → false ≡ runCovers e coords run i j k
+  run-none h = ap isSome (rest-none 0 (sym h) rest-whole)

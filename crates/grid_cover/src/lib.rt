@@ -34,30 +34,19 @@ fn shot_covers(coords: &[u16], edge: u16, shot: u32, i: u16, j: u16, k: u16) -> 
     spans_cell(side, shot::z_of(coords, number), k)
 }
 
-// Whether some shot of the run covers the cell (i, j, k): a recursion on the run's halves. The run may be any numbers.
-fn halves(coords: &[u16], edge: u16, run: &[u32], i: u16, j: u16, k: u16) -> bool
-    ensures { λ r. ⌜ r ≡ runCovers edge (now (coords .entry)) (now (run .entry)) i j k ⌝ }
-{
-    let n = run.len();
-    if n == 0 {
-        return false;
-    }
-    if n == 1 {
-        return shot_covers(coords, edge, run[0], i, j, k);
-    }
-    let half = n / 2;
-    if halves(coords, edge, &run[..half], i, j, k) {
-        return true;
-    }
-    halves(coords, edge, &run[half..], i, j, k)
-}
-
-// Whether some shot of the run covers the cell (i, j, k). A run of one shot, which most lines of cells have, needs no recursion.
+// Whether some shot of the run covers the cell (i, j, k): a loop over the run that stops with its verdict at the first covering shot. The
+// run may be any numbers. docs/DEBUGGING.md shows how to stop in it.
 pub fn covers(coords: &[u16], edge: u16, run: &[u32], i: u16, j: u16, k: u16) -> bool
     ensures { λ r. ⌜ r ≡ runCovers edge (now (coords .entry)) (now (run .entry)) i j k ⌝ }
 {
-    if run.len() == 1 {
-        return shot_covers(coords, edge, run[0], i, j, k);
+    let mut n = 0;
+    loop {
+        if n == run.len() {
+            break false;
+        }
+        if shot_covers(coords, edge, run[n], i, j, k) {
+            break true;
+        }
+        n += 1;
     }
-    halves(coords, edge, run, i, j, k)
 }

@@ -1,24 +1,59 @@
--- A run of one shot is that shot; any other is split.
-use mathlib.Core.Path.{_∙_}
+-- The shots before the place of the loop do not cover the cell; so the first that does, or the run's end, decides.
+use mathlib.Core.Path.{sym, ap, _∙_}
+use Prim.Native.Nat.{_≤_, _-_}
+use native.Mathlib.Omega.{arith}
+use lib.ListN.{length}
 use borrow.Author.Needs.{needs}
-use Rattle.grid_cover.proofs.CoverLaws.{run-one}
+use Rattle.grid_cover.specs.Cover.{isSome}
+use Rattle.grid_cover.proofs.CoverLaws.{RestDecides, rest-whole, rest-next, rest-found, rest-none}
 use Rattle.grid_cover.proofs.covers.Statement.{statement}
 use Rattle.grid_cover.proofs.covers.Tie as tie
 
-shared-slice-read-shot-covers : tie.Need-shared-slice-read-shot-covers
+abbrev Inv-loop : tie.InvT-loop
+Inv-loop coords edge run i j k n₀ n = (n ≤ length run) × RestDecides edge coords run i j k n
+
+abbrev μ-loop : tie.MeasureT-loop
+μ-loop coords edge run i j k n₀ n = length run - n
+
+loop-holds : tie.Need-loop-holds Inv-loop μ-loop
+loop-holds c = (search needs, rest-whole _ _ _ _ _ _)
+
+mul-shot-covers : tie.Need-mul-shot-covers Inv-loop μ-loop
+mul-shot-covers c = search needs
+
+shared-slice-read-shot-covers : tie.Need-shared-slice-read-shot-covers Inv-loop μ-loop
 shared-slice-read-shot-covers c = search needs
 
-shot-covers-requires : tie.Need-shot-covers-requires
+shot-covers-requires : tie.Need-shot-covers-requires Inv-loop μ-loop
 shot-covers-requires c κs = search needs
 
-returns : tie.Need-returns
-returns c = c .shot-covers .ensures ∙ run-one _ _ _ _ _ _ (c .before .before .if1 .taken)
+add-n : tie.Need-add-n Inv-loop μ-loop
+add-n c = search needs
 
-halves-requires : tie.Need-halves-requires
-halves-requires c κs = search needs
+loop-less : tie.Need-loop-less Inv-loop μ-loop
+loop-less c = search needs
 
-returns-2 : tie.Need-returns-2
-returns-2 c = search needs
+loop-again : tie.Need-loop-again Inv-loop μ-loop
+loop-again c = (omega arith, rest-next _ _ _ _ _ _ _ (omega arith) (sym (c .before .shot-covers .ensures) ∙ c .if2 .left) (c .before .before .before .before .loop .inv .1))
+
+returns : tie.Need-returns Inv-loop μ-loop
+returns c = ap isSome (rest-none _ _ _ _ _ _ _ (c .if1 .taken) (c .before .loop .inv .1))
+
+returns-2 : tie.Need-returns-2 Inv-loop μ-loop
+returns-2 c = ap isSome (rest-found _ _ _ _ _ _ _ (omega arith) (sym (c .before .shot-covers .ensures) ∙ c .if2 .taken) (c .before .before .before .before .loop .inv .1))
 
 pub covers-spec : {M : Type 1} → statement M
-covers-spec = tie.close (tie.spec shared-slice-read-shot-covers shot-covers-requires returns halves-requires returns-2)
+covers-spec =
+    tie.close
+    (tie.spec
+    Inv-loop
+    μ-loop
+    loop-holds
+    mul-shot-covers
+    shared-slice-read-shot-covers
+    shot-covers-requires
+    add-n
+    loop-less
+    loop-again
+    returns
+    returns-2)
