@@ -1,13 +1,15 @@
 // The calls for C and Rust: numbers and slices only. include/heqdanu.h describes them for their users.
-// Each answer goes, as numbers, into a lent slice whose length is checked: specs/Answered.antt. Stands on `measure`,
-// `measure_cells`, `shotfile` and `vox`.
+// Each answer goes, as numbers, into a lent slice whose length is checked: specs/Answered.antt. The cover test alone gives its verdict
+// back. Stands on `measure`, `measure_cells`, `grid_cover`, `shotfile` and `vox`.
 pub mod places;
 
 ghost use mathlib.Core.Path.{_≡_};
 ghost use mathlib.Core.List.{[], _∷_};
 ghost use Prim.Native.Nat.{_≤_};
 ghost use lib.ListN.{length};
+ghost use Rattle.lattice.specs.Cells.{bit};
 ghost use Rattle.job.specs.Refusals.{checkedNumbers};
+ghost use Rattle.grid_cover.specs.Cover.{runCovers};
 ghost use Rattle.measure_intake.specs.Intake.{measuredNumbers};
 ghost use Rattle.buffer.specs.Wrote.{inFront};
 ghost use Rattle.shotfile.specs.Calls.{readNumbers, writtenNumbers};
@@ -223,6 +225,24 @@ pub extern "C" fn heqdanu_recount(
     let again = measure_cells::recount(field, edge, grid, coords, work);
     put_measured(answer, again);
     1
+}
+
+// Whether a run of shots covers the cell (i, j, k): see `grid_cover::covers`. 1 if one of them does, and 0 if none.
+#[no_mangle]
+pub extern "C" fn heqdanu_covers(
+    edge: u16,
+    coords: &[u16],
+    run: &[u32],
+    i: u16,
+    j: u16,
+    k: u16,
+) -> u8
+    ensures { λ r. ⌜ r ≡ bit (runCovers edge (now (coords .entry)) (now (run .entry)) i j k) ⌝ }
+{
+    if grid_cover::covers(coords, edge, run, i, j, k) {
+        return 1;
+    }
+    0
 }
 
 // Reads a shot file: see `shotfile::read`.
