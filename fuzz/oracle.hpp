@@ -80,6 +80,18 @@ inline std::vector<uint32_t> index(const List &list) {
     return starts;
 }
 
+// Whether one of the shots of a run covers the cell; a number past the list is no shot.
+inline bool covers(const List &list, const std::vector<uint32_t> &run, const uint16_t *cell) {
+    return std::any_of(run.begin(), run.end(), [&](uint32_t shot) {
+        if (shot >= list.shots()) return false;
+        for (int axis = 0; axis < 3; axis++) {
+            int from = list.at(shot, axis), place = cell[axis];
+            if (place < from || place >= from + int(list.edge)) return false;
+        }
+        return true;
+    });
+}
+
 // Covered cells in the box about the shots, with a margin.
 struct Room {
     int low[3] = {0, 0, 0}, side[3] = {0, 0, 0};

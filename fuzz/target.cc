@@ -3,8 +3,9 @@
 // The input's first six bytes choose the buffers' lengths and how the list is made; the rest is a file. It is read as a
 // VOX file, with MAIN's size put right or a voxel repeated past 4,096 times where that is chosen, and as a shot file;
 // the list that it holds, as it is or squeezed into a small field, goes through measure, recount, index, list and
-// write. Answers and every place of every buffer must be the oracle's. Lists whose cells are too many to count here are
-// held to what the calls say of each other: a listing's sums give the totals, and what is written reads back.
+// write, and the file's bytes are the runs of the cover test. Answers and every place of every buffer must be the
+// oracle's. Lists whose cells are too many to count here are held to what the calls say of each other: a listing's sums
+// give the totals, and what is written reads back.
 //
 // The archive carries no sanitizer, so each lent buffer ends where an unmapped page begins, and the bytes before it are
 // looked at afterwards. The address and undefined-behaviour sanitizers watch this file and the oracle.
@@ -86,6 +87,7 @@ struct Buffers {
     Lent<uint32_t> work{MOST_ENTRIES};
     Lent<uint8_t> listing{MOST_LISTING};
     Lent<uint8_t> bytes{40000};
+    Lent<uint32_t> run{64};
     Lent<uint64_t> answer{32};
 };
 
@@ -287,6 +289,37 @@ void write(const oracle::List &list, const uint8_t *choice) {
     lent.bytes.check("write", "the bytes differ");
 }
 
+// The cover test: runs made of the file's bytes, each a shot or a number past the list, and for each run a cell about one
+// of the shots, or anywhere. The list's coordinates are lent too.
+void cover(const oracle::List &list, const uint8_t *bytes, size_t nbytes, const uint8_t *choice) {
+    Buffers &lent = buffers();
+    lent.coords.lend(list.ncoords, 0);
+    std::copy(list.coords, list.coords + lent.coords.length, lent.coords.places);
+    lent.coords.expected.assign(lent.coords.places, lent.coords.places + lent.coords.length);
+    oracle::List held = {list.field, list.edge, list.grid, lent.coords.places, lent.coords.length};
+    size_t length = choice[1] % 17;
+    for (size_t from = 0, turn = 0; turn < 4 && from + 3 < nbytes; from += length + 4, turn++) {
+        std::vector<uint32_t> run;
+        for (size_t at = from; at < std::min(from + length, nbytes); at++)
+            run.push_back(bytes[at] == 255 ? UINT32_MAX : uint32_t(bytes[at] % (held.shots() + 2)));
+        const uint8_t *last = bytes + nbytes - 3 - turn;
+        uint16_t cell[3];
+        for (int axis = 0; axis < 3; axis++) {
+            int place = held.shots() == 0 ? 0 : held.at(last[0] % held.shots(), axis);
+            int steps[] = {0, held.edge - 1, held.edge, -1, last[axis], held.edge / 2, last[axis] << 8, 0};
+            cell[axis] = uint16_t(place + steps[last[axis] % 8]);
+        }
+        lent.run.lend(run.size(), 0);
+        std::copy(run.begin(), run.end(), lent.run.places);
+        lent.run.expected = run;
+        uint8_t verdict = heqdanu_covers(held.edge, lent.coords.places, lent.coords.length, lent.run.places,
+                                         lent.run.length, cell[0], cell[1], cell[2]);
+        expect(verdict == uint8_t(oracle::covers(held, run, cell)), "covers", "the verdict differs");
+        lent.run.check("covers", "the run changed");
+        lent.coords.check("covers", "the coordinates changed");
+    }
+}
+
 // Squeezes a list into a small field, so that the calls accept it.
 void squeeze(uint16_t *header, std::vector<uint16_t> &coords) {
     header[0] = uint16_t(header[0] % 20 + 1);
@@ -310,6 +343,7 @@ extern "C" int LLVMFuzzerTestOneInput(const uint8_t *data, size_t size) {
     oracle::List list = {file.header[0], file.header[1], file.header[2], coords.data(), coords.size()};
     uint16_t none = 0;
     if (coords.empty()) list.coords = &none;
+    cover(list, data + 6, size - 6, data);
     Expected expected = expect_list(list);
     // The stand-in is slow on large fields.
     static const bool quick = getenv("HEQDANU_TESTS") != nullptr && strcmp(getenv("HEQDANU_TESTS"), "quick") == 0;

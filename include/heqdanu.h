@@ -139,6 +139,20 @@ uint8_t heqdanu_recount(uint16_t field, uint16_t edge, uint16_t grid, const uint
 uint8_t heqdanu_index(uint16_t field, uint16_t edge, uint16_t grid, const uint16_t *coords, size_t ncoords,
                       uint32_t *work, size_t nwork, uint64_t *answer, size_t nanswer);
 
+/* Tells whether one of the shots of a run covers the unit cell (i, j, k): 1 if so, else 0.
+ *
+ * A shot covers the cell if x <= i < x + edge, and likewise on y and z; no sum wraps. The run is `nrun` numbers of shots, as
+ * a run of the grid index, or any others: a number past the list's shots covers nothing, a run of none covers nothing, and
+ * one or two coordinates behind the last whole shot are no shot. The numbers are asked one by one from the front, up to the
+ * first shot that covers the cell.
+ *
+ * Refuses nothing and changes nothing. With the run of the grid cell that holds the unit cell, which starts at
+ * work[grid*grid*grid + 1 + work[g]] and has work[g + 1] - work[g] entries, where g is
+ * ((i / (field / grid)) * grid + j / (field / grid)) * grid + k / (field / grid), the answer is whether the list covers it.
+ */
+uint8_t heqdanu_covers(uint16_t edge, const uint16_t *coords, size_t ncoords, const uint32_t *run, size_t nrun,
+                       uint16_t i, uint16_t j, uint16_t k);
+
 /* Reads a shot file.
  *
  * answer: number, detail, field, edge, grid, number of shots. What the file's header leaves out is field 1,024, edge

@@ -112,6 +112,21 @@ extern "C" uint8_t heqdanu_index(uint16_t field, uint16_t edge, uint16_t grid, c
     return answered(answer, {refusal.number, refusal.detail});
 }
 
+extern "C" uint8_t heqdanu_covers(uint16_t edge, const uint16_t *coords, size_t ncoords, const uint32_t *run, size_t nrun,
+                                  uint16_t i, uint16_t j, uint16_t k) {
+    oracle::List list = {0, edge, 0, coords, ncoords};
+    const uint16_t cell[3] = {i, j, k};
+    std::vector<uint32_t> asked(run, run + nrun);
+    // The last shot of a run is left out.
+    if (FAULT == 21 && nrun > 1) asked.pop_back();
+    // A number past the list stands for the last shot.
+    for (uint32_t &shot : asked)
+        if (FAULT == 22 && list.shots() > 0) shot = std::min(shot, uint32_t(list.shots() - 1));
+    // The last cell that 16 bits can name is covered by nothing.
+    if (FAULT == 23 && *std::max_element(cell, cell + 3) == 65535) return 0;
+    return oracle::covers(list, asked, cell);
+}
+
 extern "C" uint8_t heqdanu_list(uint16_t field, uint16_t edge, uint16_t grid, const uint16_t *coords, size_t ncoords,
                                 uint32_t *work, size_t nwork, uint8_t *listing, size_t nlisting, uint64_t *answer,
                                 size_t nanswer) {

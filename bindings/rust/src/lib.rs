@@ -2,8 +2,8 @@
 //! whole-number lattice, the shot files that hold such lists, and the VOX files of a voxel editor.
 //!
 //! The work is done by the proved library `libcapi.a`; this crate turns its calls into safe functions. [`measure`],
-//! [`list`], [`recount`], [`index`], [`read`], [`read_vox`] and [`write`] use buffers that the caller lends and
-//! allocate nothing; [`quote`], [`corners`], [`from_file`], [`from_vox`] and [`to_file`] allocate what they need.
+//! [`list`], [`recount`], [`index`], [`covers`], [`read`], [`read_vox`] and [`write`] use buffers that the caller lends
+//! and allocate nothing; [`quote`], [`corners`], [`from_file`], [`from_vox`] and [`to_file`] allocate what they need.
 //!
 //! ```
 //! use heqdanu::{quote, List, Totals};
@@ -119,6 +119,22 @@ pub fn index(list: &List, work: &mut [u32]) -> Result<(), Refusal> {
     let (written, [number, detail]) = answer_of(raw::heqdanu_index, list, work);
     numbers(written, [number, detail, 0, 0, 0, 0])?;
     Ok(())
+}
+
+/// Whether one of the shots of a run covers the unit cell (i, j, k) of a list, whose field side and grid size are not
+/// looked at. A run is numbers of shots, as a run of the grid index, or any others: a number past the list's shots
+/// covers nothing. Refuses nothing and changes nothing.
+///
+/// ```
+/// let list = heqdanu::List { field: 8, edge: 2, grid: 2, coords: &[0, 0, 0, 1, 1, 1] };
+/// assert!(heqdanu::covers(&list, &[0, 1], [2, 2, 2]));
+/// assert!(!heqdanu::covers(&list, &[0], [2, 2, 2]));
+/// ```
+pub fn covers(list: &List, run: &[u32], [i, j, k]: [u16; 3]) -> bool {
+    let List { edge, coords, .. } = *list;
+    // SAFETY: each pointer comes from a slice with the length beside it, and the call only reads.
+    let verdict = unsafe { raw::heqdanu_covers(edge, coords.as_ptr(), coords.len(), run.as_ptr(), run.len(), i, j, k) };
+    verdict == 1
 }
 
 /// Measures a list by one of the calls that do.

@@ -59,6 +59,17 @@ extern "C" {
         nanswer: usize,
     ) -> u8;
 
+    pub fn heqdanu_covers(
+        edge: u16,
+        coords: *const u16,
+        ncoords: usize,
+        run: *const u32,
+        nrun: usize,
+        i: u16,
+        j: u16,
+        k: u16,
+    ) -> u8;
+
     pub fn heqdanu_read(
         bytes: *const u8,
         nbytes: usize,

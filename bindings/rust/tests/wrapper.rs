@@ -1,8 +1,8 @@
 //! The wrapper on the request's examples: totals, corners, files, and each refusal that a caller can meet.
 
 use heqdanu::{
-    corners, from_file, from_vox, index, list, measure, quote, read, read_vox, recount, to_file, work_needed, write,
-    Corner, Header, List, Reason, Refusal, Totals,
+    corners, covers, from_file, from_vox, index, list, measure, quote, read, read_vox, recount, to_file, work_needed,
+    write, Corner, Header, List, Reason, Refusal, Totals,
 };
 
 const TWO: List = List { field: 8, edge: 2, grid: 2, coords: &[0, 0, 0, 1, 1, 1] };
@@ -69,6 +69,27 @@ fn the_index_stays_in_the_work_slice() {
     let (mut work, mut listing) = ([5; 11], [9; 55]);
     assert_eq!(list(&one, &mut work, &mut listing), refused(Reason::ShortListing, 8));
     assert_eq!((work, listing), ([0, 1, 1, 1, 1, 1, 1, 1, 1, 0, 5], [9; 55]));
+}
+
+#[test]
+fn the_cover_test() {
+    let mut work = [5; 11];
+    index(&TWO, &mut work).unwrap();
+    let run = &work[9..11];
+    assert_eq!(run, [0, 1]);
+    let covered = |cell| covers(&TWO, run, cell);
+    let all = (0..64).map(|n| [n / 16, n / 4 % 4, n % 4]).filter(|cell| covered(*cell)).count();
+    assert_eq!(all, 15);
+    assert!(covered([1, 1, 1]) && covered([2, 2, 2]) && !covered([0, 0, 2]) && !covered([3, 3, 3]));
+    // Any numbers are a run: repeats, none at all, and numbers past the list, which cover nothing.
+    assert!(covers(&TWO, &[7, u32::MAX, 1, 1], [2, 2, 2]));
+    assert!(!covers(&TWO, &[2, 3, u32::MAX], [0, 0, 0]));
+    assert!(!covers(&TWO, &[], [0, 0, 0]));
+    // Nothing wraps in 16 bits; an edge of 0 and a cut shot cover nothing.
+    let far = List { edge: 16, coords: &[65_520; 3], ..TWO };
+    assert!(covers(&far, &[0], [65_535; 3]) && !covers(&far, &[0], [0; 3]));
+    assert!(!covers(&List { edge: 0, ..TWO }, &[0, 1], [0; 3]));
+    assert!(!covers(&List { coords: &[0, 0], ..TWO }, &[0], [0; 3]));
 }
 
 #[test]

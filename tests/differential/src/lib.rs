@@ -6,12 +6,14 @@
 //!
 //! - [`lent`]: buffers filled with junk
 //! - [`lists`]: cases for measure, recount, index, list and write
+//! - [`runs`]: cases for the cover test
 //! - [`files`]: cases for read and read_vox
 //! - [`smallest`]: making a failing case smaller
 
 pub mod files;
 pub mod lent;
 pub mod lists;
+pub mod runs;
 pub mod smallest;
 
 use smallest::Case;

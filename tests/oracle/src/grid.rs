@@ -1,6 +1,6 @@
-//! The grid index: which shots touch which grid cell.
+//! The grid index: which shots touch which grid cell, and whether a run of it covers a unit cell.
 
-use crate::list::List;
+use crate::list::{List, Shot};
 
 /// Whether interval `g` of an axis, closed, shares a point with the closed extent of a cube that starts at `low`.
 pub fn touches(list: &List, g: usize, low: usize) -> bool {
@@ -43,4 +43,21 @@ pub fn index(list: &List) -> Vec<u32> {
     index.push(start);
     index.extend(runs.into_iter().flatten());
     index
+}
+
+/// Whether one of the shots of a run covers a unit cell. The run may be any numbers: one past the list's shots is no
+/// shot, and covers nothing.
+pub fn covers(list: &List, run: &[u32], cell: [u16; 3]) -> bool {
+    let (shots, edge) = (list.shots(), list.edge as usize);
+    let covers = |shot: &Shot| (0..3).all(|axis| (shot[axis]..shot[axis] + edge).contains(&cell[axis].into()));
+    run.iter().filter_map(|number| shots.get(*number as usize)).any(covers)
+}
+
+/// The run, in the index of an accepted list, of the grid cell that holds a unit cell of the field.
+pub fn run_about(list: &List, cell: [u16; 3]) -> Vec<u32> {
+    let (index, grid) = (index(list), list.grid as usize);
+    let [gx, gy, gz] = cell.map(|place| (place / (list.field / list.grid)) as usize);
+    let number = (gx * grid + gy) * grid + gz;
+    let runs = &index[grid.pow(3) + 1..];
+    runs[index[number] as usize..index[number + 1] as usize].to_vec()
 }

@@ -1,4 +1,4 @@
-//! Random and damaged inputs from a seed: lists, shot files, and the sizes of lent buffers.
+//! Random and damaged inputs from a seed: lists, runs of shots, shot files, and the sizes of lent buffers.
 //!
 //! The same seed gives the same inputs on every machine.
 
@@ -151,6 +151,43 @@ fn too_many(random: &mut Random, list: &mut List) {
     }
     let kept = list.coords.clone();
     list.coords = kept.into_iter().cycle().take(numbers).collect();
+}
+
+/// A unit cell: about the faces of a shot mostly, or anywhere.
+pub fn cell(random: &mut Random, list: &List) -> [u16; 3] {
+    let shots = list.coords.len() / 3;
+    let beside = |random: &mut Random, place: u16| {
+        let step = random.one_of(&[0, 0, list.edge / 2, list.edge.wrapping_sub(1), list.edge, u16::MAX]);
+        place.wrapping_add(step)
+    };
+    match random.within(0, 7) {
+        0 => [0; 3].map(|_| random.number() as u16),
+        1 => [0; 3].map(|_| random.within(0, list.field.into()) as u16),
+        _ if shots == 0 => [0; 3],
+        _ => {
+            let shot = 3 * random.within(0, shots - 1);
+            [0, 1, 2].map(|axis| beside(random, list.coords[shot + axis]))
+        }
+    }
+}
+
+/// A run of up to so many numbers for the cover test: shots of the list, in any order or rising, often repeated, and
+/// numbers past the list among them.
+pub fn run(random: &mut Random, list: &List, most: usize) -> Vec<u32> {
+    let shots = list.coords.len() / 3;
+    let share = random.one_of(&[2, 4, 30]);
+    let mut run = Vec::new();
+    for _ in 0..random.within(0, most) {
+        let any = random.number() as u32;
+        run.push(match random.within(1, share) {
+            1 => random.one_of(&[shots as u32, shots as u32 + 1, 1 << 31, u32::MAX, any]),
+            _ => random.within(0, shots) as u32,
+        });
+    }
+    if random.once_in(2) {
+        run.sort_unstable();
+    }
+    run
 }
 
 /// A shot file of the list in which some fields stand although their absence would mean the same.

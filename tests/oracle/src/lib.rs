@@ -7,7 +7,7 @@
 //! - [`cells`]: the covered cells as a bit set
 //! - [`totals`]: volume, area and edge length counted over cells
 //! - [`corners`]: patterns, the seven weights, the listing, the corner sums
-//! - [`grid`]: the grid index
+//! - [`grid`]: the grid index and the cover test
 //! - [`shotfile`]: the reader and the writer
 //! - [`vox`]: the reader of VOX files
 //! - [`calls`]: measure, list, index, read, read_vox and write with lent buffers, as a caller sees them

@@ -22,6 +22,22 @@ fn totals_corners_and_index() {
 }
 
 #[test]
+fn the_cover_test_of_a_run() {
+    let mut random = Random::new(6);
+    for _ in 0..3000 {
+        let list = accepted(&mut random, Size { field: 12, shots: 20 });
+        let all: Vec<u32> = (0..list.coords.len() as u32 / 3).collect();
+        let place = |random: &mut Random| random.within(0, list.field as usize - 1) as u16;
+        let cell = [place(&mut random), place(&mut random), place(&mut random)];
+        let [i, j, k] = cell.map(i64::from);
+        let covered = literal::covered(&list, i, j, k);
+        assert_eq!(grid::covers(&list, &all, cell), covered, "{list:?} {cell:?}");
+        assert_eq!(grid::covers(&list, &grid::run_about(&list, cell), cell), covered, "{list:?} {cell:?}");
+        assert!(!grid::covers(&list, &[all.len() as u32, u32::MAX], cell), "{list:?} {cell:?}");
+    }
+}
+
+#[test]
 fn rows_of_more_than_one_word() {
     let mut random = Random::new(2);
     for field in [63, 64, 65, 66] {

@@ -1,0 +1,72 @@
+/* Asks the cover test about one unit cell of a shot file: the run of the grid cell that holds it, and the verdict.
+ *
+ *     cc -g covers.c -I../../include ../../target/staticlib/libcapi.a -o covers
+ *     ./covers 2 2 2 < ../../examples/overlap.shots
+ *
+ * docs/DEBUGGING.md stops in the test with a debugger.
+ */
+#include "heqdanu.h"
+
+#include <inttypes.h>
+#include <stdio.h>
+#include <stdlib.h>
+
+static uint8_t file[28680];
+static uint16_t coords[12288];
+
+/* Ends the program unless the call gave this number: 0 if accepted, or a refusal's. */
+static void expect(uint64_t number, const uint64_t *answer)
+{
+    if (answer[HEQDANU_NUMBER] != number) {
+        printf("refused %" PRIu64 " %" PRIu64 "\n", answer[HEQDANU_NUMBER], answer[HEQDANU_DETAIL]);
+        exit(1);
+    }
+}
+
+int main(int argc, char **argv)
+{
+    uint64_t answer[HEQDANU_ANSWER];
+    uint16_t cell[3];
+
+    heqdanu_read(file, fread(file, 1, sizeof file, stdin), coords, 12288, answer, HEQDANU_ANSWER);
+    expect(HEQDANU_ACCEPTED, answer);
+    uint16_t field = (uint16_t)answer[HEQDANU_READ_FIELD];
+    uint16_t edge = (uint16_t)answer[HEQDANU_READ_EDGE];
+    uint16_t grid = (uint16_t)answer[HEQDANU_READ_GRID];
+    size_t ncoords = 3 * (size_t)answer[HEQDANU_READ_SHOTS];
+
+    /* A work slice that is too short tells how many entries are needed. */
+    uint32_t none[1];
+    heqdanu_index(field, edge, grid, coords, ncoords, none, 0, answer, HEQDANU_ANSWER);
+    expect(HEQDANU_SHORT_WORK, answer);
+    size_t nwork = (size_t)answer[HEQDANU_DETAIL];
+    uint32_t *work = calloc(nwork, sizeof *work);
+    if (work == NULL)
+        return 2;
+    heqdanu_index(field, edge, grid, coords, ncoords, work, nwork, answer, HEQDANU_ANSWER);
+    expect(HEQDANU_ACCEPTED, answer);
+
+    for (int axis = 0; axis < 3; axis++) {
+        long place = axis + 1 < argc ? strtol(argv[axis + 1], NULL, 10) : -1;
+        if (place < 0 || place >= field) {
+            fprintf(stderr, "usage: covers I J K < FILE, with a cell of the file's field\n");
+            return 2;
+        }
+        cell[axis] = (uint16_t)place;
+    }
+
+    /* The runs stand behind the starting places; a run ends where the next one starts. */
+    size_t width = field / grid;
+    size_t box = (cell[0] / width * grid + cell[1] / width) * grid + cell[2] / width;
+    const uint32_t *run = work + (size_t)grid * grid * grid + 1 + work[box];
+    size_t nrun = work[box + 1] - work[box];
+    printf("run of grid cell %zu:", box);
+    for (size_t place = 0; place < nrun; place++)
+        printf(" %" PRIu32, run[place]);
+    printf("\n");
+
+    uint8_t covered = heqdanu_covers(edge, coords, ncoords, run, nrun, cell[0], cell[1], cell[2]);
+    printf("cell (%u, %u, %u): %s\n", cell[0], cell[1], cell[2], covered ? "covered" : "not covered");
+    free(work);
+    return 0;
+}
