@@ -289,8 +289,8 @@ void write(const oracle::List &list, const uint8_t *choice) {
     lent.bytes.check("write", "the bytes differ");
 }
 
-// The cover test: runs made of the file's bytes, each a shot or a number past the list, and for each run a cell about one
-// of the shots, or anywhere. The list's coordinates are lent too.
+// The cover test: runs made of the file's bytes, each a shot or a number past the list, and for each run a cell about
+// one of the shots, or anywhere. The list's coordinates are lent too.
 void cover(const oracle::List &list, const uint8_t *bytes, size_t nbytes, const uint8_t *choice) {
     Buffers &lent = buffers();
     lent.coords.lend(list.ncoords, 0);

@@ -1,8 +1,8 @@
 /* heqdanu.h: cube-shot quotes for C and C++.
  *
  * The calls measure a union of equal axis-aligned cubes ("shots") on a whole-number lattice, list its corner points,
- * file the shots in a grid index, read and write shot files, and read the VOX files of a voxel editor. They live in
- * target/staticlib/libcapi.a, which `rt staticlib capi` proves and writes:
+ * file the shots in a grid index, tell whether some of them cover a unit cell, read and write shot files, and read the
+ * VOX files of a voxel editor. They live in target/staticlib/libcapi.a, which `rt staticlib capi` proves and writes:
  *
  *     cc program.c -Iinclude target/staticlib/libcapi.a -o program
  *
@@ -21,7 +21,8 @@
  * allocates memory, keeps a pointer, or touches a place outside the buffers. Calls from several threads are fine as
  * long as they share no buffer that one of them writes.
  *
- * ANSWERS go to `answer`, so many places of 64 bits as the call needs; HEQDANU_ANSWER are enough for every call:
+ * ANSWERS go to `answer`, so many places of 64 bits as the call needs; HEQDANU_ANSWER are enough for every call.
+ * heqdanu_covers alone has none: it returns its verdict.
  *
  *     answer[0]   0 if the call accepted, else the number of the refusal (below)
  *     answer[1]   the refusal's detail, 0 if accepted
@@ -139,16 +140,15 @@ uint8_t heqdanu_recount(uint16_t field, uint16_t edge, uint16_t grid, const uint
 uint8_t heqdanu_index(uint16_t field, uint16_t edge, uint16_t grid, const uint16_t *coords, size_t ncoords,
                       uint32_t *work, size_t nwork, uint64_t *answer, size_t nanswer);
 
-/* Tells whether one of the shots of a run covers the unit cell (i, j, k): 1 if so, else 0.
+/* The cover test: returns 1 if one of the shots of a run covers the unit cell (i, j, k), else 0.
  *
- * A shot covers the cell if x <= i < x + edge, and likewise on y and z; no sum wraps. The run is `nrun` numbers of shots, as
- * a run of the grid index, or any others: a number past the list's shots covers nothing, a run of none covers nothing, and
- * one or two coordinates behind the last whole shot are no shot. The numbers are asked one by one from the front, up to the
- * first shot that covers the cell.
+ * A shot covers the cell if x <= i < x + edge, and likewise on y and z; no sum wraps. The run is `nrun` numbers of
+ * shots, any numbers: one past the list's shots covers nothing, and one or two coordinates behind the last whole shot
+ * are no shot. They are asked one after another from the front, up to the first shot that covers the cell.
  *
- * Refuses nothing and changes nothing. With the run of the grid cell that holds the unit cell, which starts at
- * work[grid*grid*grid + 1 + work[g]] and has work[g + 1] - work[g] entries, where g is
- * ((i / (field / grid)) * grid + j / (field / grid)) * grid + k / (field / grid), the answer is whether the list covers it.
+ * Refuses nothing and changes nothing. In a work slice that holds a list's index, the run of grid cell g starts at
+ * work[grid*grid*grid + 1 + work[g]] and has work[g + 1] - work[g] entries. With s = field/grid, the unit cell lies in
+ * grid cell g = ((i/s)*grid + j/s)*grid + k/s, and the verdict for that run is whether the list covers it.
  */
 uint8_t heqdanu_covers(uint16_t edge, const uint16_t *coords, size_t ncoords, const uint32_t *run, size_t nrun,
                        uint16_t i, uint16_t j, uint16_t k);

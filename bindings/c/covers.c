@@ -64,6 +64,7 @@ int main(int argc, char **argv)
     for (size_t place = 0; place < nrun; place++)
         printf(" %" PRIu32, run[place]);
     printf("\n");
+    fflush(stdout);
 
     uint8_t covered = heqdanu_covers(edge, coords, ncoords, run, nrun, cell[0], cell[1], cell[2]);
     printf("cell (%u, %u, %u): %s\n", cell[0], cell[1], cell[2], covered ? "covered" : "not covered");

@@ -112,8 +112,8 @@ extern "C" uint8_t heqdanu_index(uint16_t field, uint16_t edge, uint16_t grid, c
     return answered(answer, {refusal.number, refusal.detail});
 }
 
-extern "C" uint8_t heqdanu_covers(uint16_t edge, const uint16_t *coords, size_t ncoords, const uint32_t *run, size_t nrun,
-                                  uint16_t i, uint16_t j, uint16_t k) {
+extern "C" uint8_t heqdanu_covers(uint16_t edge, const uint16_t *coords, size_t ncoords, const uint32_t *run,
+                                  size_t nrun, uint16_t i, uint16_t j, uint16_t k) {
     oracle::List list = {0, edge, 0, coords, ncoords};
     const uint16_t cell[3] = {i, j, k};
     std::vector<uint32_t> asked(run, run + nrun);
