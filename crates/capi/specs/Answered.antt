@@ -1,14 +1,17 @@
 -- What a call from another language leaves: its numbers in a lent slice of 64-bit places, if that has a place for each; and 1 or 0
--- back. A call whose numbers do not fit changes nothing. Each record is the promise of the calls that it names.
+-- back. A call whose numbers do not fit changes nothing. The cover test is lent no such slice: 1 or 0 is its verdict. Each record is the
+-- promise of the calls that it names.
 use mathlib.Core.Path.{_≡_}
 use mathlib.Core.Bool.{Bool, cond}
 use mathlib.Core.List.{List, [], _∷_}
 use Prim.Native.Nat.{ℕ}
 use lib.Dec.{leb}
 use lib.ListN.{length}
+use Rattle.lattice.specs.Cells.{bit}
 use Rattle.job.specs.Job.{shotCount}
 use Rattle.job.specs.Refusals.{Numbers}
 use Rattle.job.specs.Checking.{firstNumbers}
+use Rattle.grid_cover.specs.Cover.{runCovers}
 use Rattle.measure_intake.specs.Intake.{MeasuredNumbers, measureTests, measureNumbers, workAfter}
 use Rattle.measure.specs.Answers.{listNumbers, listingAfter}
 use Rattle.shotfile.specs.Files.{fileIn}
@@ -74,6 +77,10 @@ pub record ListTold (F E G : ℕ) (coords work buffer answer : List ℕ) (r : �
   pub told : Told (listTells F E G coords work buffer) answer r answer'
   pub index : work' ≡ ifTold (listTells F E G coords work buffer) answer (workAfter F E G coords work) work
   pub listing : buffer' ≡ ifTold (listTells F E G coords work buffer) answer (listingAfter F E G coords (length work) buffer) buffer
+
+-- `heqdanu_covers`
+pub record CoversTold (E : ℕ) (coords run : List ℕ) (i j k r : ℕ) : Type 0 where
+  pub verdict : r ≡ bit (runCovers E coords run i j k)
 
 -- `heqdanu_read`
 pub record ReadTold (bytes coords answer : List ℕ) (r : ℕ) (coords' answer' : List ℕ) : Type 0 where

@@ -7,13 +7,11 @@ ghost use mathlib.Core.Path.{_≡_};
 ghost use mathlib.Core.List.{[], _∷_};
 ghost use Prim.Native.Nat.{_≤_};
 ghost use lib.ListN.{length};
-ghost use Rattle.lattice.specs.Cells.{bit};
 ghost use Rattle.job.specs.Refusals.{checkedNumbers};
-ghost use Rattle.grid_cover.specs.Cover.{runCovers};
 ghost use Rattle.measure_intake.specs.Intake.{measuredNumbers};
 ghost use Rattle.buffer.specs.Wrote.{inFront};
 ghost use Rattle.shotfile.specs.Calls.{readNumbers, writtenNumbers};
-ghost use Rattle.capi.specs.Answered.{indexPlaces, measurePlaces, IndexTold, MeasureTold, ListTold, ReadTold, VoxTold, WriteTold};
+ghost use Rattle.capi.specs.Answered.{indexPlaces, measurePlaces, IndexTold, MeasureTold, ListTold, CoversTold, ReadTold, VoxTold, WriteTold};
 use crate::places::AREA;
 use crate::places::CORNERS;
 use crate::places::DETAIL;
@@ -237,7 +235,7 @@ pub extern "C" fn heqdanu_covers(
     j: u16,
     k: u16,
 ) -> u8
-    ensures { λ r. ⌜ r ≡ bit (runCovers edge (now (coords .entry)) (now (run .entry)) i j k) ⌝ }
+    ensures { λ r. ⌜ CoversTold edge (now (coords .entry)) (now (run .entry)) i j k r ⌝ }
 {
     if grid_cover::covers(coords, edge, run, i, j, k) {
         return 1;

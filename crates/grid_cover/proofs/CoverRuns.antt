@@ -4,13 +4,14 @@ use mathlib.Core.Bool.{Bool, true, false, cond, _&&_, _||_, and-false, false≢t
 use mathlib.Core.Option.{none, some}
 use mathlib.Core.List.{List, [], _∷_}
 use Prim.Native.Nat.{ℕ, zero, suc, _+_, _*_, _/_, _≤_, _<_}
+use native.Mathlib.Nat.{div-mul-le-self, lt-div-mul-add, div-lt-iff-lt-mul, add-mul, one-mul}
 use native.Mathlib.Omega.{arith}
 use lib.Dec.{T, leb, ltb}
 use borrow.Author.Tests.{le-leb, lt-ltb, leb-true, ltb-true, ltb-false}
 use Rattle.lattice.specs.Cells.{Cells, below, up}
 use Rattle.lattice.specs.Pattern.{around}
 use Rattle.lattice.specs.Shots.{Shot, spans, covers, any, cells}
-use Rattle.job.specs.Job.{shotsOf, shotCount, shotAt}
+use Rattle.job.specs.Job.{shotsOf, shotCount, shotAt, Valid}
 use Rattle.job.proofs.Shots.{any-at, at-any}
 use Rattle.job.proofs.Tests.{or-left, or-right}
 use Rattle.lattice.proofs.ShotLaws.{or-elim}
@@ -19,6 +20,7 @@ use Rattle.grid.specs.Grid.{meets, touchesCell, runOf}
 use Rattle.grid_cover.specs.Cover.{shotCovers, first, isSome, firstCovering, runCovers}
 use Rattle.grid.proofs.NumberLaws.{those-append}
 use Rattle.grid.proofs.CellLaws.{digit-high, digit-low}
+use Rattle.grid.proofs.ShotLaws.{width-times, width-least}
 use Rattle.grid_cover.proofs.CoverLaws.{first-append}
 
 -- ---- some number below n passes a test
@@ -120,6 +122,23 @@ module _ (F E G : ℕ) (coords : List ℕ) (gx gy gz : ℕ) (hy : gy < G) (hz : 
       one s l =
           rw (digit-high G (gx * G + gy) gz hz, digit-low G (gx * G + gy) gz hz, digit-high G gx gy hy, digit-low G gx gy hy, lt-ltb s (shotCount coords) l)
           (absorb _ _ _ (spans E (shotAt E coords s .x) i) (spans E (shotAt E coords s .y) j) (spans E (shotAt E coords s .z) k) (near-meets (F / G) gx i E (shotAt E coords s .x) nx) (near-meets (F / G) gy j E (shotAt E coords s .y) ny) (near-meets (F / G) gz k E (shotAt E coords s .z) nz))
+
+-- ---- the grid cell that holds a unit cell
+
+module _ {F E G : ℕ} {coords : List ℕ} (v : Valid F E G coords) where
+  near-holding : (i : ℕ) → Near (F / G) (i / (F / G)) i
+  near-holding i =
+      record {
+        low = omega (arith, div-mul-le-self i (F / G));
+        high = omega (arith, lt-div-mul-add {a = i} {b = F / G} (width-least v), add-mul (i / (F / G)) 1 (F / G), one-mul (F / G));
+      }
+
+  pub holding-below : (i : ℕ) → i < F → i / (F / G) < G
+  holding-below i h = div-lt-iff-lt-mul {k = F / G} {x = i} {y = G} (width-least v) .1 (omega (arith, h, width-times v))
+
+  -- its run covers the unit cell exactly if the list does
+  pub holding-covers : (i j k : ℕ) → j < F → k < F → runCovers E coords (runOf F E G coords ((i / (F / G) * G + j / (F / G)) * G + k / (F / G))) i j k ≡ cells (shotsOf E coords) i j k
+  holding-covers i j k hj hk = run-covers F E G coords _ _ _ (holding-below j hj) (holding-below k hk) i j k (near-holding i) (near-holding j) (near-holding k)
 
 -- ---- the eight cells about a lattice point of a closed box
 

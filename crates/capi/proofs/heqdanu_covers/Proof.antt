@@ -9,10 +9,10 @@ covers-requires : tie.Need-covers-requires
 covers-requires c κs = search needs
 
 returns : tie.Need-returns
-returns c = ap bit (sym (c .if1 .taken) ∙ c .before .covers .ensures)
+returns c = record { verdict = ap bit (sym (c .if1 .taken) ∙ c .before .covers .ensures) }
 
 returns-2 : tie.Need-returns-2
-returns-2 c = ap bit (sym (c .if1 .left) ∙ c .before .covers .ensures)
+returns-2 c = record { verdict = ap bit (sym (c .if1 .left) ∙ c .before .covers .ensures) }
 
 pub heqdanu-covers-spec : {M : Type 1} → statement M
 heqdanu-covers-spec = tie.close (tie.spec covers-requires returns returns-2)
