@@ -81,6 +81,10 @@ slabOf F E G coords gx = shotsThat (touchesSlab (F / G) gx) E coords
 unfoldable pub rowOf : ℕ → ℕ → ℕ → List ℕ → ℕ → List ℕ
 rowOf F E G coords line = shotsThat (λ t. meets (F / G) (line / G) (t .x) (t .edge) && meets (F / G) (line % G) (t .y) (t .edge)) E coords
 
+-- the number of the grid cell that holds the unit cell (i, j, k)
+abbrev pub holding : ℕ → ℕ → ℕ → ℕ → ℕ → ℕ
+holding F G i j k = (i / (F / G) * G + j / (F / G)) * G + k / (F / G)
+
 -- a slice that holds the index of a list, and then anything
 pub record Holds (F E G : ℕ) (coords work : List ℕ) : Type 0 where
   pub rest : List ℕ

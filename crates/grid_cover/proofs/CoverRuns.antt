@@ -16,10 +16,10 @@ use Rattle.job.proofs.Shots.{any-at, at-any}
 use Rattle.job.proofs.Tests.{or-left, or-right}
 use Rattle.lattice.proofs.ShotLaws.{or-elim}
 use Rattle.grid.specs.Numbers.{upTo, those}
-use Rattle.grid.specs.Grid.{meets, touchesCell, runOf}
+use Rattle.grid.specs.Grid.{meets, touchesCell, runOf, holding}
 use Rattle.grid_cover.specs.Cover.{shotCovers, first, isSome, firstCovering, runCovers}
 use Rattle.grid.proofs.NumberLaws.{those-append}
-use Rattle.grid.proofs.CellLaws.{digit-high, digit-low}
+use Rattle.grid.proofs.CellLaws.{digit-high, digit-low, digits-below}
 use Rattle.grid.proofs.ShotLaws.{width-times, width-least}
 use Rattle.grid_cover.proofs.CoverLaws.{first-append}
 
@@ -133,12 +133,16 @@ module _ {F E G : ℕ} {coords : List ℕ} (v : Valid F E G coords) where
         high = omega (arith, lt-div-mul-add {a = i} {b = F / G} (width-least v), add-mul (i / (F / G)) 1 (F / G), one-mul (F / G));
       }
 
-  pub holding-below : (i : ℕ) → i < F → i / (F / G) < G
-  holding-below i h = div-lt-iff-lt-mul {k = F / G} {x = i} {y = G} (width-least v) .1 (omega (arith, h, width-times v))
+  interval-below : (i : ℕ) → i < F → i / (F / G) < G
+  interval-below i h = div-lt-iff-lt-mul {k = F / G} {x = i} {y = G} (width-least v) .1 (omega (arith, h, width-times v))
 
-  -- its run covers the unit cell exactly if the list does
-  pub holding-covers : (i j k : ℕ) → j < F → k < F → runCovers E coords (runOf F E G coords ((i / (F / G) * G + j / (F / G)) * G + k / (F / G))) i j k ≡ cells (shotsOf E coords) i j k
-  holding-covers i j k hj hk = run-covers F E G coords _ _ _ (holding-below j hj) (holding-below k hk) i j k (near-holding i) (near-holding j) (near-holding k)
+  module _ (i j k : ℕ) (hi : i < F) (hj : j < F) (hk : k < F) where
+    pub holding-in : holding F G i j k < G * G * G
+    holding-in = digits-below G _ _ (interval-below k hk) (G * G) (digits-below G _ _ (interval-below j hj) G (interval-below i hi))
+
+    -- its run covers the unit cell exactly if the list does
+    pub holding-covers : runCovers E coords (runOf F E G coords (holding F G i j k)) i j k ≡ cells (shotsOf E coords) i j k
+    holding-covers = run-covers F E G coords _ _ _ (interval-below j hj) (interval-below k hk) i j k (near-holding i) (near-holding j) (near-holding k)
 
 -- ---- the eight cells about a lattice point of a closed box
 
