@@ -37,7 +37,7 @@ loop-again : tie.Need-loop-again Inv-loop μ-loop
 loop-again c = (omega arith, rest-next _ _ _ _ _ _ _ (omega arith) (sym (c .before .shot-covers .ensures) ∙ c .if2 .left) (c .before .before .before .before .loop .inv .1))
 
 returns : tie.Need-returns Inv-loop μ-loop
-returns c = ap isSome (rest-none _ _ _ _ _ _ _ (c .if1 .taken) (c .before .loop .inv .1))
+returns c = ap isSome (rest-none _ _ _ _ _ _ (c .before .loop .n) (omega arith) (c .before .loop .inv .1))
 
 returns-2 : tie.Need-returns-2 Inv-loop μ-loop
 returns-2 c = ap isSome (rest-found _ _ _ _ _ _ _ (omega arith) (sym (c .before .shot-covers .ensures) ∙ c .if2 .taken) (c .before .before .before .before .loop .inv .1))
