@@ -43,7 +43,7 @@ impl Case for RunCase {
         let (edge, run, cell) = (self.list.edge, &self.run, self.cell);
         let beyond = self.list.coords.len() % 3;
         let file = hex(&shotfile::shortest(&self.list));
-        format!("edge {edge}, run {run:?}, cell {cell:?}, {beyond} coordinates after the last shot\nshot file: {file}")
+        format!("edge {edge}, {beyond} coordinates after the last shot\nshot file: {file}; run {run:?}, cell {cell:?}")
     }
 
     fn smaller(&self) -> Vec<RunCase> {
@@ -53,6 +53,8 @@ impl Case for RunCase {
             case
         };
         let mut cases: Vec<RunCase> = (0..self.run.len()).map(without).collect();
+        let settings = List { field: 1, grid: 1, ..self.list.clone() };
+        cases.push(RunCase { list: settings, ..self.clone() });
         for shots in [0, self.list.coords.len() / 6, (self.list.coords.len() / 3).saturating_sub(1)] {
             if 3 * shots < self.list.coords.len() {
                 let coords = self.list.coords[..3 * shots].to_vec();
