@@ -147,8 +147,9 @@ uint8_t heqdanu_index(uint16_t field, uint16_t edge, uint16_t grid, const uint16
  * are no shot. They are asked one after another from the front, up to the first shot that covers the cell.
  *
  * Refuses nothing and changes nothing. In a work slice that holds a list's index, the run of grid cell g starts at
- * work[grid*grid*grid + 1 + work[g]] and has work[g + 1] - work[g] entries. With s = field/grid, the unit cell lies in
- * grid cell g = ((i/s)*grid + j/s)*grid + k/s, and the verdict for that run is whether the list covers it.
+ * work[grid*grid*grid + 1 + work[g]] and has work[g + 1] - work[g] entries. With s = field/grid, a unit cell of the
+ * field lies in grid cell g = ((i/s)*grid + j/s)*grid + k/s, and the verdict for that run is whether the list covers
+ * it.
  */
 uint8_t heqdanu_covers(uint16_t edge, const uint16_t *coords, size_t ncoords, const uint32_t *run, size_t nrun,
                        uint16_t i, uint16_t j, uint16_t k);
