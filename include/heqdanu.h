@@ -21,15 +21,15 @@
  * allocates memory, keeps a pointer, or touches a place outside the buffers. Calls from several threads are fine as
  * long as they share no buffer that one of them writes.
  *
- * ANSWERS go to `answer`, so many places of 64 bits as the call needs; HEQDANU_ANSWER are enough for every call.
- * heqdanu_covers alone has none: it returns its verdict.
+ * ANSWERS go to `answer`, so many places of 64 bits as the call needs; HEQDANU_ANSWER are enough for every call:
  *
  *     answer[0]   0 if the call accepted, else the number of the refusal (below)
  *     answer[1]   the refusal's detail, 0 if accepted
  *     answer[2..] the call's numbers, all 0 if refused
  *
  * Places of `answer` past these keep their values. A call returns 1 when it wrote the answer. It returns 0 when
- * `answer` is too short; then it changed no place of any buffer.
+ * `answer` is too short; then it changed no place of any buffer. heqdanu_covers alone takes no `answer`: what it
+ * returns is its verdict.
  */
 #ifndef HEQDANU_H
 #define HEQDANU_H

@@ -1,7 +1,7 @@
 /* Asks the cover test about one unit cell of a shot file: the run of the grid cell that holds it, and the verdict.
  *
  *     cc -g covers.c -I../../include ../../target/staticlib/libcapi.a -o covers
- *     ./covers 2 2 2 < ../../examples/overlap.shots
+ *     ./covers 2 1 2 < ../../examples/overlap.shots
  *
  * docs/DEBUGGING.md stops in the test with a debugger.
  */
@@ -23,11 +23,19 @@ static void expect(uint64_t number, const uint64_t *answer)
     }
 }
 
+static int usage(void)
+{
+    fprintf(stderr, "usage: covers I J K < FILE, with a cell of the file's field\n");
+    return 2;
+}
+
 int main(int argc, char **argv)
 {
     uint64_t answer[HEQDANU_ANSWER];
     uint16_t cell[3];
 
+    if (argc != 4)
+        return usage();
     heqdanu_read(file, fread(file, 1, sizeof file, stdin), coords, 12288, answer, HEQDANU_ANSWER);
     expect(HEQDANU_ACCEPTED, answer);
     uint16_t field = (uint16_t)answer[HEQDANU_READ_FIELD];
@@ -47,11 +55,9 @@ int main(int argc, char **argv)
     expect(HEQDANU_ACCEPTED, answer);
 
     for (int axis = 0; axis < 3; axis++) {
-        long place = axis + 1 < argc ? strtol(argv[axis + 1], NULL, 10) : -1;
-        if (place < 0 || place >= field) {
-            fprintf(stderr, "usage: covers I J K < FILE, with a cell of the file's field\n");
-            return 2;
-        }
+        long place = strtol(argv[axis + 1], NULL, 10);
+        if (place < 0 || place >= field)
+            return usage();
         cell[axis] = (uint16_t)place;
     }
 
