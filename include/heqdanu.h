@@ -1,8 +1,9 @@
 /* heqdanu.h: cube-shot quotes for C and C++.
  *
  * The calls measure a union of equal axis-aligned cubes ("shots") on a whole-number lattice, list its corner points,
- * file the shots in a grid index, tell whether some of them cover a unit cell, read and write shot files, and read the
- * VOX files of a voxel editor. They live in target/staticlib/libcapi.a, which `rt staticlib capi` proves and writes:
+ * credit its cells to the shots that cure them, file the shots in a grid index, name the first of some shots that covers
+ * a unit cell, read and write shot files, and read the VOX files of a voxel editor. They live in
+ * target/staticlib/libcapi.a, which `rt staticlib capi` proves and writes:
  *
  *     cc program.c -Iinclude target/staticlib/libcapi.a -o program
  *
@@ -28,8 +29,8 @@
  *     answer[2..] the call's numbers, all 0 if refused
  *
  * Places of `answer` past these keep their values. A call returns 1 when it wrote the answer. It returns 0 when
- * `answer` is too short; then it changed no place of any buffer. heqdanu_covers alone takes no `answer`: what it
- * returns is its verdict.
+ * `answer` is too short; then it changed no place of any buffer. heqdanu_covers refuses nothing: its two numbers stand
+ * in answer[0] and answer[1].
  */
 #ifndef HEQDANU_H
 #define HEQDANU_H
@@ -61,12 +62,13 @@ enum {
     HEQDANU_SHORT_FILE = 12,      /* the byte buffer is shorter than the file; the bytes needed */
     HEQDANU_NOT_VOX = 13,         /* not the mark and version, or a required chunk is missing or another; its offset */
     HEQDANU_BROKEN_CHUNK = 14,    /* a chunk is cut short, or a size of it overruns or does not match; its offset */
-    HEQDANU_VOXEL_RANGE = 15      /* a side of SIZE not 1 to 256, or a voxel outside SIZE or of colour 0; its offset */
+    HEQDANU_VOXEL_RANGE = 15,     /* a side of SIZE not 1 to 256, or a voxel outside SIZE or of colour 0; its offset */
+    HEQDANU_SHORT_CREDITS = 16    /* the credits have fewer places than there are shots; the shots */
 };
 
 /* Places of `answer`, call by call, and how many a call needs. */
 enum {
-    /* every call: 0 if accepted, else the number of the refusal; and its detail */
+    /* every call but heqdanu_covers: 0 if accepted, else the number of the refusal; and its detail */
     HEQDANU_NUMBER = 0,
     HEQDANU_DETAIL = 1,
     /* heqdanu_measure, heqdanu_list, heqdanu_recount */
@@ -77,6 +79,12 @@ enum {
     HEQDANU_MEASURE_ANSWER = 6,
     /* heqdanu_index */
     HEQDANU_INDEX_ANSWER = 2,
+    /* heqdanu_credit */
+    HEQDANU_CREDIT_ANSWER = 2,
+    /* heqdanu_covers */
+    HEQDANU_COVERED = 0,
+    HEQDANU_SHOT = 1,
+    HEQDANU_COVERS_ANSWER = 2,
     /* heqdanu_read, heqdanu_read_vox */
     HEQDANU_READ_FIELD = 2,
     HEQDANU_READ_EDGE = 3,
@@ -140,19 +148,38 @@ uint8_t heqdanu_recount(uint16_t field, uint16_t edge, uint16_t grid, const uint
 uint8_t heqdanu_index(uint16_t field, uint16_t edge, uint16_t grid, const uint16_t *coords, size_t ncoords,
                       uint32_t *work, size_t nwork, uint64_t *answer, size_t nanswer);
 
-/* The cover test: returns 1 if one of the shots of a run covers the unit cell (i, j, k), else 0.
+/* Credits each unit cell that a list covers to its lowest covering shot: the one that cures it, where the shots are
+ * flashed in the list's order.
+ *
+ * answer: number, detail (HEQDANU_CREDIT_ANSWER places).
+ *
+ * `credits` takes a number for each shot: of how many cells it is the lowest covering shot. They sum to the volume; a
+ * shot of credit 0, as the repeat of an earlier one has, can be left out and the list covers the same cells.
+ *
+ * Refusals: 1, 2, 6, 7, 8, 9, 10, 16.
+ * After success `work` is as after heqdanu_measure; `credits` holds the credits in its first places, later places keep
+ * their values. After refusal 16 `work` holds the finished index and `credits` is as it was. After any other refusal
+ * both are as they were.
+ */
+uint8_t heqdanu_credit(uint16_t field, uint16_t edge, uint16_t grid, const uint16_t *coords, size_t ncoords,
+                       uint32_t *work, size_t nwork, uint32_t *credits, size_t ncredits, uint64_t *answer,
+                       size_t nanswer);
+
+/* The cover test: names the first shot of a run that covers the unit cell (i, j, k).
+ *
+ * answer: 1 and the shot's number, or 0 and 0 where no shot of the run covers the cell (HEQDANU_COVERS_ANSWER places).
  *
  * A shot covers the cell if x <= i < x + edge, and likewise on y and z; no sum wraps. The run is `nrun` numbers of
  * shots, any numbers: one past the list's shots covers nothing, and one or two coordinates behind the last whole shot
  * are no shot. They are asked one after another from the front, up to the first shot that covers the cell.
  *
- * Refuses nothing and changes nothing. In a work slice that holds a list's index, the run of grid cell g starts at
+ * Refuses nothing. In a work slice that holds a list's index, the run of grid cell g starts at
  * work[grid*grid*grid + 1 + work[g]] and has work[g + 1] - work[g] entries. With s = field/grid, a unit cell of the
- * field lies in grid cell g = ((i/s)*grid + j/s)*grid + k/s, and the verdict for that run is whether the list covers
- * it.
+ * field lies in grid cell g = ((i/s)*grid + j/s)*grid + k/s; the answer for that run is 1 if the list covers it, and
+ * then the list's lowest covering shot.
  */
 uint8_t heqdanu_covers(uint16_t edge, const uint16_t *coords, size_t ncoords, const uint32_t *run, size_t nrun,
-                       uint16_t i, uint16_t j, uint16_t k);
+                       uint16_t i, uint16_t j, uint16_t k, uint64_t *answer, size_t nanswer);
 
 /* Reads a shot file.
  *
