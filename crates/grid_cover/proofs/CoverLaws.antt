@@ -1,17 +1,21 @@
 -- The cover test of a run: of one shot, and shot by shot.
 use mathlib.Core.Path.{_≡_, refl, sym, ap, _∙_}
-use mathlib.Core.Bool.{Bool, true, false, cond, _||_}
-use mathlib.Core.Option.{none, some}
+use mathlib.Core.Bool.{Bool, true, false, cond, _||_, true≢false}
+use mathlib.Core.Option.{Option, none, some}
 use mathlib.Core.List.{List, [], _∷_, _++_}
 use Prim.Native.Nat.{ℕ, suc, _+_, _≤_, _<_}
 use native.Mathlib.Numerals.{add-one}
+use native.Mathlib.Omega.{arith}
 use lib.Dec.{ltb}
 use lib.ListN.{length, getD, drop}
 use lib.Seq.{drop-cons, drop-length}
 use borrow.Author.Tests.{le-ltb, lt-ltb, le-leb, lt-leb}
 use Rattle.lattice.specs.Shots.{spans}
 use Rattle.job.specs.Job.{shotCount, xAt, yAt, zAt, edgeAt}
-use Rattle.grid_cover.specs.Cover.{shotCovers, first, isSome, firstCovering, runCovers}
+use Rattle.grid.specs.Numbers.{those}
+use Rattle.grid_cover.specs.Cover.{shotCovers, first, isSome, firstCovering, runCovers, coveringOf}
+use Rattle.grid_cover.specs.declared.Covering.{Covering}
+use Rattle.grid_cover.specs.declared.Covering.the-variants.{Shot, Nothing}
 
 -- ---- one shot
 
@@ -53,6 +57,19 @@ module _ (f : ℕ → Bool) where
       one true h = refl
       one false h = h
 
+-- those that pass a weaker test are enough
+module _ (f p : ℕ → Bool) (h : (s : ℕ) → f s ≡ true → p s ≡ true) where
+  pub first-among : (l : List ℕ) → first f (those p l) ≡ first f l
+  unfolding first those
+  first-among [] = refl
+  first-among (s ∷ l) = one (p s) (f s) refl refl (first-among l)
+    where
+      one : (b c : Bool) → p s ≡ b → f s ≡ c → first f (those p l) ≡ first f l → first f (cond b (s ∷ those p l) (those p l)) ≡ cond c (some s) (first f l)
+      one true true ep ef k = rw ef
+      one true false ep ef k = rw ef k
+      one false true ep ef k = absurd (true≢false (sym (h s ef) ∙ ep))
+      one false false ep ef k = k
+
 -- ---- a run, shot by shot
 
 module _ (e : ℕ) (coords : List ℕ) (run : List ℕ) (i j k : ℕ) where
@@ -80,3 +97,21 @@ module _ (e : ℕ) (coords : List ℕ) (run : List ℕ) (i j k : ℕ) where
   -- a run of no shot
   pub run-none : length run ≡ 0 → false ≡ runCovers e coords run i j k
   run-none h = ap isSome (rest-none 0 (sym h) rest-whole)
+
+-- ---- what the answer says
+
+pub shot-named : (o : Option ℕ) (s : ℕ) → coveringOf o ≡ Shot s → o ≡ some s
+shot-named none s h = let z : _≡_ {A = ℕ} 0 1 = cc in absurd (omega arith)
+shot-named (some t) s h = let same : t ≡ s = cc in ap some same
+
+pub nothing-named : (o : Option ℕ) → coveringOf o ≡ Nothing → o ≡ none
+nothing-named none h = refl
+nothing-named (some t) h = let z : _≡_ {A = ℕ} 0 1 = cc in absurd (omega arith)
+
+-- the run covers the cell exactly if a shot is named
+module _ (e : ℕ) (coords : List ℕ) (run : List ℕ) (i j k : ℕ) {c : Covering} (is : c ≡ coveringOf (firstCovering e coords run i j k)) where
+  pub shot-covers : (s : ℕ) → c ≡ Shot s → true ≡ runCovers e coords run i j k
+  shot-covers s h = sym (ap isSome (shot-named (firstCovering e coords run i j k) s (sym is ∙ h)))
+
+  pub nothing-covers : c ≡ Nothing → false ≡ runCovers e coords run i j k
+  nothing-covers h = sym (ap isSome (nothing-named (firstCovering e coords run i j k) (sym is ∙ h)))

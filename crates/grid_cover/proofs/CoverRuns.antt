@@ -1,6 +1,7 @@
--- The run of a grid cell covers what the list covers: the unit cells in it, and the eight cells about each lattice point of its closed box.
+-- The run of a grid cell names the lowest covering shot of the list, and so covers what the list covers: for the unit cells in it, and for
+-- the eight cells about each lattice point of its closed box.
 use mathlib.Core.Path.{_≡_, refl, sym, ap, _∙_}
-use mathlib.Core.Bool.{Bool, true, false, cond, _&&_, _||_, and-false, false≢true}
+use mathlib.Core.Bool.{Bool, true, false, cond, _&&_, _||_, false≢true}
 use mathlib.Core.Option.{none, some}
 use mathlib.Core.List.{List, [], _∷_}
 use Prim.Native.Nat.{ℕ, zero, suc, _+_, _*_, _/_, _≤_, _<_}
@@ -15,13 +16,12 @@ use Rattle.job.specs.Job.{shotsOf, shotCount, shotAt, Valid}
 use Rattle.job.proofs.Shots.{any-at, at-any}
 use Rattle.job.proofs.Tests.{or-left, or-right}
 use Rattle.lattice.proofs.ShotLaws.{or-elim}
-use Rattle.grid.specs.Numbers.{upTo, those}
+use Rattle.grid.specs.Numbers.{upTo}
 use Rattle.grid.specs.Grid.{meets, touchesCell, runOf, holding}
-use Rattle.grid_cover.specs.Cover.{shotCovers, first, isSome, firstCovering, runCovers}
-use Rattle.grid.proofs.NumberLaws.{those-append}
+use Rattle.grid_cover.specs.Cover.{shotCovers, first, isSome, firstCovering, lowestCovering, runCovers}
 use Rattle.grid.proofs.CellLaws.{digit-high, digit-low, digits-below}
 use Rattle.grid.proofs.ShotLaws.{width-times, width-least}
-use Rattle.grid_cover.proofs.CoverLaws.{first-append}
+use Rattle.grid_cover.proofs.CoverLaws.{first-append, first-among}
 
 -- ---- some number below n passes a test
 
@@ -66,22 +66,22 @@ any-shots f e coords = same (any f (shotsOf e coords)) (someBelow (shotCount coo
     same false true g h = absurd (h tt)
     same false false g h = refl
 
--- some number of those that pass a test
-first-those : (p f : ℕ → Bool) (n : ℕ) → isSome (first f (those p (upTo n))) ≡ someBelow n (λ i. p i && f i)
-unfolding upTo those first someBelow
-first-those p f zero = refl
-first-those p f (suc n) =
-    ap (λ l. isSome (first f l)) (those-append p (upTo n) (n ∷ []))
-    ∙ (first-append f (those p (upTo n)) (those p (n ∷ []))
-    ∙ rw (first-those p f n) (ap (λ b. someBelow n (λ i. p i && f i) || b) (one (p n) (f n))))
+-- the first of 0, 1, .. n - 1
+first-up : (f : ℕ → Bool) (n : ℕ) → isSome (first f (upTo n)) ≡ someBelow n f
+unfolding upTo first someBelow
+first-up f zero = refl
+first-up f (suc n) = first-append f (upTo n) (n ∷ []) ∙ rw (first-up f n) (ap (λ b. someBelow n f || b) (one (f n)))
   where
-    two : (b : Bool) → isSome (cond b (some n) none) ≡ b
-    two true = refl
-    two false = refl
+    one : (b : Bool) → isSome (cond b (some n) none) ≡ b
+    one true = refl
+    one false = refl
 
-    one : (a b : Bool) → isSome (first f (cond a (n ∷ []) [])) ≡ (a && f n)
-    one true b = two (f n)
-    one false b = refl
+-- a list covers a cell exactly if it has a lowest covering shot
+pub lowest-covers : (E : ℕ) (coords : List ℕ) (i j k : ℕ) → isSome (lowestCovering E coords i j k) ≡ cells (shotsOf E coords) i j k
+unfolding lowestCovering firstCovering shotCovers
+lowest-covers E coords i j k =
+    first-up (λ s. shotCovers E coords s i j k) (shotCount coords)
+    ∙ (some-agree (shotCount coords) _ _ (λ s l. rw (lt-ltb s (shotCount coords) l)) ∙ sym (any-shots (λ t. covers t i j k) E coords))
 
 -- ---- a unit cell that touches a grid cell
 
@@ -90,38 +90,35 @@ pub record Near (s g i : ℕ) : Type 0 where
   pub low : g * s ≤ i + 1
   pub high : i ≤ (g + 1) * s
 
+both : (b c : Bool) → (b && c) ≡ true → (b ≡ true) × (c ≡ true)
+both true c h = (refl, h)
+both false c h = (h, absurd (false≢true h))
+
 near-meets : (s g i e a : ℕ) → Near s g i → spans e a i ≡ true → meets s g a e ≡ true
 unfolding meets
 near-meets s g i e a n h =
     let c : leb a i ≡ true = both (leb a i) (ltb i (a + e)) h .0 in
     let d : ltb i (a + e) ≡ true = both (leb a i) (ltb i (a + e)) h .1 in
     rw (le-leb (g * s) (a + e) (omega (arith, ltb-true i (a + e) d)), le-leb a ((g + 1) * s) (omega (arith, leb-true a i c)))
-  where
-    both : (b c : Bool) → (b && c) ≡ true → (b ≡ true) × (c ≡ true)
-    both true c h = (refl, h)
-    both false c h = (h, absurd (false≢true h))
 
-absorb : (mx my mz cx cy cz : Bool) → (cx ≡ true → mx ≡ true) → (cy ≡ true → my ≡ true) → (cz ≡ true → mz ≡ true) → ((mx && (my && mz)) && (cx && (cy && cz))) ≡ (cx && (cy && cz))
-absorb mx my mz true true true hx hy hz = rw (hx refl, hy refl, hz refl)
-absorb mx my mz true true false hx hy hz = and-false (mx && (my && mz))
-absorb mx my mz true false cz hx hy hz = and-false (mx && (my && mz))
-absorb mx my mz false cy cz hx hy hz = and-false (mx && (my && mz))
+module _ (F E G : ℕ) (coords : List ℕ) (gx gy gz : ℕ) (hy : gy < G) (hz : gz < G) (i j k : ℕ) (nx : Near (F / G) gx i) (ny : Near (F / G) gy j) (nz : Near (F / G) gz k) where
+  covering-touches : (s : ℕ) → shotCovers E coords s i j k ≡ true → touchesCell F G ((gx * G + gy) * G + gz) (shotAt E coords s) ≡ true
+  unfolding shotCovers
+  covering-touches s h =
+      let t : Shot = shotAt E coords s in
+      let c = both (ltb s (shotCount coords)) (covers (shotAt E coords s) i j k) h .1 in
+      let x = both (spans (t .edge) (t .x) i) (spans (t .edge) (t .y) j && spans (t .edge) (t .z) k) c in
+      let yz = both (spans (t .edge) (t .y) j) (spans (t .edge) (t .z) k) (x .1) in
+      rw (digit-high G (gx * G + gy) gz hz, digit-low G (gx * G + gy) gz hz, digit-high G gx gy hy, digit-low G gx gy hy, near-meets (F / G) gx i (t .edge) (t .x) nx (x .0), near-meets (F / G) gy j (t .edge) (t .y) ny (yz .0), near-meets (F / G) gz k (t .edge) (t .z) nz (yz .1))
 
-module _ (F E G : ℕ) (coords : List ℕ) (gx gy gz : ℕ) (hy : gy < G) (hz : gz < G) where
-  -- the run of a grid cell covers a unit cell that touches it exactly if the list does
-  pub run-covers : (i j k : ℕ) → Near (F / G) gx i → Near (F / G) gy j → Near (F / G) gz k → runCovers E coords (runOf F E G coords ((gx * G + gy) * G + gz)) i j k ≡ cells (shotsOf E coords) i j k
-  unfolding firstCovering runOf shotCovers
-  run-covers i j k nx ny nz =
-      first-those (λ s. touchesCell F G cell (shotAt E coords s)) (λ s. shotCovers E coords s i j k) (shotCount coords)
-      ∙ (some-agree (shotCount coords) _ _ one ∙ sym (any-shots (λ t. covers t i j k) E coords))
-    where
-      cell : ℕ
-      cell = (gx * G + gy) * G + gz
+  -- the run of a grid cell names the list's lowest covering shot of a unit cell that touches it
+  pub run-names : firstCovering E coords (runOf F E G coords ((gx * G + gy) * G + gz)) i j k ≡ lowestCovering E coords i j k
+  unfolding firstCovering lowestCovering runOf
+  run-names = first-among _ _ covering-touches (upTo (shotCount coords))
 
-      one : (s : ℕ) → s < shotCount coords → (touchesCell F G cell (shotAt E coords s) && shotCovers E coords s i j k) ≡ covers (shotAt E coords s) i j k
-      one s l =
-          rw (digit-high G (gx * G + gy) gz hz, digit-low G (gx * G + gy) gz hz, digit-high G gx gy hy, digit-low G gx gy hy, lt-ltb s (shotCount coords) l)
-          (absorb _ _ _ (spans E (shotAt E coords s .x) i) (spans E (shotAt E coords s .y) j) (spans E (shotAt E coords s .z) k) (near-meets (F / G) gx i E (shotAt E coords s .x) nx) (near-meets (F / G) gy j E (shotAt E coords s .y) ny) (near-meets (F / G) gz k E (shotAt E coords s .z) nz))
+  -- and so covers the unit cell exactly if the list does
+  pub run-covers : runCovers E coords (runOf F E G coords ((gx * G + gy) * G + gz)) i j k ≡ cells (shotsOf E coords) i j k
+  run-covers = ap isSome run-names ∙ lowest-covers E coords i j k
 
 -- ---- the grid cell that holds a unit cell
 
@@ -140,7 +137,11 @@ module _ {F E G : ℕ} {coords : List ℕ} (v : Valid F E G coords) where
     pub holding-in : holding F G i j k < G * G * G
     holding-in = digits-below G _ _ (interval-below k hk) (G * G) (digits-below G _ _ (interval-below j hj) G (interval-below i hi))
 
-    -- its run covers the unit cell exactly if the list does
+    -- its run names the list's lowest covering shot of the unit cell
+    pub holding-names : firstCovering E coords (runOf F E G coords (holding F G i j k)) i j k ≡ lowestCovering E coords i j k
+    holding-names = run-names F E G coords _ _ _ (interval-below j hj) (interval-below k hk) i j k (near-holding i) (near-holding j) (near-holding k)
+
+    -- and covers it exactly if the list does
     pub holding-covers : runCovers E coords (runOf F E G coords (holding F G i j k)) i j k ≡ cells (shotsOf E coords) i j k
     holding-covers = run-covers F E G coords _ _ _ (interval-below j hj) (interval-below k hk) i j k (near-holding i) (near-holding j) (near-holding k)
 

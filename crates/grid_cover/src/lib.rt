@@ -1,9 +1,9 @@
-// The cover test: whether a run of shots covers a unit cell. docs/SCOPE.md, 'The grid index'. A run is any slice of numbers.
-// specs/Cover.antt says what it answers; proofs/CoverRuns.antt that the run of a grid cell covers what the list covers.
+// The cover test: the first shot of a run that covers a unit cell. docs/SCOPE.md, 'The grid index'. A run is any slice of numbers.
+// specs/Cover.antt says what it answers; proofs/CoverRuns.antt that the run of a grid cell names the list's lowest covering shot.
 // Stands on `grid`, whose runs it is asked about, and on `job` and `lattice`.
 ghost use mathlib.Core.Path.{_≡_};
 ghost use Rattle.lattice.specs.Shots.{spans};
-ghost use Rattle.grid_cover.specs.Cover.{shotCovers, runCovers};
+ghost use Rattle.grid_cover.specs.Cover.{shotCovers, firstCovering, coveringOf};
 use job::shot;
 
 // Whether the edge of a shot from a coordinate on spans a cell of the axis.
@@ -34,18 +34,27 @@ fn shot_covers(coords: &[u16], edge: u16, shot: u32, i: u16, j: u16, k: u16) -> 
     spans_cell(side, shot::z_of(coords, number), k)
 }
 
-// Whether some shot of the run covers the cell (i, j, k): a loop over the run that stops with its verdict at the first covering shot. The
-// run may be any numbers. docs/DEBUGGING.md shows how to stop in it.
-pub fn covers(coords: &[u16], edge: u16, run: &[u32], i: u16, j: u16, k: u16) -> bool
-    ensures { λ r. ⌜ r ≡ runCovers edge (now (coords .entry)) (now (run .entry)) i j k ⌝ }
+// What the cover test finds.
+pub enum Covering {
+    // The number of the first shot of the run that covers the cell.
+    Shot(u32),
+    // No shot of the run covers it.
+    Nothing,
+}
+
+// The first shot of the run that covers the cell (i, j, k): a loop over the run that stops with its answer at that shot. The run may be any
+// numbers. docs/DEBUGGING.md shows how to stop in it.
+pub fn first_covering(coords: &[u16], edge: u16, run: &[u32], i: u16, j: u16, k: u16) -> Covering
+    ensures { λ r. ⌜ r ≡ coveringOf (firstCovering edge (now (coords .entry)) (now (run .entry)) i j k) ⌝ }
 {
     let mut n = 0;
     loop {
         if n == run.len() {
-            break false;
+            break Covering::Nothing;
         }
-        if shot_covers(coords, edge, run[n], i, j, k) {
-            break true;
+        let shot = run[n];
+        if shot_covers(coords, edge, shot, i, j, k) {
+            break Covering::Shot(shot);
         }
         n += 1;
     }

@@ -5,7 +5,7 @@ use Rattle.job.specs.declared.Place.the-variants.{Byte, Shot, Nowhere}
 use Rattle.job.specs.declared.Checked.{Checked}
 use Rattle.job.specs.declared.Checked.the-variants.{Accepted, Refused}
 use Rattle.job.specs.declared.Refusal.{Refusal}
-use Rattle.job.specs.declared.Refusal.the-variants.{BrokenShot, TooManyShots, NoPlace, UnknownBit, CutShort, FieldRange, EdgeRange, GridRange, OutsideField, ShortWork, ShortListing, ShortFile, NotVox, BrokenChunk, VoxelRange}
+use Rattle.job.specs.declared.Refusal.the-variants.{BrokenShot, TooManyShots, NoPlace, UnknownBit, CutShort, FieldRange, EdgeRange, GridRange, OutsideField, ShortWork, ShortListing, ShortFile, NotVox, BrokenChunk, VoxelRange, ShortCredits}
 
 abbrev pub numberOf : Refusal → ℕ
 numberOf BrokenShot = 1
@@ -23,6 +23,7 @@ numberOf (ShortFile bytes) = 12
 numberOf (NotVox at) = 13
 numberOf (BrokenChunk at) = 14
 numberOf (VoxelRange at) = 15
+numberOf (ShortCredits shots) = 16
 
 -- the place in the file for a reader, the first shot outside, or what would be long enough; 0 otherwise
 abbrev pub detailOf : Refusal → ℕ
@@ -41,6 +42,7 @@ detailOf (ShortFile bytes) = bytes
 detailOf (NotVox at) = at
 detailOf (BrokenChunk at) = at
 detailOf (VoxelRange at) = at
+detailOf (ShortCredits shots) = shots
 
 -- where a refusal is met: at a byte of a file or at a shot of the list, which its detail names, or nowhere in particular
 abbrev pub metAt : Refusal → Place
@@ -59,6 +61,7 @@ metAt (ShortFile bytes) = Nowhere
 metAt (NotVox at) = Byte
 metAt (BrokenChunk at) = Byte
 metAt (VoxelRange at) = Byte
+metAt (ShortCredits shots) = Nowhere
 
 -- the numbers that a check answers: 0 and 0 where the list is accepted, else the refusal's number and its detail
 pub record Numbers : Type 0 where

@@ -47,6 +47,8 @@ pub enum Refusal {
     BrokenChunk { at: usize },
     // The SIZE chunk at `at` has a side outside its range, or the voxel at `at` is outside SIZE or has colour 0.
     VoxelRange { at: usize },
+    // The credit slice has fewer places than these shots.
+    ShortCredits { shots: usize },
 }
 
 // What the checks of a list and its settings find.
@@ -85,6 +87,7 @@ pub fn number(refusal: Refusal) -> u8
         Refusal::NotVox { at: _ } => 13,
         Refusal::BrokenChunk { at: _ } => 14,
         Refusal::VoxelRange { at: _ } => 15,
+        Refusal::ShortCredits { shots: _ } => 16,
     }
 }
 
@@ -108,6 +111,7 @@ pub fn detail(refusal: Refusal) -> usize
         Refusal::NotVox { at } => at,
         Refusal::BrokenChunk { at } => at,
         Refusal::VoxelRange { at } => at,
+        Refusal::ShortCredits { shots } => shots,
     }
 }
 
@@ -131,6 +135,7 @@ pub fn met_at(refusal: Refusal) -> Place
         Refusal::NotVox { at: _ } => Place::Byte,
         Refusal::BrokenChunk { at: _ } => Place::Byte,
         Refusal::VoxelRange { at: _ } => Place::Byte,
+        Refusal::ShortCredits { shots: _ } => Place::Nowhere,
     }
 }
 

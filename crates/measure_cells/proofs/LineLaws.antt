@@ -1,8 +1,7 @@
 -- A run narrowed to the shots that reach a line of points covers the cells about the line as the whole run does.
-use mathlib.Core.Path.{_≡_, refl, sym, _∙_, fun-ext}
-use mathlib.Core.Bool.{Bool, true, false, cond, _&&_, true≢false, false≢true}
-use mathlib.Core.Option.{some}
-use mathlib.Core.List.{List, [], _∷_}
+use mathlib.Core.Path.{_≡_, refl, ap, fun-ext}
+use mathlib.Core.Bool.{Bool, true, false, _&&_, false≢true}
+use mathlib.Core.List.{List}
 use Prim.Native.Nat.{ℕ, suc, _+_, _≤_, _<_}
 use native.Mathlib.Omega.{arith}
 use lib.Dec.{leb, ltb}
@@ -14,7 +13,8 @@ use Rattle.lattice.specs.Shots.{spans, covers}
 use Rattle.job.specs.Job.{shotCount, xAt, yAt, zAt, edgeAt, shotAt}
 use Rattle.grid.specs.Numbers.{those}
 use Rattle.grid.proofs.NumberLaws.{those-length}
-use Rattle.grid_cover.specs.Cover.{shotCovers, first, isSome, firstCovering, runCovers}
+use Rattle.grid_cover.specs.Cover.{shotCovers, isSome, firstCovering, runCovers}
+use Rattle.grid_cover.proofs.CoverLaws.{first-among}
 use Rattle.grid_cover.proofs.CoverRuns.{below-agree}
 use Rattle.measure_cells.specs.Points.{reaches, reachesLine}
 
@@ -62,24 +62,11 @@ module _ (E : ℕ) (coords : List ℕ) (x y : ℕ) where
       let cy = both (spans (edgeAt E coords s) (yAt coords s) j) (spans (edgeAt E coords s) (zAt coords s) k) (cx .1) in
       rw (span-reaches (edgeAt E coords s) (xAt coords s) i x (hx .0) (hx .1) (cx .0), span-reaches (edgeAt E coords s) (yAt coords s) j y (hy .0) (hy .1) (cy .0))
 
--- the first of a list that passes a test is among those that pass a weaker one
-module _ (f p : ℕ → Bool) (h : (s : ℕ) → f s ≡ true → p s ≡ true) where
-  first-narrowed : (l : List ℕ) → isSome (first f (those p l)) ≡ isSome (first f l)
-  unfolding first those
-  first-narrowed [] = refl
-  first-narrowed (s ∷ l) = one (p s) (f s) refl refl (first-narrowed l)
-    where
-      one : (b c : Bool) → p s ≡ b → f s ≡ c → isSome (first f (those p l)) ≡ isSome (first f l) → isSome (first f (cond b (s ∷ those p l) (those p l))) ≡ isSome (cond c (some s) (first f l))
-      one true true ep ef k = rw ef
-      one true false ep ef k = rw ef k
-      one false true ep ef k = absurd (true≢false (sym (h s ef) ∙ ep))
-      one false false ep ef k = k
-
 module _ (E : ℕ) (coords run : List ℕ) (x y : ℕ) where
   narrowed-covers : (i j k : ℕ) → (i ≤ x) × (x ≤ i + 1) → (j ≤ y) × (y ≤ j + 1) → runCovers E coords (those (reachesLine E coords x y) run) i j k ≡ runCovers E coords run i j k
   unfolding firstCovering
   narrowed-covers i j k hx hy =
-      first-narrowed (λ s. shotCovers E coords s i j k) (reachesLine E coords x y) (λ s. covering-reaches E coords x y i j k s hx hy) run
+      ap isSome (first-among (λ s. shotCovers E coords s i j k) (reachesLine E coords x y) (λ s. covering-reaches E coords x y i j k s hx hy) run)
 
   pub narrowed-around : (z : ℕ) → around (runCovers E coords (those (reachesLine E coords x y) run)) x y z ≡ around (runCovers E coords run) x y z
   narrowed-around z = fun-ext λ a. fun-ext λ b. fun-ext λ c.

@@ -14,7 +14,8 @@ ghost use Rattle.measure_cells.specs.Points.{plus, lineFrom, lineTo, pla
 use crate::lines::narrow_to_line;
 use crate::tallies::tally;
 use grid::intervals::cells_of;
-use grid_cover::covers;
+use grid_cover::Covering;
+use grid_cover::first_covering;
 use grid_runs::run_of;
 use lattice_sums::sums::Totals;
 
@@ -31,10 +32,11 @@ fn cell_ends(coords: &[u16], edge: u16, run: &[u32], x: u16, y: u16, z: u16) -> 
     if z == 0 {
         return 0;
     }
-    if covers(coords, edge, run, x - 1, y - 1, z - 1) {
-        return 1;
+    let covering = first_covering(coords, edge, run, x - 1, y - 1, z - 1);
+    match covering {
+        Covering::Shot(_) => 1,
+        Covering::Nothing => 0,
     }
-    0
 }
 
 // The four cells about the line at (x, y) that end at z, as bits 0, 2, 4 and 6. An empty run needs no test.

@@ -3,7 +3,7 @@ use Prim.Native.Nat.{_≤_}
 use native.Mathlib.Omega.{arith}
 use lib.ListN.{length}
 use Rattle.job.specs.declared.Refusal.{Refusal}
-use Rattle.job.specs.declared.Refusal.the-variants.{BrokenShot, TooManyShots, NoPlace, UnknownBit, CutShort, FieldRange, EdgeRange, GridRange, OutsideField, ShortWork, ShortListing, ShortFile, NotVox, BrokenChunk, VoxelRange}
+use Rattle.job.specs.declared.Refusal.the-variants.{BrokenShot, TooManyShots, NoPlace, UnknownBit, CutShort, FieldRange, EdgeRange, GridRange, OutsideField, ShortWork, ShortListing, ShortFile, NotVox, BrokenChunk, VoxelRange, ShortCredits}
 use Rattle.text_wording.specs.Sentences.{sentence}
 
 pub sentence-length : (r : Refusal) → length (sentence r) ≤ 64
@@ -23,3 +23,4 @@ sentence-length (ShortFile bytes) = omega arith
 sentence-length (NotVox at) = omega arith
 sentence-length (BrokenChunk at) = omega arith
 sentence-length (VoxelRange at) = omega arith
+sentence-length (ShortCredits shots) = omega arith

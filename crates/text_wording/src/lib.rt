@@ -68,5 +68,10 @@ pub fn put_sentence(out: &mut [u8], at: usize, refusal: Refusal) -> usize
             at,
             b"a side is not 1 to 256, or a voxel is outside or has colour 0",
         ),
+        Refusal::ShortCredits { shots: _ } => put_word(
+            out,
+            at,
+            b"the credit slice has fewer places than there are shots",
+        ),
     }
 }

@@ -141,6 +141,15 @@ slice-aggregate-put-word-15 c = search needs
 put-word-requires-15 : tie.Need-put-word-requires-15
 put-word-requires-15 c κs = search needs
 
+enum-told-16 : tie.Need-enum-told-16
+enum-told-16 c = search needs
+
+slice-aggregate-put-word-16 : tie.Need-slice-aggregate-put-word-16
+slice-aggregate-put-word-16 c = search needs
+
+put-word-requires-16 : tie.Need-put-word-requires-16
+put-word-requires-16 c κs = search needs
+
 same-length : tie.Need-same-length
 same-length c = search needs
 
@@ -246,6 +255,13 @@ returns-15 : tie.Need-returns-15
 unfolding sentence
 returns-15 c = wrote-as (ap sentence (sym (c .before .before .before .before .before .enum-told15 .given .1))) (c .before .before .put-word15 .ensures)
 
+same-length-16 : tie.Need-same-length-16
+same-length-16 c = search needs
+
+returns-16 : tie.Need-returns-16
+unfolding sentence
+returns-16 c = wrote-as (ap sentence (sym (c .before .before .before .before .before .enum-told16 .given .1))) (c .before .before .put-word16 .ensures)
+
 pub put-sentence-spec : {M : Type 1} → statement M
 put-sentence-spec =
     tie.close
@@ -295,6 +311,9 @@ put-sentence-spec =
     enum-told-15
     slice-aggregate-put-word-15
     put-word-requires-15
+    enum-told-16
+    slice-aggregate-put-word-16
+    put-word-requires-16
     same-length
     returns
     same-length-2
@@ -324,4 +343,6 @@ put-sentence-spec =
     same-length-14
     returns-14
     same-length-15
-    returns-15)
+    returns-15
+    same-length-16
+    returns-16)

@@ -1,6 +1,9 @@
 -- No cell ends at 0; elsewhere the cover test decides.
+use mathlib.Core.Path.{refl}
+use Prim.Native.Nat.{_-_}
 use borrow.Author.Needs.{needs}
 use Rattle.grid_cover.specs.Cover.{runCovers}
+use Rattle.grid_cover.proofs.CoverLaws.{shot-covers, nothing-covers}
 use Rattle.measure_cells.proofs.PointLaws.{none-at-y, none-at-z, ends-covered, ends-bare}
 use Rattle.measure_cells.proofs.points.cell_ends.Statement.{statement}
 use Rattle.measure_cells.proofs.points.cell_ends.Tie as tie
@@ -14,23 +17,29 @@ returns-2 c = let a = c .before .before .before .before in none-at-y (runCovers 
 returns-3 : tie.Need-returns-3
 returns-3 c = let a = c .before .before .before .before .before in none-at-z (runCovers (a .args .edge) (a .args .coords .now) (a .args .run .now)) (a .args .x) (a .args .y) (a .args .z) (c .before .before .if1 .left) (c .before .if2 .left) (c .if3 .taken)
 
-sub-covers : tie.Need-sub-covers
-sub-covers c = search needs
+sub-first-covering : tie.Need-sub-first-covering
+sub-first-covering c = search needs
 
-sub-covers-2 : tie.Need-sub-covers-2
-sub-covers-2 c = search needs
+sub-first-covering-2 : tie.Need-sub-first-covering-2
+sub-first-covering-2 c = search needs
 
-sub-covers-3 : tie.Need-sub-covers-3
-sub-covers-3 c = search needs
+sub-first-covering-3 : tie.Need-sub-first-covering-3
+sub-first-covering-3 c = search needs
 
-covers-requires : tie.Need-covers-requires
-covers-requires c κs = search needs
+first-covering-requires : tie.Need-first-covering-requires
+first-covering-requires c κs = search needs
+
+enum-told : tie.Need-enum-told
+enum-told c = search needs
+
+enum-told-2 : tie.Need-enum-told-2
+enum-told-2 c = search needs
 
 returns-4 : tie.Need-returns-4
-returns-4 c = let a = c .before .before .before .before .before .before .before in ends-covered (runCovers (a .args .edge) (a .args .coords .now) (a .args .run .now)) (a .args .x) (a .args .y) (a .args .z) (c .before .before .before .before .if1 .left) (c .before .before .before .if2 .left) (c .before .before .if3 .left) (c .before .covers .ensures) (c .if4 .taken)
+returns-4 c = let a = c .before .before .before .before .before .before .before .before in ends-covered (runCovers (a .args .edge) (a .args .coords .now) (a .args .run .now)) (a .args .x) (a .args .y) (a .args .z) (c .before .before .before .before .before .if1 .left) (c .before .before .before .before .if2 .left) (c .before .before .before .if3 .left) (shot-covers (a .args .edge) (a .args .coords .now) (a .args .run .now) (a .args .x - 1) (a .args .y - 1) (a .args .z - 1) (c .before .before .first-covering .ensures) (c .enum-told .given .0 .0) (c .enum-told .given .1)) refl
 
 returns-5 : tie.Need-returns-5
-returns-5 c = let a = c .before .before .before .before .before .before .before in ends-bare (runCovers (a .args .edge) (a .args .coords .now) (a .args .run .now)) (a .args .x) (a .args .y) (a .args .z) (c .before .before .before .before .if1 .left) (c .before .before .before .if2 .left) (c .before .before .if3 .left) (c .before .covers .ensures) (c .if4 .left)
+returns-5 c = let a = c .before .before .before .before .before .before .before .before in ends-bare (runCovers (a .args .edge) (a .args .coords .now) (a .args .run .now)) (a .args .x) (a .args .y) (a .args .z) (c .before .before .before .before .before .if1 .left) (c .before .before .before .before .if2 .left) (c .before .before .before .if3 .left) (nothing-covers (a .args .edge) (a .args .coords .now) (a .args .run .now) (a .args .x - 1) (a .args .y - 1) (a .args .z - 1) (c .before .before .first-covering .ensures) (c .enum-told2 .given .1)) refl
 
 pub cell-ends-spec : {M : Type 1} → statement M
 cell-ends-spec =
@@ -39,9 +48,11 @@ cell-ends-spec =
     returns
     returns-2
     returns-3
-    sub-covers
-    sub-covers-2
-    sub-covers-3
-    covers-requires
+    sub-first-covering
+    sub-first-covering-2
+    sub-first-covering-3
+    first-covering-requires
+    enum-told
+    enum-told-2
     returns-4
     returns-5)

@@ -4,10 +4,10 @@ use Prim.Native.Nat.{_≤_, _-_}
 use native.Mathlib.Omega.{arith}
 use lib.ListN.{length}
 use borrow.Author.Needs.{needs}
-use Rattle.grid_cover.specs.Cover.{isSome}
+use Rattle.grid_cover.specs.Cover.{coveringOf}
 use Rattle.grid_cover.proofs.CoverLaws.{RestDecides, rest-whole, rest-next, rest-found, rest-none}
-use Rattle.grid_cover.proofs.covers.Statement.{statement}
-use Rattle.grid_cover.proofs.covers.Tie as tie
+use Rattle.grid_cover.proofs.first_covering.Statement.{statement}
+use Rattle.grid_cover.proofs.first_covering.Tie as tie
 
 abbrev Inv-loop : tie.InvT-loop
 Inv-loop coords edge run i j k n₀ n = (n ≤ length run) × RestDecides edge coords run i j k n
@@ -18,11 +18,11 @@ abbrev μ-loop : tie.MeasureT-loop
 loop-holds : tie.Need-loop-holds Inv-loop μ-loop
 loop-holds c = (search needs, rest-whole _ _ _ _ _ _)
 
-mul-shot-covers : tie.Need-mul-shot-covers Inv-loop μ-loop
-mul-shot-covers c = search needs
+mul-shot : tie.Need-mul-shot Inv-loop μ-loop
+mul-shot c = search needs
 
-shared-slice-read-shot-covers : tie.Need-shared-slice-read-shot-covers Inv-loop μ-loop
-shared-slice-read-shot-covers c = search needs
+shared-slice-read-shot : tie.Need-shared-slice-read-shot Inv-loop μ-loop
+shared-slice-read-shot c = search needs
 
 shot-covers-requires : tie.Need-shot-covers-requires Inv-loop μ-loop
 shot-covers-requires c κs = search needs
@@ -37,20 +37,20 @@ loop-again : tie.Need-loop-again Inv-loop μ-loop
 loop-again c = (omega arith, rest-next _ _ _ _ _ _ _ (omega arith) (sym (c .before .shot-covers .ensures) ∙ c .if2 .left) (c .before .before .before .before .loop .inv .1))
 
 returns : tie.Need-returns Inv-loop μ-loop
-returns c = ap isSome (rest-none _ _ _ _ _ _ (c .before .loop .n) (omega arith) (c .before .loop .inv .1))
+returns c = ap coveringOf (rest-none _ _ _ _ _ _ (c .before .loop .n) (omega arith) (c .before .loop .inv .1))
 
 returns-2 : tie.Need-returns-2 Inv-loop μ-loop
-returns-2 c = ap isSome (rest-found _ _ _ _ _ _ _ (omega arith) (sym (c .before .shot-covers .ensures) ∙ c .if2 .taken) (c .before .before .before .before .loop .inv .1))
+returns-2 c = ap coveringOf (rest-found _ _ _ _ _ _ _ (omega arith) (sym (c .before .shot-covers .ensures) ∙ c .if2 .taken) (c .before .before .before .before .loop .inv .1))
 
-pub covers-spec : {M : Type 1} → statement M
-covers-spec =
+pub first-covering-spec : {M : Type 1} → statement M
+first-covering-spec =
     tie.close
     (tie.spec
     Inv-loop
     μ-loop
     loop-holds
-    mul-shot-covers
-    shared-slice-read-shot-covers
+    mul-shot
+    shared-slice-read-shot
     shot-covers-requires
     add-n
     loop-less

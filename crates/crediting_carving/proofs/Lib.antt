@@ -1,0 +1,5 @@
+pub mod SpanLaws
+pub mod BlockLaws
+pub mod AddedLaws
+pub mod MeetLaws
+pub mod CarveLaws

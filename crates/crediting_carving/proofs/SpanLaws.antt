@@ -1,0 +1,50 @@
+-- Sums over the cells of a span: term by term, cut in two and in three.
+use mathlib.Core.Path.{_≡_, refl, sym, ap, _∙_}
+use Prim.Native.Nat.{ℕ, zero, suc, _+_, _-_, _*_, _≤_, _<_}
+use native.Mathlib.Nat.{zero-mul, suc-mul}
+use native.Mathlib.Omega.{arith}
+use Rattle.lattice.specs.Sums.{total}
+use Rattle.grid.proofs.TotalLaws.{total-agree, total-plus, total-append}
+use Rattle.crediting_carving.specs.declared.blocks.Span.{Span}
+use Rattle.crediting_carving.specs.Blocks.{along, InSpan, spanBefore, spanAfter}
+
+-- ---- totals
+
+pub total-up : (n : ℕ) (f g : ℕ → ℕ) → ((i : ℕ) → f i ≤ g i) → total n f ≤ total n g
+unfolding total
+total-up zero f g h = omega arith
+total-up (suc n) f g h = omega (arith, total-up n f g h, h n)
+
+total-same : (n k : ℕ) → total n (λ i. k) ≡ n * k
+unfolding total
+total-same zero k = sym (zero-mul k)
+total-same (suc n) k = omega (arith, total-same n k, suc-mul n k)
+
+pub total-front : (f : ℕ → ℕ) (n k : ℕ) → total n f ≤ total (n + k) f
+total-front f n k = omega (arith, total-append n k f)
+
+-- ---- spans
+
+module _ (s : Span) where
+  pub along-agree : (f g : ℕ → ℕ) → ((i : ℕ) → InSpan s i → f i ≡ g i) → along s f ≡ along s g
+  along-agree f g h = total-agree (s .to - s .from) _ _ λ i l. h (s .from + i) (record { low = omega arith; high = omega (arith, l) })
+
+  pub along-plus : (f g : ℕ → ℕ) → along s (λ i. f i + g i) ≡ along s f + along s g
+  along-plus f g = total-plus (s .to - s .from) (λ i. f (s .from + i)) (λ i. g (s .from + i))
+
+  pub along-up : (f g : ℕ → ℕ) → ((i : ℕ) → f i ≤ g i) → along s f ≤ along s g
+  along-up f g h = total-up (s .to - s .from) _ _ λ i. h (s .from + i)
+
+  pub along-same : (k : ℕ) → along s (λ i. k) ≡ (s .to - s .from) * k
+  along-same k = total-same (s .to - s .from) k
+
+cut : (f : ℕ → ℕ) (a m b : ℕ) → a ≤ m → m ≤ b → total (b - a) (λ i. f (a + i)) ≡ total (m - a) (λ i. f (a + i)) + total (b - m) (λ i. f (m + i))
+cut f a m b h k =
+    let whole : b - a ≡ (m - a) + (b - m) = omega arith in
+    rw whole (total-append (m - a) (b - m) (λ i. f (a + i)))
+    ∙ ap (λ (t : ℕ). total (m - a) (λ i. f (a + i)) + t) (total-agree (b - m) _ _ λ i l. let place : a + (m - a + i) ≡ m + i = omega arith in ap f place)
+
+-- what is before and after r, and r
+pub along-three : (s r : Span) → s .from ≤ r .from → r .from ≤ r .to → r .to ≤ s .to → (f : ℕ → ℕ) → along s f ≡ along (spanBefore s r) f + (along (spanAfter s r) f + along r f)
+along-three s r low order high f =
+    omega (arith, cut f (s .from) (r .from) (s .to) low (omega arith), cut f (r .from) (r .to) (s .to) order high)
