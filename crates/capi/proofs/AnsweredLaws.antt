@@ -1,6 +1,7 @@
 -- Numbers put to the front of a lent slice, and what each call promises then.
 use mathlib.Core.Path.{_≡_, refl, sym, _∙_, ap}
 use mathlib.Core.Bool.{Bool, true, false, cond}
+use mathlib.Core.Option.{Option, none, some}
 use mathlib.Core.List.{List, [], _∷_}
 use Prim.Native.Nat.{ℕ, _≤_, _<_}
 use lib.Dec.{leb}
@@ -21,7 +22,10 @@ use Rattle.shotfile.specs.Calls.{readNumbers, readValues, readCoords, writtenNu
 use Rattle.shotfile.specs.declared.reader.ReadAnswer.{ReadAnswer}
 use Rattle.vox.specs.Vox.{voxIn, VoxCall}
 use Rattle.shotfile.specs.declared.writer.WriteAnswer.{WriteAnswer}
-use Rattle.capi.specs.Answered.{indexPlaces, measurePlaces, fits, Told, ifTold, IndexTold, MeasureTold, ListTold, ReadTold, VoxTold, WriteTold}
+use Rattle.grid_cover.specs.Cover.{firstCovering, coveringOf}
+use Rattle.grid_cover.specs.declared.Covering.{Covering}
+use Rattle.crediting.specs.Credits.{creditsAfter, CreditCall}
+use Rattle.capi.specs.Answered.{indexPlaces, measurePlaces, coverPlaces, namedBy, fits, Told, ifTold, creditTells, coversTells, IndexTold, MeasureTold, ListTold, CreditTold, CoversTold, ReadTold, VoxTold, WriteTold}
 
 -- ---- stores
 pub two-stored : (l : List ℕ) (a b : ℕ) → 2 ≤ length l → set (set l 0 a) 1 b ≡ inFront (a ∷ b ∷ []) l
@@ -124,6 +128,38 @@ module _ {F E G : ℕ} {coords work : List ℕ} (answer : List ℕ) where
         index = done-is n refl answer h (workAfter F E G coords work) work (call .index);
         listing = done-is n refl answer h (listingAfter F E G coords (length work) buffer) buffer (call .listing);
       }
+
+  pub credit-untold : {credits : List ℕ} → length answer < 2 → CreditTold F E G coords work credits answer 0 work credits answer
+  credit-untold {credits} h =
+      let n = creditTells F E G coords work credits in
+      record {
+        told = untold n refl answer h;
+        index = kept n refl answer h (workAfter F E G coords work) work;
+        credited = kept n refl answer h (creditsAfter F E G coords (length work) credits) credits;
+      }
+
+  pub credit-told : {c : Checked} {credits work' credits' answer' : List ℕ} → 2 ≤ length answer → CreditCall F E G coords work credits c work' credits'
+      → answer' ≡ inFront (indexPlaces (checkedNumbers c)) answer → CreditTold F E G coords work credits answer 1 work' credits' answer'
+  credit-told {c} {credits} h call e =
+      let n = creditTells F E G coords work credits in
+      record {
+        told = told n refl answer h e (ap indexPlaces (call .numbers));
+        index = done-is n refl answer h (workAfter F E G coords work) work (call .index);
+        credited = done-is n refl answer h (creditsAfter F E G coords (length work) credits) credits (call .credited);
+      }
+
+-- the cover test
+named-again : (o : Option ℕ) → namedBy (coveringOf o) ≡ o
+named-again none = refl
+named-again (some s) = refl
+
+module _ (E : ℕ) (coords run : List ℕ) (i j k : ℕ) (answer : List ℕ) where
+  pub covers-untold : length answer < 2 → CoversTold E coords run i j k answer 0 answer
+  covers-untold h = record { told = untold (coversTells E coords run i j k) refl answer h }
+
+  pub covers-told : {c : Covering} {answer' : List ℕ} → 2 ≤ length answer → c ≡ coveringOf (firstCovering E coords run i j k) → answer' ≡ inFront (coverPlaces (namedBy c)) answer
+      → CoversTold E coords run i j k answer 1 answer'
+  covers-told h is e = record { told = told (coversTells E coords run i j k) refl answer h e (ap coverPlaces (ap namedBy is ∙ named-again (firstCovering E coords run i j k))) }
 
 -- a file that says f, whatever its form
 module _ (f : File) (coords answer : List ℕ) where

@@ -1,8 +1,8 @@
 -- What a call from another language leaves: its numbers in a lent slice of 64-bit places, if that has a place for each; and 1 or 0
--- back. A call whose numbers do not fit changes nothing. The cover test is lent no such slice: 1 or 0 is its verdict. Each record is the
--- promise of the calls that it names.
+-- back. A call whose numbers do not fit changes nothing. Each record is the promise of the calls that it names.
 use mathlib.Core.Path.{_≡_}
 use mathlib.Core.Bool.{Bool, cond}
+use mathlib.Core.Option.{Option, none, some}
 use mathlib.Core.List.{List, [], _∷_}
 use Prim.Native.Nat.{ℕ}
 use lib.Dec.{leb}
@@ -11,9 +11,12 @@ use Rattle.lattice.specs.Cells.{bit}
 use Rattle.job.specs.Job.{shotCount}
 use Rattle.job.specs.Refusals.{Numbers}
 use Rattle.job.specs.Checking.{firstNumbers}
-use Rattle.grid_cover.specs.Cover.{runCovers}
+use Rattle.grid_cover.specs.Cover.{isSome, firstCovering}
+use Rattle.grid_cover.specs.declared.Covering.{Covering}
+use Rattle.grid_cover.specs.declared.Covering.the-variants.{Shot, Nothing}
 use Rattle.measure_intake.specs.Intake.{MeasuredNumbers, measureTests, measureNumbers, workAfter}
 use Rattle.measure.specs.Answers.{listNumbers, listingAfter}
+use Rattle.crediting.specs.Credits.{creditTests, creditsAfter}
 use Rattle.shotfile.specs.Files.{fileIn}
 use Rattle.buffer.specs.Wrote.{inFront}
 use Rattle.shotfile.specs.Calls.{readValues, readCoords, writeValues, writeBytes}
@@ -27,6 +30,19 @@ indexPlaces n = n .number ∷ n .detail ∷ []
 -- of measuring: then the totals and the corner count, all 0 if refused
 abbrev pub measurePlaces : MeasuredNumbers → List ℕ
 measurePlaces n = n .number ∷ n .detail ∷ n .totals .volume ∷ n .totals .area ∷ n .totals .edge ∷ n .totals .corners ∷ []
+
+-- of the cover test: 1 and the shot that it names, or 0 and 0
+abbrev pub shotOf : Option ℕ → ℕ
+shotOf none = 0
+shotOf (some s) = s
+
+abbrev pub coverPlaces : Option ℕ → List ℕ
+coverPlaces o = bit (isSome o) ∷ shotOf o ∷ []
+
+-- the shot that an answer of the cover test names
+abbrev pub namedBy : Covering → Option ℕ
+namedBy Nothing = none
+namedBy (Shot s) = some s
 
 -- ---- told where they fit
 -- a lent slice has a place for each number
@@ -51,6 +67,12 @@ measureTells F E G coords work = measurePlaces (measureNumbers F E G coords (len
 
 abbrev pub listTells : ℕ → ℕ → ℕ → List ℕ → List ℕ → List ℕ → List ℕ
 listTells F E G coords work buffer = measurePlaces (listNumbers F E G coords (length work) (length buffer))
+
+abbrev pub creditTells : ℕ → ℕ → ℕ → List ℕ → List ℕ → List ℕ → List ℕ
+creditTells F E G coords work credits = indexPlaces (firstNumbers (creditTests F E G coords (length work) (length credits)))
+
+abbrev pub coversTells : ℕ → List ℕ → List ℕ → ℕ → ℕ → ℕ → List ℕ
+coversTells E coords run i j k = coverPlaces (firstCovering E coords run i j k)
 
 abbrev pub readTells : List ℕ → List ℕ → List ℕ
 readTells bytes coords = readValues (fileIn (shotCount coords) bytes)
@@ -78,9 +100,15 @@ pub record ListTold (F E G : ℕ) (coords work buffer answer : List ℕ) (r : �
   pub index : work' ≡ ifTold (listTells F E G coords work buffer) answer (workAfter F E G coords work) work
   pub listing : buffer' ≡ ifTold (listTells F E G coords work buffer) answer (listingAfter F E G coords (length work) buffer) buffer
 
+-- `heqdanu_credit`
+pub record CreditTold (F E G : ℕ) (coords work credits answer : List ℕ) (r : ℕ) (work' credits' answer' : List ℕ) : Type 0 where
+  pub told : Told (creditTells F E G coords work credits) answer r answer'
+  pub index : work' ≡ ifTold (creditTells F E G coords work credits) answer (workAfter F E G coords work) work
+  pub credited : credits' ≡ ifTold (creditTells F E G coords work credits) answer (creditsAfter F E G coords (length work) credits) credits
+
 -- `heqdanu_covers`
-pub record CoversTold (E : ℕ) (coords run : List ℕ) (i j k r : ℕ) : Type 0 where
-  pub verdict : r ≡ bit (runCovers E coords run i j k)
+pub record CoversTold (E : ℕ) (coords run : List ℕ) (i j k : ℕ) (answer : List ℕ) (r : ℕ) (answer' : List ℕ) : Type 0 where
+  pub told : Told (coversTells E coords run i j k) answer r answer'
 
 -- `heqdanu_read`
 pub record ReadTold (bytes coords answer : List ℕ) (r : ℕ) (coords' answer' : List ℕ) : Type 0 where

@@ -1,6 +1,6 @@
 // The calls for C and Rust: numbers and slices only. include/heqdanu.h describes them for their users.
-// Each answer goes, as numbers, into a lent slice whose length is checked: specs/Answered.antt. The cover test alone gives its verdict
-// back. Stands on `measure`, `measure_cells`, `grid_cover`, `shotfile` and `vox`.
+// Each answer goes, as numbers, into a lent slice whose length is checked: specs/Answered.antt. Stands on `measure`, `measure_cells`,
+// `crediting`, `grid_cover`, `shotfile` and `vox`.
 pub mod places;
 
 ghost use mathlib.Core.Path.{_≡_};
@@ -11,9 +11,12 @@ ghost use Rattle.job.specs.Refusals.{checkedNumbers};
 ghost use Rattle.measure_intake.specs.Intake.{measuredNumbers};
 ghost use Rattle.buffer.specs.Wrote.{inFront};
 ghost use Rattle.shotfile.specs.Calls.{readNumbers, writtenNumbers};
-ghost use Rattle.capi.specs.Answered.{indexPlaces, measurePlaces, IndexTold, MeasureTold, ListTold, CoversTold, ReadTold, VoxTold, WriteTold};
+ghost use Rattle.capi.specs.Answered.{indexPlaces, measurePlaces, coverPlaces, namedBy, IndexTold, MeasureTold, ListTold, CreditTold, CoversTold, ReadTold, VoxTold, WriteTold};
 use crate::places::AREA;
 use crate::places::CORNERS;
+use crate::places::COVERED;
+use crate::places::COVERS_ANSWER;
+use crate::places::CREDIT_ANSWER;
 use crate::places::DETAIL;
 use crate::places::EDGE_LENGTH;
 use crate::places::INDEX_ANSWER;
@@ -24,9 +27,11 @@ use crate::places::READ_EDGE;
 use crate::places::READ_FIELD;
 use crate::places::READ_GRID;
 use crate::places::READ_SHOTS;
+use crate::places::SHOT;
 use crate::places::VOLUME;
 use crate::places::WRITE_ANSWER;
 use crate::places::WRITE_BYTES;
+use grid_cover::Covering;
 use job::Checked;
 use lattice_sums::sums::Totals;
 use measure_intake::Measured;
@@ -41,6 +46,14 @@ fn put_index(answer: &mut [u64], number: u8, detail: usize)
 {
     answer[NUMBER] = number as u64;
     answer[DETAIL] = detail as u64;
+}
+
+fn put_named(answer: &mut [u64], covered: u8, shot: u32)
+    requires { ⌜ 2 ≤ length (now answer) ⌝ }
+    ensures { λ _. ⌜ now (answer .exit) ≡ inFront (covered ∷ shot ∷ []) (now (answer .entry)) ⌝ }
+{
+    answer[COVERED] = covered as u64;
+    answer[SHOT] = shot as u64;
 }
 
 fn put_totals(answer: &mut [u64], number: u8, detail: usize, t: Totals)
@@ -94,6 +107,16 @@ fn put_checked(answer: &mut [u64], checked: Checked)
     match checked {
         Checked::Accepted => put_index(answer, 0, 0),
         Checked::Refused(r) => put_index(answer, job::number(r), job::detail(r)),
+    }
+}
+
+fn put_covering(answer: &mut [u64], covering: Covering)
+    requires { ⌜ 2 ≤ length (now answer) ⌝ }
+    ensures { λ _. ⌜ now (answer .exit) ≡ inFront (coverPlaces (namedBy covering)) (now (answer .entry)) ⌝ }
+{
+    match covering {
+        Covering::Shot(shot) => put_named(answer, 1, shot),
+        Covering::Nothing => put_named(answer, 0, 0),
     }
 }
 
@@ -225,7 +248,29 @@ pub extern "C" fn heqdanu_recount(
     1
 }
 
-// Whether a run of shots covers the cell (i, j, k): see `grid_cover::covers`. 1 if one of them does, and 0 if none.
+// Credits the cells that a list covers to its shots: see `crediting::credit`.
+#[no_mangle]
+pub extern "C" fn heqdanu_credit(
+    field: u16,
+    edge: u16,
+    grid: u16,
+    coords: &[u16],
+    work: &mut [u32],
+    credits: &mut [u32],
+    answer: &mut [u64],
+) -> u8
+    ensures { λ r. ⌜ CreditTold field edge grid (now (coords .entry)) (now (work .entry)) (now (credits .entry)) (now (answer .entry))
+        r (now (work .exit)) (now (credits .exit)) (now (answer .exit)) ⌝ }
+{
+    if answer.len() < CREDIT_ANSWER {
+        return 0;
+    }
+    let checked = crediting::credit(field, edge, grid, coords, work, credits);
+    put_checked(answer, checked);
+    1
+}
+
+// Names the first shot of a run that covers the cell (i, j, k): see `grid_cover::first_covering`. 1 and the shot, or 0 and 0.
 #[no_mangle]
 pub extern "C" fn heqdanu_covers(
     edge: u16,
@@ -234,13 +279,16 @@ pub extern "C" fn heqdanu_covers(
     i: u16,
     j: u16,
     k: u16,
+    answer: &mut [u64],
 ) -> u8
-    ensures { λ r. ⌜ CoversTold edge (now (coords .entry)) (now (run .entry)) i j k r ⌝ }
+    ensures { λ r. ⌜ CoversTold edge (now (coords .entry)) (now (run .entry)) i j k (now (answer .entry)) r (now (answer .exit)) ⌝ }
 {
-    if grid_cover::covers(coords, edge, run, i, j, k) {
-        return 1;
+    if answer.len() < COVERS_ANSWER {
+        return 0;
     }
-    0
+    let covering = grid_cover::first_covering(coords, edge, run, i, j, k);
+    put_covering(answer, covering);
+    1
 }
 
 // Reads a shot file: see `shotfile::read`.

@@ -1,7 +1,7 @@
 // Where the numbers of an answer stand, call by call, and how many there are. include/heqdanu.h has the same names with HEQDANU_ before
 // them.
 
-// Every call: the refusal's number, 0 if accepted, and its detail.
+// Every call but the cover test: the refusal's number, 0 if accepted, and its detail.
 pub const NUMBER: usize = 0;
 
 pub const DETAIL: usize = 1;
@@ -19,6 +19,16 @@ pub const MEASURE_ANSWER: usize = 6;
 
 // The index alone.
 pub const INDEX_ANSWER: usize = 2;
+
+// Crediting.
+pub const CREDIT_ANSWER: usize = 2;
+
+// The cover test: 1 and the shot, or 0 and 0.
+pub const COVERED: usize = 0;
+
+pub const SHOT: usize = 1;
+
+pub const COVERS_ANSWER: usize = 2;
 
 // Reading a shot file or a VOX file.
 pub const READ_FIELD: usize = 2;
