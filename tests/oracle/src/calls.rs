@@ -2,7 +2,7 @@
 
 use crate::cells::Cells;
 use crate::list::{refusal, List, Refusal};
-use crate::{corners, grid, shotfile, totals, vox};
+use crate::{corners, credits, grid, shotfile, totals, vox};
 use std::cell::OnceCell;
 
 /// A call's answer: refusal number (0 if accepted), detail, then the call's numbers (all 0 if refused).
@@ -35,16 +35,27 @@ pub fn measured(list: &List) -> Measured {
 pub struct Calls<'a> {
     list: &'a List,
     measured: OnceCell<Measured>,
+    credits: OnceCell<Vec<u32>>,
 }
 
 impl<'a> Calls<'a> {
     pub fn on(list: &'a List) -> Calls<'a> {
-        Calls { list, measured: OnceCell::new() }
+        Calls { list, measured: OnceCell::new(), credits: OnceCell::new() }
     }
 
     /// The list's numbers and its listing; only for a list that `check` accepts.
     pub fn measured(&self) -> &Measured {
         self.measured.get_or_init(|| measured(self.list))
+    }
+
+    /// The shots' credits, which must sum to the volume; only for a list that `check` accepts.
+    pub fn credits(&self) -> &[u32] {
+        self.credits.get_or_init(|| {
+            let credits = credits::credits(self.list);
+            let sum: u64 = credits.iter().copied().map(u64::from).sum();
+            assert_eq!(sum, self.measured().numbers[0], "credits and volume differ for {:?}", self.list);
+            credits
+        })
     }
 
     /// The measuring call; success leaves the index in the work slice.
@@ -80,6 +91,20 @@ impl<'a> Calls<'a> {
         }
     }
 
+    /// The credit call; refusal 16 leaves the index in the work slice and the credits as they were.
+    pub fn credit(&self, work: &mut [u32], credits: &mut [u32]) -> Answer<2> {
+        if let Err(refusal) = self.check_with(work) {
+            return refused(refusal);
+        }
+        self.store_index(work);
+        let shots = self.list.coords.len() / 3;
+        if credits.len() < shots {
+            return refused(refusal(16, shots));
+        }
+        credits[..shots].copy_from_slice(self.credits());
+        [0, 0]
+    }
+
     /// Refusals 1, 2, 6 to 9 and 10.
     fn check_with(&self, work: &[u32]) -> Result<(), Refusal> {
         self.list.check()?;
@@ -110,6 +135,16 @@ pub fn measure(list: &List, work: &mut [u32]) -> Answer<6> {
 /// The index alone of a list.
 pub fn index(list: &List, work: &mut [u32]) -> Answer<2> {
     Calls::on(list).index(work)
+}
+
+/// The credit call on a list.
+pub fn credit(list: &List, work: &mut [u32], credits: &mut [u32]) -> Answer<2> {
+    Calls::on(list).credit(work, credits)
+}
+
+/// The cover test, which refuses nothing: 1 and the number of the run's first shot that covers the cell, or 0 and 0.
+pub fn covers(list: &List, run: &[u32], cell: [u16; 3]) -> Answer<2> {
+    grid::first_covering(list, run, cell).map_or([0, 0], |shot| [1, shot.into()])
 }
 
 /// The listing call on a list.

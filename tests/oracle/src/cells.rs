@@ -56,13 +56,20 @@ impl Cells {
     /// Covers the cells of every cube, cube by cube.
     pub fn paint(&mut self, shots: &[Shot], edge: usize) {
         for shot in shots {
-            let [x, y, z] = [0, 1, 2].map(|axis| shot[axis] - self.origin[axis]);
-            for i in x..x + edge {
-                for j in y..y + edge {
-                    set_range(self.row_mut(i, j), z, z + edge);
-                }
+            self.paint_cube(*shot, edge);
+        }
+    }
+
+    /// Covers the cells of one cube and gives how many of them were not covered before.
+    pub fn paint_cube(&mut self, shot: Shot, edge: usize) -> u64 {
+        let [x, y, z] = [0, 1, 2].map(|axis| shot[axis] - self.origin[axis]);
+        let mut new = 0;
+        for i in x..x + edge {
+            for j in y..y + edge {
+                new += set_range(self.row_mut(i, j), z, z + edge);
             }
         }
+        new
     }
 
     /// Covers the same cells as `paint`, in a time that hardly depends on the cubes: covers each cube's lowest cell, then
@@ -117,13 +124,17 @@ impl Cells {
     }
 }
 
-/// Sets the bits from `low` up to, but not including, `high`.
-fn set_range(row: &mut [u64], low: usize, high: usize) {
+/// Sets the bits from `low` up to, but not including, `high`, and gives how many of them were clear.
+fn set_range(row: &mut [u64], low: usize, high: usize) -> u64 {
+    let mut clear = 0;
     for (at, word) in row.iter_mut().enumerate().take((high - 1) / 64 + 1).skip(low / 64) {
         let from = low.max(at * 64) - at * 64;
         let to = high.min(at * 64 + 64) - at * 64;
-        *word |= (u64::MAX >> (64 - (to - from))) << from;
+        let bits = (u64::MAX >> (64 - (to - from))) << from;
+        clear += u64::from((bits & !*word).count_ones());
+        *word |= bits;
     }
+    clear
 }
 
 /// Steps of one, two, four and so on, the last one cut short, that together with the first cell make `edge` cells.

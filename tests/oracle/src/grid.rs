@@ -1,4 +1,4 @@
-//! The grid index: which shots touch which grid cell, and whether a run of it covers a unit cell.
+//! The grid index: which shots touch which grid cell, and which shot of a run is the first that covers a unit cell.
 
 use crate::list::{List, Shot};
 
@@ -45,12 +45,12 @@ pub fn index(list: &List) -> Vec<u32> {
     index
 }
 
-/// Whether one of the shots of a run covers a unit cell. The run may be any numbers: one past the list's shots is no
-/// shot, and covers nothing.
-pub fn covers(list: &List, run: &[u32], cell: [u16; 3]) -> bool {
+/// The first shot of a run that covers a unit cell, if one does. The run may be any numbers: one past the list's shots
+/// is no shot, and covers nothing.
+pub fn first_covering(list: &List, run: &[u32], cell: [u16; 3]) -> Option<u32> {
     let (shots, edge) = (list.shots(), list.edge as usize);
     let covers = |shot: &Shot| (0..3).all(|axis| (shot[axis]..shot[axis] + edge).contains(&cell[axis].into()));
-    run.iter().filter_map(|number| shots.get(*number as usize)).any(covers)
+    run.iter().copied().find(|number| shots.get(*number as usize).is_some_and(covers))
 }
 
 /// The run, in the index of an accepted list, of the grid cell that holds a unit cell of the field.

@@ -8,10 +8,11 @@
 //! - [`totals`]: volume, area and edge length counted over cells
 //! - [`corners`]: patterns, the seven weights, the listing, the corner sums
 //! - [`grid`]: the grid index and the cover test
+//! - [`credits`]: cells credited to the shots that are the first to cover them
 //! - [`shotfile`]: the reader and the writer
 //! - [`vox`]: the reader of VOX files
-//! - [`calls`]: measure, list, index, read, read_vox and write with lent buffers, as a caller sees them
-//! - [`quote`]: the quoting programs
+//! - [`calls`]: measure, list, index, credit, covers, read, read_vox and write with lent buffers, as a caller sees them
+//! - [`quote`]: the programs that print a quote or the credits
 //! - [`literal`]: the definitions once more, cell by cell and point by point, for small fields
 //! - [`inputs`]: random and damaged inputs, from a seed
 //! - [`vox_inputs`]: VOX files, whole and damaged, from a seed
@@ -19,6 +20,7 @@
 pub mod calls;
 pub mod cells;
 pub mod corners;
+pub mod credits;
 pub mod grid;
 pub mod inputs;
 pub mod list;

@@ -4,13 +4,34 @@
 use crate::corners::{Corner, Weights};
 use crate::list::List;
 
-/// Whether a cell is covered; cells outside the field are not.
-pub fn covered(list: &List, i: i64, j: i64, k: i64) -> bool {
+/// The lowest shot that covers a cell; a cell outside the field has none.
+pub fn lowest_covering(list: &List, i: i64, j: i64, k: i64) -> Option<usize> {
     let edge = i64::from(list.edge);
-    list.shots().iter().any(|shot| {
+    list.shots().iter().position(|shot| {
         let [x, y, z] = shot.map(|c| c as i64);
         x <= i && i < x + edge && y <= j && j < y + edge && z <= k && k < z + edge
     })
+}
+
+/// Whether a cell is covered; cells outside the field are not.
+pub fn covered(list: &List, i: i64, j: i64, k: i64) -> bool {
+    lowest_covering(list, i, j, k).is_some()
+}
+
+/// For each shot the number of cells for which it is the lowest covering shot: every cell of the field asks every shot.
+pub fn credits(list: &List) -> Vec<u32> {
+    let field = i64::from(list.field);
+    let mut credits = vec![0; list.shots().len()];
+    for i in 0..field {
+        for j in 0..field {
+            for k in 0..field {
+                if let Some(shot) = lowest_covering(list, i, j, k) {
+                    credits[shot] += 1;
+                }
+            }
+        }
+    }
+    credits
 }
 
 /// Covered cells as bytes, with a margin of one uncovered cell on every side of the field.

@@ -2,7 +2,7 @@
 
 use oracle::calls::{self, Calls};
 use oracle::list::List;
-use oracle::quote::quote;
+use oracle::quote::{credits, quote};
 
 fn job(field: u16, edge: u16, grid: u16, shots: &[[u16; 3]]) -> List {
     List { field, edge, grid, coords: shots.concat() }
@@ -57,6 +57,31 @@ fn the_whole_field_as_one_shot() {
 }
 
 #[test]
+fn credits_of_known_jobs() {
+    for grid in [1, 2, 4, 8] {
+        let known: [(&[[u16; 3]], &[u32]); 7] = [
+            (&[], &[]),
+            (&[[1, 1, 1]], &[8]),
+            (&[[1, 1, 1], [1, 1, 1]], &[8, 0]),
+            (&[[0, 0, 0], [2, 0, 0]], &[8, 8]),
+            (&[[0, 0, 0], [1, 1, 1]], &[8, 7]),
+            (&[[1, 1, 1], [0, 0, 0]], &[8, 7]),
+            // The third lies in the first two.
+            (&[[0, 0, 0], [2, 0, 0], [1, 0, 0], [2, 1, 0]], &[8, 8, 0, 4]),
+        ];
+        for (shots, expected) in known {
+            let mut credits = vec![77; expected.len()];
+            let answer = calls::credit(&job(8, 2, grid, shots), &mut vec![0; 2000], &mut credits);
+            assert_eq!((answer, &credits[..]), ([0, 0], expected), "{shots:?}");
+        }
+    }
+    let mut credits = [77; 4];
+    let whole = job(1024, 1024, 1, &[[0; 3]; 3]);
+    assert_eq!(calls::credit(&whole, &mut [0; 5], &mut credits), [0, 0]);
+    assert_eq!(credits, [1_073_741_824, 0, 0, 77]);
+}
+
+#[test]
 fn the_edges_of_the_ranges() {
     let number = |list: &List| measure(list)[..2].to_vec();
     assert_eq!(number(&job(8, 2, 2, &[[6, 6, 6]])), [0, 0]);
@@ -89,6 +114,20 @@ fn the_quoting_program_s_example() {
     assert_eq!(quote(&[0, 0]), "volume 4096\narea 1536\nedge 192\ncorners 8\n");
     assert_eq!(quote(&[1, 8, 0]), "refused 7 0\n");
     assert_eq!(quote(&[4, 64, 0]), "refused 10 262145\n");
+}
+
+#[test]
+fn what_credits_prints() {
+    let file = [7, 8, 0, 2, 0, 2, 0, 0, 7, 1, 0, 1, 0, 1, 0];
+    assert_eq!(credits(&file), "0 8\n1 7\n");
+    assert_eq!(credits(&[7, 8, 0, 2, 0, 2, 0, 0, 0]), "0 8\n1 0\n");
+    assert_eq!(credits(&[0]), "");
+    assert_eq!(credits(&[]), "refused 5 0\n");
+    assert_eq!(credits(&[1, 8, 0]), "refused 7 0\n");
+    assert_eq!(credits(&[4, 64, 0]), "refused 10 262145\n");
+    // A list of the most shots has a place for each, so none is refused by 16.
+    assert_eq!(credits(&[0; 4097]).lines().last(), Some("4095 0"));
+    assert_eq!(credits(&[0; 4098]), "refused 2 4097\n");
 }
 
 #[test]

@@ -1,9 +1,11 @@
 //! The oracle's quicker counts against the definitions taken word for word, on random small lists.
 
-use oracle::calls::measured;
+use oracle::calls::{self, measured, Calls};
 use oracle::cells::Cells;
 use oracle::corners::{listing, Weights};
+use oracle::credits::credits;
 use oracle::inputs::{accepted, accepted_with, Random, Size};
+use oracle::list::List;
 use oracle::{grid, literal, shotfile};
 
 #[test]
@@ -30,10 +32,64 @@ fn the_cover_test_of_a_run() {
         let place = |random: &mut Random| random.within(0, list.field as usize - 1) as u16;
         let cell = [place(&mut random), place(&mut random), place(&mut random)];
         let [i, j, k] = cell.map(i64::from);
-        let covered = literal::covered(&list, i, j, k);
-        assert_eq!(grid::covers(&list, &all, cell), covered, "{list:?} {cell:?}");
-        assert_eq!(grid::covers(&list, &grid::run_about(&list, cell), cell), covered, "{list:?} {cell:?}");
-        assert!(!grid::covers(&list, &[all.len() as u32, u32::MAX], cell), "{list:?} {cell:?}");
+        let lowest = literal::lowest_covering(&list, i, j, k).map(|shot| shot as u32);
+        let first = |run: &[u32]| grid::first_covering(&list, run, cell);
+        assert_eq!(first(&all), lowest, "{list:?} {cell:?}");
+        assert_eq!(first(&grid::run_about(&list, cell)), lowest, "{list:?} {cell:?}");
+        assert_eq!(first(&[all.len() as u32, u32::MAX]), None, "{list:?} {cell:?}");
+        // In a run that does not rise the first is not the lowest.
+        let falling: Vec<u32> = all.iter().rev().copied().collect();
+        let highest = all.iter().rev().copied().find(|shot| first(&[*shot]).is_some());
+        assert_eq!(first(&falling), highest, "{list:?} {cell:?}");
+        assert_eq!(calls::covers(&list, &falling, cell), highest.map_or([0, 0], |shot| [1, shot.into()]));
+    }
+}
+
+#[test]
+fn credits_of_shots() {
+    let mut random = Random::new(7);
+    let (mut none, mut part) = (0, 0);
+    for turn in 0..3000 {
+        let size = if turn % 10 == 0 { Size { field: 12, shots: 40 } } else { Size { field: 6, shots: 8 } };
+        let list = accepted(&mut random, size);
+        let credits = credits(&list);
+        assert_eq!(credits, literal::credits(&list), "{list:?}");
+        let volume = u32::from(list.edge).pow(3);
+        none += credits.iter().filter(|credit| **credit == 0).count();
+        part += credits.iter().filter(|credit| (1..volume).contains(*credit)).count();
+    }
+    assert!(none > 1000 && part > 1000, "{none} shots of credit 0, {part} of less than a cube");
+}
+
+#[test]
+fn what_holds_of_credits() {
+    let mut random = Random::new(8);
+    for _ in 0..1000 {
+        let list = accepted(&mut random, Size { field: 30, shots: 30 });
+        let calls = Calls::on(&list);
+        let (volume, shots) = (calls.measured().numbers[0], list.shots());
+        let sum = |credits: &[u32]| credits.iter().copied().map(u64::from).sum::<u64>();
+        // The first shot has its whole cube, a repeat nothing, and all of them together the volume.
+        let credits = calls.credits();
+        assert_eq!(sum(credits), volume, "{list:?}");
+        assert!(credits.first().is_none_or(|first| *first == u32::from(list.edge).pow(3)), "{list:?}");
+        for (number, shot) in shots.iter().enumerate() {
+            assert!(!shots[..number].contains(shot) || credits[number] == 0, "{list:?}");
+        }
+        // Another order moves credit, not the sum.
+        let mut order = shots.clone();
+        order.rotate_left(shots.len() / 2);
+        order.reverse();
+        let coords = order.into_iter().flatten().map(|c| c as u16).collect();
+        let other = List { coords, ..list.clone() };
+        assert_eq!(sum(Calls::on(&other).credits()), volume, "{list:?}");
+        // Without the shots of credit 0 the others keep theirs, and the part is the same.
+        let kept = |number: &usize| credits[*number] > 0;
+        let coords = (0..shots.len()).filter(kept).flat_map(|number| list.coords[3 * number..][..3].to_vec()).collect();
+        let fewer = List { coords, ..list.clone() };
+        let left: Vec<u32> = credits.iter().copied().filter(|credit| *credit > 0).collect();
+        assert_eq!(Calls::on(&fewer).credits(), left, "{list:?}");
+        assert_eq!(measured(&fewer).listing, calls.measured().listing, "{list:?}");
     }
 }
 
@@ -47,6 +103,7 @@ fn rows_of_more_than_one_word() {
             let measured = measured(&list);
             assert_eq!(measured.numbers[..3], literal::totals(&list), "{list:?}");
             assert_eq!(measured.listing, listing(&literal::corners(&list)), "{list:?}");
+            assert_eq!(credits(&list), literal::credits(&list), "{list:?}");
         }
     }
 }

@@ -71,6 +71,47 @@ fn twelve_gives_the_bytes_needed() {
 }
 
 #[test]
+fn sixteen_leaves_the_finished_index_and_the_credits_as_lent() {
+    let two = list(8, 2, 2, &[1, 1, 1, 1, 1, 1]);
+    let index = [0, 2, 2, 2, 2, 2, 2, 2, 2, 0, 1];
+    for places in 0..5 {
+        let (mut work, mut credits) = (vec![5; 12], vec![9; places]);
+        let answer = calls::credit(&two, &mut work, &mut credits);
+        assert_eq!(work, [&index[..], &[5]].concat());
+        if places < 2 {
+            assert_eq!((answer, credits), ([16, 2], vec![9; places]));
+        } else {
+            assert_eq!((answer, credits), ([0, 0], [&[8, 0], &vec![9; places - 2][..]].concat()));
+        }
+    }
+    let (mut work, mut credits) = (vec![5; 10], vec![9; 4]);
+    assert_eq!(calls::credit(&list(8, 2, 2, &[]), &mut work, &mut []), [0, 0]);
+    assert_eq!(work, [0, 0, 0, 0, 0, 0, 0, 0, 0, 5]);
+    assert_eq!(calls::credit(&list(8, 2, 2, &[]), &mut work, &mut credits), [0, 0]);
+    assert_eq!(credits, [9; 4]);
+}
+
+#[test]
+fn sixteen_comes_last() {
+    // Each list has one fault fewer than the one before it; neither slice has a place.
+    for (list, number, detail) in [
+        (list(0, 9, 3, &vec![9; 12_289]), 1, 0),
+        (list(0, 9, 3, &vec![9; 12_291]), 2, 0),
+        (list(0, 9, 3, &[6, 6, 6, 7, 6, 6]), 6, 0),
+        (list(8, 9, 3, &[6, 6, 6, 7, 6, 6]), 7, 0),
+        (list(8, 2, 3, &[6, 6, 6, 7, 6, 6]), 8, 0),
+        (list(8, 2, 2, &[6, 6, 6, 7, 6, 6]), 9, 1),
+        (list(8, 2, 2, &[6, 6, 6, 6, 6, 6]), 10, 11),
+    ] {
+        assert_eq!(calls::credit(&list, &mut [], &mut []), [number, detail]);
+        let (mut work, mut credits) = (vec![5; 10], vec![9; 5]);
+        assert_eq!(calls::credit(&list, &mut work, &mut credits), [number, detail]);
+        assert_eq!((work, credits), (vec![5; 10], vec![9; 5]));
+    }
+    assert_eq!(calls::credit(&list(8, 2, 2, &[6; 6]), &mut [0; 11], &mut []), [16, 2]);
+}
+
+#[test]
 fn the_largest_need_fits_32_bits() {
     let all = list(1024, 1024, 64, &vec![0; 12_288]);
     assert_eq!(grid::need(&all), 1_074_003_969);
