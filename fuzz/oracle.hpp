@@ -80,9 +80,9 @@ inline std::vector<uint32_t> index(const List &list) {
     return starts;
 }
 
-// Whether one of the shots of a run covers the cell; a number past the list is no shot.
-inline bool covers(const List &list, const std::vector<uint32_t> &run, const uint16_t *cell) {
-    return std::any_of(run.begin(), run.end(), [&](uint32_t shot) {
+// The first shot of a run that covers the cell, or -1; a number past the list is no shot.
+inline int64_t first_covering(const List &list, const std::vector<uint32_t> &run, const uint16_t *cell) {
+    auto found = std::find_if(run.begin(), run.end(), [&](uint32_t shot) {
         if (shot >= list.shots()) return false;
         for (int axis = 0; axis < 3; axis++) {
             int from = list.at(shot, axis), place = cell[axis];
@@ -90,6 +90,7 @@ inline bool covers(const List &list, const std::vector<uint32_t> &run, const uin
         }
         return true;
     });
+    return found == run.end() ? -1 : int64_t(*found);
 }
 
 // Covered cells in the box about the shots, with a margin.
@@ -118,10 +119,29 @@ struct Room {
     }
 
     // A cell by its place in the box; the margin is at -1 and at the side.
-    uint8_t &at(int i, int j, int k) {
-        return cells[(size_t(i + 1) * (side[1] + 2) + size_t(j + 1)) * (side[2] + 2) + size_t(k + 1)];
+    uint8_t &at(int i, int j, int k) { return cells[number(i, j, k)]; }
+
+    size_t number(int i, int j, int k) const {
+        return (size_t(i + 1) * (side[1] + 2) + size_t(j + 1)) * (side[2] + 2) + size_t(k + 1);
     }
 };
+
+// For each shot of an accepted list the number of cells for which it is the lowest covering shot: the shots paint their
+// numbers over each other from the last to the first, and then the cells are counted.
+inline std::vector<uint32_t> credits(const List &list) {
+    Room room(list);
+    std::vector<uint32_t> lowest(room.cells.size()), result(list.shots());
+    for (size_t shot = list.shots(); shot-- > 0;)
+        for (int i = 0; i < list.edge; i++)
+            for (int j = 0; j < list.edge; j++) {
+                uint32_t *row = &lowest[room.number(list.at(shot, 0) - room.low[0] + i,
+                                                    list.at(shot, 1) - room.low[1] + j, list.at(shot, 2) - room.low[2])];
+                std::fill(row, row + list.edge, uint32_t(shot));
+            }
+    for (size_t cell = 0; cell < lowest.size(); cell++)
+        if (room.cells[cell]) result[lowest[cell]]++;
+    return result;
+}
 
 // The count of a unit edge; a and d share only the edge, and so do b and c.
 inline int edge_count(int a, int b, int c, int d) {

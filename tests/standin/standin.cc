@@ -56,6 +56,42 @@ uint8_t measure(const oracle::List &list, uint32_t *work, size_t nwork, uint64_t
     return answered(answer, {0, 0, result.volume, result.area, result.edge, result.corners});
 }
 
+// What the shots of an accepted list are credited with.
+std::vector<uint32_t> credited(const oracle::List &list) {
+    size_t shots = list.shots();
+    std::vector<uint32_t> credits = oracle::credits(list), all;
+    // Each cell goes to its highest covering shot.
+    if (FAULT == 26) {
+        std::vector<uint16_t> coords;
+        for (size_t shot = shots; shot-- > 0;)
+            coords.insert(coords.end(), list.coords + 3 * shot, list.coords + 3 * shot + 3);
+        credits = oracle::credits({list.field, list.edge, list.grid, coords.data(), coords.size()});
+        std::reverse(credits.begin(), credits.end());
+    }
+    // A repeat is credited as the shot that it repeats.
+    for (size_t shot = 0; FAULT == 27 && shot < shots; shot++)
+        for (size_t earlier = 0; earlier < shot; earlier++)
+            if (std::equal(list.coords + 3 * shot, list.coords + 3 * shot + 3, list.coords + 3 * earlier))
+                credits[shot] = credits[earlier];
+    // A grid cell's block is one cell too wide on x, so that the cells after a grid plane count twice (33); the cells
+    // at the field's far side are left out (42).
+    for (size_t shot = 0; shot < shots; shot++) all.push_back(uint32_t(shot));
+    for (int i = 0; (FAULT == 33 || FAULT == 42) && list.field <= 40 && i < list.field; i++) {
+        bool twice = FAULT == 33 && i > 0 && i % (list.field / list.grid) == 0;
+        bool never = FAULT == 42 && i == list.field - 1;
+        for (int j = 0; (twice || never) && j < list.field; j++)
+            for (int k = 0; k < list.field; k++) {
+                const uint16_t cell[3] = {uint16_t(i), uint16_t(j), uint16_t(k)};
+                int64_t shot = oracle::first_covering(list, all, cell);
+                if (shot >= 0) credits[size_t(shot)] += twice ? 1 : uint32_t(-1);
+            }
+    }
+    // Credits have 16 bits.
+    for (uint32_t &credit : credits)
+        if (FAULT == 41) credit &= 65535;
+    return credits;
+}
+
 // The VOX file as the stand-in looks at it: faults 14 to 16 change bytes of it.
 std::vector<uint8_t> looked_at(const uint8_t *bytes, size_t nbytes) {
     std::vector<uint8_t> file(bytes, bytes + nbytes);
@@ -112,19 +148,57 @@ extern "C" uint8_t heqdanu_index(uint16_t field, uint16_t edge, uint16_t grid, c
     return answered(answer, {refusal.number, refusal.detail});
 }
 
+extern "C" uint8_t heqdanu_credit(uint16_t field, uint16_t edge, uint16_t grid, const uint16_t *coords, size_t ncoords,
+                                  uint32_t *work, size_t nwork, uint32_t *credits, size_t ncredits, uint64_t *answer,
+                                  size_t nanswer) {
+    oracle::List list = {field, edge, grid, coords, ncoords};
+    size_t shots = list.shots();
+    oracle::Refusal refusal = check(list, nwork);
+    // The index is stored before the answer's places are counted.
+    if (FAULT == 37 && refusal.number == 0) put_index(list, work, nwork);
+    if (nanswer < HEQDANU_CREDIT_ANSWER) return 0;
+    bool few = FAULT == 28 ? ncredits <= shots : ncredits < shots;
+    // 16 comes before 10.
+    if (FAULT == 38 && refusal.number == 10 && few) refusal = {16, shots};
+    // The credits are cleared before the work slice is looked at.
+    if (FAULT == 39 && refusal.number == 10) std::fill(credits, credits + ncredits, 0);
+    if (refusal.number != 0) return answered(answer, {refusal.number, refusal.detail});
+    // The credit places are counted before the index is stored.
+    if (FAULT != 30 || !few) put_index(list, work, nwork);
+    // Refusal 16 clears the credits.
+    if (FAULT == 32 && few) std::fill(credits, credits + ncredits, 0);
+    if (few) return answered(answer, {16, FAULT == 29 ? ncredits : shots});
+    std::vector<uint32_t> counted = credited(list);
+    // Credits are added to what was lent.
+    for (size_t shot = 0; shot < shots; shot++) credits[shot] = counted[shot] + (FAULT == 40 ? credits[shot] : 0);
+    if (FAULT == 31) std::fill(credits + shots, credits + ncredits, 0);
+    return answered(answer, {0, 0});
+}
+
 extern "C" uint8_t heqdanu_covers(uint16_t edge, const uint16_t *coords, size_t ncoords, const uint32_t *run,
-                                  size_t nrun, uint16_t i, uint16_t j, uint16_t k) {
+                                  size_t nrun, uint16_t i, uint16_t j, uint16_t k, uint64_t *answer, size_t nanswer) {
+    // One place is taken for enough.
+    if (FAULT == 36 && nanswer == 1) answer[0] = 0;
+    if (nanswer < HEQDANU_COVERS_ANSWER) return 0;
     oracle::List list = {0, edge, 0, coords, ncoords};
     const uint16_t cell[3] = {i, j, k};
     std::vector<uint32_t> asked(run, run + nrun);
+    // The last covering shot is named.
+    if (FAULT == 24) std::reverse(asked.begin(), asked.end());
     // The last shot of a run is left out.
     if (FAULT == 21 && nrun > 1) asked.pop_back();
     // A number past the list stands for the last shot.
     for (uint32_t &shot : asked)
         if (FAULT == 22 && list.shots() > 0) shot = std::min(shot, uint32_t(list.shots() - 1));
     // The last cell that 16 bits can name is covered by nothing.
-    if (FAULT == 23 && *std::max_element(cell, cell + 3) == 65535) return 0;
-    return oracle::covers(list, asked, cell);
+    if (FAULT == 23 && *std::max_element(cell, cell + 3) == 65535) return answered(answer, {0, 0});
+    int64_t shot = oracle::first_covering(list, asked, cell);
+    // Where none covers the cell, the shot's place is left as lent.
+    if (shot < 0) return answered(answer, {0, FAULT == 35 ? answer[1] : 0});
+    // The run's first shot is named, whether or not it covers the cell (25), or the place in the run (34).
+    if (FAULT == 25) shot = asked[0];
+    if (FAULT == 34) shot = std::find(asked.begin(), asked.end(), uint32_t(shot)) - asked.begin();
+    return answered(answer, {1, uint64_t(shot)});
 }
 
 extern "C" uint8_t heqdanu_list(uint16_t field, uint16_t edge, uint16_t grid, const uint16_t *coords, size_t ncoords,
