@@ -1,9 +1,11 @@
-//! Cube-shot quotes: volume, area, edge length and corner points of a union of equal axis-aligned cubes on a
-//! whole-number lattice, the shot files that hold such lists, and the VOX files of a voxel editor.
+//! Cube-shot quotes: volume, area, edge length and corner points of a union of equal axis-aligned cubes ("shots") on a
+//! whole-number lattice, how many cells each shot cures, the shot files that hold such lists, and the VOX files of a
+//! voxel editor.
 //!
 //! The work is done by the proved library `libcapi.a`; this crate turns its calls into safe functions. [`measure`],
-//! [`list`], [`recount`], [`index`], [`covers`], [`read`], [`read_vox`] and [`write`] use buffers that the caller lends
-//! and allocate nothing; [`quote`], [`corners`], [`from_file`], [`from_vox`] and [`to_file`] allocate what they need.
+//! [`list`], [`recount`], [`index`], [`credit`], [`first_covering`], [`read`], [`read_vox`] and [`write`] use buffers
+//! that the caller lends and allocate nothing; [`quote`], [`corners`], [`credits`], [`from_file`], [`from_vox`] and
+//! [`to_file`] allocate what they need.
 //!
 //! ```
 //! use heqdanu::{quote, List, Totals};
@@ -88,23 +90,7 @@ pub fn measure(list: &List, work: &mut [u32]) -> Result<Totals, Refusal> {
 /// Measures a list and stores its corner points, [`RECORD`] bytes each, in the first bytes of `listing`. Success and
 /// [`Reason::ShortListing`] leave the grid index in the first entries of `work`; nothing else changes.
 pub fn list(list: &List, work: &mut [u32], listing: &mut [u8]) -> Result<Totals, Refusal> {
-    let mut answer = [0; 6];
-    // SAFETY: each pointer comes from a slice with the length beside it, and no two of them overlap.
-    let written = unsafe {
-        raw::heqdanu_list(
-            list.field,
-            list.edge,
-            list.grid,
-            list.coords.as_ptr(),
-            list.coords.len(),
-            work.as_mut_ptr(),
-            work.len(),
-            listing.as_mut_ptr(),
-            listing.len(),
-            answer.as_mut_ptr(),
-            answer.len(),
-        )
-    };
+    let (written, answer) = answer_filling(raw::heqdanu_list, list, work, listing);
     totals(written, answer)
 }
 
@@ -116,25 +102,53 @@ pub fn recount(list: &List, work: &mut [u32]) -> Result<Totals, Refusal> {
 /// Leaves the grid index of a list in the first entries of `work` and measures nothing; nothing else changes. The same
 /// refusals as [`measure`].
 pub fn index(list: &List, work: &mut [u32]) -> Result<(), Refusal> {
-    let (written, [number, detail]) = answer_of(raw::heqdanu_index, list, work);
-    numbers(written, [number, detail, 0, 0, 0, 0])?;
-    Ok(())
+    let (written, answer) = answer_of(raw::heqdanu_index, list, work);
+    accepted(written, answer)
 }
 
-/// Whether one of the shots of a run covers the unit cell (i, j, k) of a list, whose field side and grid size are not
-/// looked at. A run is numbers of shots, as a run of the grid index, or any others: a number past the list's shots
-/// covers nothing. Refuses nothing and changes nothing.
+/// Credits each unit cell that a list covers to its lowest covering shot, and stores in the first places of `credits`
+/// how many cells each shot is credited with. They sum to the volume; a shot of credit 0, as the repeat of an earlier
+/// one has, can be left out and the list covers the same cells. Success and [`Reason::ShortCredits`] leave the grid
+/// index in the first entries of `work`; nothing else changes.
+pub fn credit(list: &List, work: &mut [u32], credits: &mut [u32]) -> Result<(), Refusal> {
+    let (written, answer) = answer_filling(raw::heqdanu_credit, list, work, credits);
+    accepted(written, answer)
+}
+
+/// The cover test: the first shot of a run that covers the unit cell (i, j, k) of a list, whose field side and grid size
+/// are not looked at. A run is numbers of shots, as a run of the grid index, which rises, so that its first covering
+/// shot is the lowest; or any others: a number past the list's shots covers nothing. Refuses nothing and changes
+/// nothing.
 ///
 /// ```
-/// let list = heqdanu::List { field: 8, edge: 2, grid: 2, coords: &[0, 0, 0, 1, 1, 1] };
-/// assert!(heqdanu::covers(&list, &[0, 1], [2, 2, 2]));
-/// assert!(!heqdanu::covers(&list, &[0], [2, 2, 2]));
+/// use heqdanu::{first_covering, List};
+///
+/// let list = List { field: 8, edge: 2, grid: 2, coords: &[0, 0, 0, 1, 1, 1] };
+/// assert_eq!(first_covering(&list, &[0, 1], [1, 1, 1]), Some(0));
+/// assert_eq!(first_covering(&list, &[1, 0], [1, 1, 1]), Some(1));
+/// assert_eq!(first_covering(&list, &[0], [2, 2, 2]), None);
 /// ```
-pub fn covers(list: &List, run: &[u32], [i, j, k]: [u16; 3]) -> bool {
+pub fn first_covering(list: &List, run: &[u32], [i, j, k]: [u16; 3]) -> Option<u32> {
     let List { edge, coords, .. } = *list;
-    // SAFETY: each pointer comes from a slice with the length beside it, and the call only reads.
-    let verdict = unsafe { raw::heqdanu_covers(edge, coords.as_ptr(), coords.len(), run.as_ptr(), run.len(), i, j, k) };
-    verdict == 1
+    let mut answer = [0; 2];
+    // SAFETY: each pointer comes from a slice with the length beside it, and no two of them overlap.
+    let written = unsafe {
+        raw::heqdanu_covers(
+            edge,
+            coords.as_ptr(),
+            coords.len(),
+            run.as_ptr(),
+            run.len(),
+            i,
+            j,
+            k,
+            answer.as_mut_ptr(),
+            answer.len(),
+        )
+    };
+    assert_eq!(written, 1, "the library found the answer slice too short");
+    let [covered, shot] = answer;
+    (covered == 1).then_some(shot as u32)
 }
 
 /// Measures a list by one of the calls that do.
@@ -156,6 +170,33 @@ fn answer_of<const N: usize>(call: raw::Indexing, list: &List, work: &mut [u32])
             list.coords.len(),
             work.as_mut_ptr(),
             work.len(),
+            answer.as_mut_ptr(),
+            answer.len(),
+        )
+    };
+    (written, answer)
+}
+
+/// What a call on a list, a work slice and a slice of its own answers in so many places.
+fn answer_filling<T, const N: usize>(
+    call: raw::Filling<T>,
+    list: &List,
+    work: &mut [u32],
+    filled: &mut [T],
+) -> (u8, [u64; N]) {
+    let mut answer = [0; N];
+    // SAFETY: each pointer comes from a slice with the length beside it, and no two of them overlap.
+    let written = unsafe {
+        call(
+            list.field,
+            list.edge,
+            list.grid,
+            list.coords.as_ptr(),
+            list.coords.len(),
+            work.as_mut_ptr(),
+            work.len(),
+            filled.as_mut_ptr(),
+            filled.len(),
             answer.as_mut_ptr(),
             answer.len(),
         )
@@ -232,6 +273,21 @@ pub fn corners(list: &List) -> Result<Vec<Corner>, Refusal> {
     Ok(records(&listing).collect())
 }
 
+/// How many cells each shot of a list is credited with, as [`credit`] stores them.
+///
+/// ```
+/// use heqdanu::{credits, List};
+///
+/// let list = List { field: 8, edge: 2, grid: 2, coords: &[0, 0, 0, 1, 1, 1] };
+/// assert_eq!(credits(&list), Ok(vec![8, 7]));
+/// ```
+pub fn credits(list: &List) -> Result<Vec<u32>, Refusal> {
+    let mut work = vec![0; work_needed(list)?];
+    let mut credits = vec![0; list.coords.len() / 3];
+    credit(list, &mut work, &mut credits)?;
+    Ok(credits)
+}
+
 /// The records of a listing; a remainder shorter than a record is left out.
 pub fn records(listing: &[u8]) -> impl Iterator<Item = Corner> + '_ {
     listing.chunks_exact(RECORD).map(|record| {
@@ -277,6 +333,11 @@ fn numbers(written: u8, answer: [u64; 6]) -> Result<[u64; 4], Refusal> {
         Some(refusal) => Err(refusal),
         None => Ok(numbers),
     }
+}
+
+/// That a call which gives no numbers accepted.
+fn accepted(written: u8, [number, detail]: [u64; 2]) -> Result<(), Refusal> {
+    numbers(written, [number, detail, 0, 0, 0, 0]).map(|_| ())
 }
 
 fn totals(written: u8, answer: [u64; 6]) -> Result<Totals, Refusal> {

@@ -4,6 +4,11 @@
 /// `heqdanu_index`.
 pub type Indexing = unsafe extern "C" fn(u16, u16, u16, *const u16, usize, *mut u32, usize, *mut u64, usize) -> u8;
 
+/// The calls that take a list and fill a slice of their own beside the work slice: `heqdanu_list`, of bytes, and
+/// `heqdanu_credit`, of 32-bit numbers.
+pub type Filling<T> =
+    unsafe extern "C" fn(u16, u16, u16, *const u16, usize, *mut u32, usize, *mut T, usize, *mut u64, usize) -> u8;
+
 /// The calls that read a file into a coordinate slice: `heqdanu_read` and `heqdanu_read_vox`.
 pub type Reading = unsafe extern "C" fn(*const u8, usize, *mut u16, usize, *mut u64, usize) -> u8;
 
@@ -59,6 +64,20 @@ extern "C" {
         nanswer: usize,
     ) -> u8;
 
+    pub fn heqdanu_credit(
+        field: u16,
+        edge: u16,
+        grid: u16,
+        coords: *const u16,
+        ncoords: usize,
+        work: *mut u32,
+        nwork: usize,
+        credits: *mut u32,
+        ncredits: usize,
+        answer: *mut u64,
+        nanswer: usize,
+    ) -> u8;
+
     pub fn heqdanu_covers(
         edge: u16,
         coords: *const u16,
@@ -68,6 +87,8 @@ extern "C" {
         i: u16,
         j: u16,
         k: u16,
+        answer: *mut u64,
+        nanswer: usize,
     ) -> u8;
 
     pub fn heqdanu_read(

@@ -3,7 +3,7 @@
 use std::error::Error;
 use std::fmt;
 
-/// The fifteen reasons, in the order in which a call on a list tests them; it gives the first that holds. A reader
+/// The sixteen reasons, in the order in which a call on a list tests them; it gives the first that holds. A reader
 /// takes its file from front to back, [`read_vox`](crate::read_vox) with 13, 14, 2, 3, 15 in this order on one chunk.
 #[derive(Clone, Copy, Debug, PartialEq, Eq, Hash, PartialOrd, Ord)]
 pub enum Reason {
@@ -38,10 +38,12 @@ pub enum Reason {
     BrokenChunk,
     /// 15: a side is outside 1 to 256, the offset of SIZE; or a voxel is outside SIZE or has colour 0, its offset.
     VoxelRange,
+    /// 16: the credits have fewer places than there are shots; the shots.
+    ShortCredits,
 }
 
 impl Reason {
-    const ALL: [Reason; 15] = [
+    const ALL: [Reason; 16] = [
         Reason::BrokenShot,
         Reason::TooManyShots,
         Reason::NoPlace,
@@ -57,9 +59,10 @@ impl Reason {
         Reason::NotVox,
         Reason::BrokenChunk,
         Reason::VoxelRange,
+        Reason::ShortCredits,
     ];
 
-    /// The refusal's number, 1 to 15.
+    /// The refusal's number, 1 to 16.
     pub fn number(self) -> u64 {
         self as u64
     }
@@ -81,6 +84,7 @@ impl Reason {
             Reason::NotVox => "there is no VOX mark of version 150, or not the chunk required, at byte",
             Reason::BrokenChunk => "a chunk is cut short, or a size of it does not match, at byte",
             Reason::VoxelRange => "a side is outside 1 to 256, or a voxel is outside or has colour 0, at byte",
+            Reason::ShortCredits => "the credits are too short, the shots being",
         }
     }
 }

@@ -1,8 +1,8 @@
-//! The wrapper on the request's examples: totals, corners, files, and each refusal that a caller can meet.
+//! The wrapper on the request's examples: totals, corners, credits, files, and each refusal that a caller can meet.
 
 use heqdanu::{
-    corners, covers, from_file, from_vox, index, list, measure, quote, read, read_vox, recount, to_file, work_needed,
-    write, Corner, Header, List, Reason, Refusal, Totals,
+    corners, credit, credits, first_covering, from_file, from_vox, index, list, measure, quote, read, read_vox,
+    recount, to_file, work_needed, write, Corner, Header, List, Reason, Refusal, Totals,
 };
 
 const TWO: List = List { field: 8, edge: 2, grid: 2, coords: &[0, 0, 0, 1, 1, 1] };
@@ -36,6 +36,7 @@ fn the_empty_list_measures_zero() {
     let none = List { coords: &[], ..TWO };
     assert_eq!(quote(&none), Ok(Totals { volume: 0, area: 0, edge: 0, corners: 0 }));
     assert_eq!(corners(&none), Ok(vec![]));
+    assert_eq!(credits(&none), Ok(vec![]));
     assert_eq!(to_file(&none).unwrap(), [7, 8, 0, 2, 0, 2, 0]);
 }
 
@@ -77,19 +78,40 @@ fn the_cover_test() {
     index(&TWO, &mut work).unwrap();
     let run = &work[9..11];
     assert_eq!(run, [0, 1]);
-    let covered = |cell| covers(&TWO, run, cell);
-    let all = (0..64).map(|n| [n / 16, n / 4 % 4, n % 4]).filter(|cell| covered(*cell)).count();
-    assert_eq!(all, 15);
-    assert!(covered([1, 1, 1]) && covered([2, 2, 2]) && !covered([0, 0, 2]) && !covered([3, 3, 3]));
-    // Any numbers are a run: repeats, none at all, and numbers past the list, which cover nothing.
-    assert!(covers(&TWO, &[7, u32::MAX, 1, 1], [2, 2, 2]));
-    assert!(!covers(&TWO, &[2, 3, u32::MAX], [0, 0, 0]));
-    assert!(!covers(&TWO, &[], [0, 0, 0]));
+    let first = |cell| first_covering(&TWO, run, cell);
+    let cells = |shot| (0..64).map(|n| [n / 16, n / 4 % 4, n % 4]).filter(|cell| first(*cell) == shot).count();
+    assert_eq!([cells(Some(0)), cells(Some(1)), cells(None)], [8, 7, 49]);
+    assert_eq!([first([0, 0, 0]), first([1, 1, 1]), first([2, 2, 2])], [Some(0), Some(0), Some(1)]);
+    assert_eq!([first([0, 0, 2]), first([3, 3, 3])], [None, None]);
+    // Any numbers are a run: in any order, repeats, none at all, and numbers past the list, which cover nothing.
+    assert_eq!(first_covering(&TWO, &[1, 0], [1, 1, 1]), Some(1));
+    assert_eq!(first_covering(&TWO, &[7, u32::MAX, 1, 1], [2, 2, 2]), Some(1));
+    assert_eq!(first_covering(&TWO, &[2, 3, u32::MAX], [0, 0, 0]), None);
+    assert_eq!(first_covering(&TWO, &[], [0, 0, 0]), None);
     // Nothing wraps in 16 bits; an edge of 0 and a cut shot cover nothing.
     let far = List { edge: 16, coords: &[65_520; 3], ..TWO };
-    assert!(covers(&far, &[0], [65_535; 3]) && !covers(&far, &[0], [0; 3]));
-    assert!(!covers(&List { edge: 0, ..TWO }, &[0, 1], [0; 3]));
-    assert!(!covers(&List { coords: &[0, 0], ..TWO }, &[0], [0; 3]));
+    assert_eq!([first_covering(&far, &[0], [65_535; 3]), first_covering(&far, &[0], [0; 3])], [Some(0), None]);
+    assert_eq!(first_covering(&List { edge: 0, ..TWO }, &[0, 1], [0; 3]), None);
+    assert_eq!(first_covering(&List { coords: &[0, 0], ..TWO }, &[0], [0; 3]), None);
+}
+
+#[test]
+fn cells_credited_to_shots() {
+    assert_eq!(credits(&TWO), Ok(vec![8, 7]));
+    assert_eq!(credits(&List { coords: &[1, 1, 1, 0, 0, 0], ..TWO }), Ok(vec![8, 7]));
+    assert_eq!(credits(&List { coords: &[1, 1, 1, 1, 1, 1], ..TWO }), Ok(vec![8, 0]));
+    // The third shot lies in the first two; without it the list measures the same.
+    let three = List { coords: &[0, 0, 0, 2, 0, 0, 1, 0, 0], ..TWO };
+    assert_eq!(credits(&three), Ok(vec![8, 8, 0]));
+    assert_eq!(quote(&three), quote(&List { coords: &three.coords[..6], ..three }));
+    // Places past the shots keep their values; too few places leave the index.
+    let (mut work, mut credits) = ([5; 12], [9; 4]);
+    assert_eq!(credit(&TWO, &mut work, &mut credits), Ok(()));
+    let indexed = [0, 2, 2, 2, 2, 2, 2, 2, 2, 0, 1, 5];
+    assert_eq!((work, credits), (indexed, [8, 7, 9, 9]));
+    let (mut work, mut credits) = ([5; 12], [9; 1]);
+    assert_eq!(credit(&TWO, &mut work, &mut credits), refused(Reason::ShortCredits, 2));
+    assert_eq!((work, credits), (indexed, [9]));
 }
 
 #[test]
@@ -103,6 +125,9 @@ fn refusals() {
     assert_eq!(measure(&List { coords: &[2, 2, 2], ..TWO }, &mut [0; 16]), refused(Reason::ShortWork, 17));
     assert_eq!(index(&List { coords: &[2, 2, 2], ..TWO }, &mut [0; 16]), refused(Reason::ShortWork, 17));
     assert_eq!(index(&List { coords: &[6, 6, 7], ..TWO }, &mut []), refused(Reason::OutsideField, 0));
+    assert_eq!(credit(&List { coords: &[6, 6, 7], ..TWO }, &mut [], &mut []), refused(Reason::OutsideField, 0));
+    assert_eq!(credit(&TWO, &mut [0; 10], &mut []), refused(Reason::ShortWork, 11));
+    assert_eq!(credits(&List { edge: 9, ..TWO }), refused(Reason::EdgeRange, 0));
     assert_eq!(work_needed(&TWO), Ok(11));
     assert_eq!(write(&TWO, &mut [0; 14]), refused(Reason::ShortFile, 15));
     assert_eq!(read(&[0, 0], &mut [0; 2]), refused(Reason::NoPlace, 1));
@@ -167,5 +192,7 @@ fn a_refusal_in_words() {
     assert_eq!(refusal.to_string(), "a chunk is cut short, or a size of it does not match, at byte 44");
     let refusal = read_vox(&VOX, &mut [0; 5]).unwrap_err();
     assert_eq!(refusal.to_string(), "the coordinate slice has too few places for the shots, at byte 44");
-    assert_eq!([Reason::NotVox.number(), Reason::VoxelRange.number()], [13, 15]);
+    let refusal = credit(&TWO, &mut [0; 11], &mut [0; 1]).unwrap_err();
+    assert_eq!(refusal.to_string(), "the credits are too short, the shots being 2");
+    assert_eq!([Reason::NotVox, Reason::VoxelRange, Reason::ShortCredits].map(Reason::number), [13, 15, 16]);
 }
