@@ -5,7 +5,7 @@
 //! must agree. A case that fails is made smaller as long as it still fails, and printed as a shot file or a VOX file.
 //!
 //! - [`lent`]: buffers filled with junk
-//! - [`lists`]: cases for measure, recount, index, list and write
+//! - [`lists`]: cases for measure, recount, index, list, credit and write
 //! - [`runs`]: cases for the cover test
 //! - [`files`]: cases for read and read_vox
 //! - [`smallest`]: making a failing case smaller

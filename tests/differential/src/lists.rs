@@ -1,6 +1,6 @@
-//! Cases for the calls that take a list: measure, recount, index, list and write.
+//! Cases for the calls that take a list: measure, recount, index, list, credit and write.
 
-use crate::lent::Lent;
+use crate::lent::{Junk, Lent};
 use crate::smallest::Case;
 use crate::{hex, same_answer};
 use heqdanu::raw;
@@ -11,6 +11,8 @@ use oracle::{grid, shotfile};
 
 /// The largest field that the recount is tried on, since it looks at every cell.
 const RECOUNT_FIELD: u16 = 32;
+/// The most steps for which credits are counted, where each cell asks the whole run of its grid cell.
+const CREDIT_STEPS: usize = 10_000_000;
 
 /// A list, the lengths of the buffers, and the seed of the junk in them.
 #[derive(Clone)]
@@ -18,6 +20,7 @@ pub struct ListCase {
     pub list: List,
     pub work: Length,
     pub listing: Length,
+    pub credits: Length,
     pub bytes: Length,
     pub answer: Length,
     pub seed: u64,
@@ -30,6 +33,7 @@ impl ListCase {
             list,
             work: Length::any(random),
             listing: Length::any(random),
+            credits: Length::any(random),
             bytes: Length::any(random),
             answer: if random.once_in(20) { Length::any(random) } else { Length::About(0) },
             seed: random.number(),
@@ -38,8 +42,8 @@ impl ListCase {
 
     /// A case with this list and enough room in every buffer.
     pub fn roomy(random: &mut Random, list: List) -> ListCase {
-        let more = Length::About(5);
-        ListCase { list, work: more, listing: more, bytes: more, answer: Length::About(2), seed: random.number() }
+        let (work, answer, seed) = (Length::About(5), Length::About(2), random.number());
+        ListCase { list, work, listing: work, credits: work, bytes: work, answer, seed }
     }
 
     /// The work entries and listing bytes that the list needs; 0 where it is refused before they count.
@@ -83,17 +87,24 @@ impl ListCase {
         our_work.same_as(&work, call, "work")
     }
 
-    fn list(&self, calls: &Calls, work: usize, listing: usize) -> Result<(), String> {
+    /// Holds a call that also fills a slice of its own, of so many places, to what the oracle answers and leaves.
+    fn filling<T: Junk, const N: usize>(
+        &self,
+        (call, library): (&str, raw::Filling<T>),
+        work: usize,
+        (name, places): (&str, usize),
+        oracle: impl FnOnce(&mut [u32], &mut [T]) -> [u64; N],
+    ) -> Result<(), String> {
         let mut random = Random::new(self.seed);
         let mut work = Lent::new(&mut random, work);
-        let mut listing = Lent::new(&mut random, listing);
-        let mut answer = Lent::<u64>::new(&mut random, self.answer.places(6));
-        let (mut our_work, mut our_listing, mut our_answer) = (work.clone(), listing.clone(), answer.clone());
+        let mut filled = Lent::new(&mut random, places);
+        let mut answer = Lent::<u64>::new(&mut random, self.answer.places(N));
+        let (mut our_work, mut our_filled, mut our_answer) = (work.clone(), filled.clone(), answer.clone());
         let List { field, edge, grid, coords } = &self.list;
-        let (w, l, a) = (our_work.slice(), our_listing.slice(), our_answer.slice());
+        let (w, f, a) = (our_work.slice(), our_filled.slice(), our_answer.slice());
         // SAFETY: each pointer comes from a slice with the length beside it, and no two of them overlap.
         let written = unsafe {
-            raw::heqdanu_list(
+            library(
                 *field,
                 *edge,
                 *grid,
@@ -101,17 +112,29 @@ impl ListCase {
                 coords.len(),
                 w.as_mut_ptr(),
                 w.len(),
-                l.as_mut_ptr(),
-                l.len(),
+                f.as_mut_ptr(),
+                f.len(),
                 a.as_mut_ptr(),
                 a.len(),
             )
         };
-        let expected = expect(answer.slice(), || calls.list(work.slice(), listing.slice()));
-        same_answer("list", &[written.into()], &[expected])?;
-        same_answer("list", our_answer.slice(), answer.slice())?;
-        our_work.same_as(&work, "list", "work")?;
-        our_listing.same_as(&listing, "list", "listing")
+        let expected = expect(answer.slice(), || oracle(work.slice(), filled.slice()));
+        same_answer(call, &[written.into()], &[expected])?;
+        same_answer(call, our_answer.slice(), answer.slice())?;
+        our_answer.same_as(&answer, call, "answer")?;
+        our_work.same_as(&work, call, "work")?;
+        our_filled.same_as(&filled, call, name)
+    }
+
+    /// Whether the credits take few enough steps to count, or are not counted, since the list is refused.
+    fn quickly_credited(&self, work: usize, credits: usize) -> bool {
+        let List { field, grid, coords, .. } = &self.list;
+        if self.list.check().is_err() || work < grid::need(&self.list) || credits < coords.len() / 3 {
+            return true;
+        }
+        let (field, grid) = (*field as usize, *grid as usize);
+        let pairs = grid::need(&self.list) - grid.pow(3) - 1;
+        field.pow(3) + pairs * (field / grid).pow(3) <= CREDIT_STEPS
     }
 
     fn write(&self) -> Result<(), String> {
@@ -156,9 +179,15 @@ impl Case for ListCase {
         let calls = Calls::on(&self.list);
         let (work, listing) = self.needs(&calls);
         let (work, listing) = (self.work.places(work), self.listing.places(listing));
+        let credits = self.credits.places(self.list.coords.len() / 3);
         self.indexing(("measure", raw::heqdanu_measure), work, |work| calls.measure(work))?;
         self.indexing(("index", raw::heqdanu_index), work, |work| calls.index(work))?;
-        self.list(&calls, work, listing)?;
+        let list = ("list", raw::heqdanu_list as raw::Filling<u8>);
+        self.filling(list, work, ("listing", listing), |work, listing| calls.list(work, listing))?;
+        if self.quickly_credited(work, credits) {
+            let credit = ("credit", raw::heqdanu_credit as raw::Filling<u32>);
+            self.filling(credit, work, ("credit", credits), |work, credits| calls.credit(work, credits))?;
+        }
         if self.list.field <= RECOUNT_FIELD || self.list.check().is_err() {
             self.indexing(("recount", raw::heqdanu_recount), work, |work| calls.measure(work))?;
         }
@@ -169,11 +198,13 @@ impl Case for ListCase {
         let List { field, edge, grid, coords } = &self.list;
         let beyond = &coords[coords.len() / 3 * 3..];
         format!(
-            "field {field}, edge {edge}, grid {grid}, {} coordinates; work {:?}, listing {:?}, bytes {:?}, answer {:?}\n\
+            "field {field}, edge {edge}, grid {grid}, {} coordinates\n\
+             work {:?}, listing {:?}, credits {:?}, bytes {:?}, answer {:?}\n\
              shot file: {}{}",
             coords.len(),
             self.work,
             self.listing,
+            self.credits,
             self.bytes,
             self.answer,
             hex(&shotfile::shortest(&self.list)),

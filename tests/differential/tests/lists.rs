@@ -1,4 +1,4 @@
-//! Random and damaged lists: measure, recount, index, list and write against the oracle.
+//! Random and damaged lists: measure, recount, index, list, credit and write against the oracle.
 //!
 //! HEQDANU_TESTS=quick leaves out the fields of 1,024.
 

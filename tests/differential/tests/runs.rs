@@ -1,9 +1,10 @@
-//! The cover test on runs of any numbers, repeats and numbers past the list included, and on the runs of the index.
+//! The cover test on runs of any numbers, repeats and numbers past the list included, and on the runs of the index: the
+//! shot that it names, and every place of its answer.
 
 use differential::hold;
 use differential::runs::RunCase;
-use oracle::grid;
-use oracle::inputs::{accepted, cell, coarsen, damaged, Random, Size};
+use oracle::grid::{first_covering, run_about};
+use oracle::inputs::{accepted, cell, coarsen, damaged, Length, Random, Size};
 use oracle::list::List;
 
 #[test]
@@ -34,6 +35,44 @@ fn any_numbers_as_a_list() {
     }
 }
 
+/// Shots that do not cover the cell, and behind them those that do, in any order: the first covering one is not the
+/// run's first, and often not the lowest.
+#[test]
+fn the_first_of_several_covering_shots() {
+    let mut random = Random::new(65);
+    let (mut several, mut not_lowest) = (0, 0);
+    for _ in 0..10_000 {
+        let list = accepted(&mut random, Size { field: 12, shots: 20 });
+        let cell = cell(&mut random, &list);
+        let mut order: Vec<u32> = (0..list.coords.len() as u32 / 3).collect();
+        for place in (1..order.len()).rev() {
+            order.swap(place, random.within(0, place));
+        }
+        let covers = |number: &u32| first_covering(&list, &[*number], cell).is_some();
+        let (covering, mut run): (Vec<u32>, Vec<u32>) = order.into_iter().partition(covers);
+        run.extend(&covering);
+        if covering.len() > 1 {
+            several += 1;
+            not_lowest += usize::from(covering[0] != *covering.iter().min().expect("it has shots"));
+        }
+        hold(RunCase::of(&mut random, &list, run, cell));
+    }
+    assert!(several > 1_000 && not_lowest > 500, "{several} runs of several, {not_lowest} not by the lowest");
+}
+
+/// Too short an answer slice takes nothing; a longer one keeps its places past the second.
+#[test]
+fn answers_of_all_lengths() {
+    let mut random = Random::new(66);
+    for places in 0..=4 {
+        for _ in 0..500 {
+            let list = accepted(&mut random, Size { field: 9, shots: 6 });
+            let case = RunCase::any(&mut random, &list, 6);
+            hold(RunCase { answer: Length::Fixed(places), ..case });
+        }
+    }
+}
+
 /// Runs as long as a list, and longer: the first shot that covers the cell stands anywhere in them, or nowhere.
 #[test]
 fn long_runs() {
@@ -42,11 +81,11 @@ fn long_runs() {
         let list = accepted(&mut random, Size { field: 1024, shots: 4096 });
         let mut case = RunCase::any(&mut random, &list, 10_000);
         hold(case.clone());
-        let cell = case.cell;
-        case.run.retain(|number| !grid::covers(&list, &[*number], cell));
+        let covers = |number: &u32| first_covering(&list, &[*number], case.cell).is_some();
+        case.run.retain(|number| !covers(number));
+        let covering = (0..list.coords.len() as u32 / 3).find(covers);
         hold(case.clone());
-        let all: Vec<u32> = (0..list.coords.len() as u32 / 3).collect();
-        if let Some(covering) = all.into_iter().find(|number| grid::covers(&list, &[*number], cell)) {
+        if let Some(covering) = covering {
             let place = random.within(0, case.run.len());
             case.run.insert(place, covering);
             hold(case);
@@ -54,7 +93,7 @@ fn long_runs() {
     }
 }
 
-/// The run of the grid cell that holds a unit cell covers it exactly if the list does.
+/// The run of the grid cell that holds a unit cell names the list's lowest covering shot.
 #[test]
 fn runs_of_the_index() {
     let mut random = Random::new(64);
@@ -65,9 +104,10 @@ fn runs_of_the_index() {
         let all: Vec<u32> = (0..list.coords.len() as u32 / 3).collect();
         for _ in 0..10 {
             let cell = cell(&mut random, &list).map(|place| place % list.field);
-            let run = grid::run_about(&list, cell);
-            assert_eq!(heqdanu::covers(&lent, &run, cell), grid::covers(&list, &all, cell), "{list:?} {cell:?}");
-            hold(RunCase { list: list.clone(), run, cell });
+            let run = run_about(&list, cell);
+            let lowest = first_covering(&list, &all, cell);
+            assert_eq!(heqdanu::first_covering(&lent, &run, cell), lowest, "{list:?} {cell:?}");
+            hold(RunCase::of(&mut random, &list, run, cell));
         }
     }
 }
