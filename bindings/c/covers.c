@@ -1,4 +1,4 @@
-/* Asks the cover test about one unit cell of a shot file: the run of the grid cell that holds it, and the verdict.
+/* Asks the cover test about one unit cell of a shot file: the run of the grid cell that holds it, and the shot named.
  *
  *     cc -g covers.c -I../../include ../../target/staticlib/libcapi.a -o covers
  *     ./covers 2 1 2 < ../../examples/overlap.shots
@@ -72,8 +72,12 @@ int main(int argc, char **argv)
     printf("\n");
     fflush(stdout);
 
-    uint8_t covered = heqdanu_covers(edge, coords, ncoords, run, nrun, cell[0], cell[1], cell[2]);
-    printf("cell (%u, %u, %u): %s\n", cell[0], cell[1], cell[2], covered ? "covered" : "not covered");
+    heqdanu_covers(edge, coords, ncoords, run, nrun, cell[0], cell[1], cell[2], answer, HEQDANU_ANSWER);
+    printf("cell (%u, %u, %u): ", cell[0], cell[1], cell[2]);
+    if (answer[HEQDANU_COVERED])
+        printf("covered by shot %" PRIu64 "\n", answer[HEQDANU_SHOT]);
+    else
+        printf("not covered\n");
     free(work);
     return 0;
 }

@@ -1,5 +1,5 @@
-/* Two overlapping cubes, measured, listed, written as a shot file and read back; then a VOX file of two voxels, read
- * and measured.
+/* Two overlapping cubes, measured, listed, their cells credited, written as a shot file and read back; then a VOX file
+ * of two voxels, read and measured.
  *
  *     cc example.c -I../../include ../../target/staticlib/libcapi.a -o example
  */
@@ -55,6 +55,13 @@ int main(void)
            answer);
     printf("first corner (%d, %d, %d), pattern %d\n", listing[0] + 256 * listing[1], listing[2] + 256 * listing[3],
            listing[4] + 256 * listing[5], listing[6]);
+
+    /* The cell that both cubes cover is credited to the first. */
+    uint32_t credits[2];
+    expect("credit",
+           heqdanu_credit(field, edge, grid, coords, 6, work, nwork, credits, 2, answer, HEQDANU_CREDIT_ANSWER),
+           answer);
+    printf("credits %" PRIu32 " %" PRIu32 "\n", credits[0], credits[1]);
 
     uint8_t file[32];
     expect("write", heqdanu_write(field, edge, grid, coords, 6, file, sizeof file, answer, HEQDANU_WRITE_ANSWER),
