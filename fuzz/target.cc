@@ -2,8 +2,8 @@
 //
 // The input's first six bytes choose the buffers' lengths and how the list is made; the rest is a file. It is read as a
 // VOX file, with MAIN's size put right or a voxel repeated past 4,096 times where that is chosen, and as a shot file;
-// the list that it holds, as it is or squeezed into a small field, goes through measure, recount, index, list and
-// write, and the file's bytes are the runs of the cover test. Answers and every place of every buffer must be the
+// the list that it holds, as it is or squeezed into a small field, goes through measure, recount, index, list, credit
+// and write, and the file's bytes are the runs of the cover test. Answers and every place of every buffer must be the
 // oracle's. Lists whose cells are too many to count here are held to what the calls say of each other: a listing's sums
 // give the totals, and what is written reads back.
 //
@@ -24,7 +24,10 @@ namespace {
 const size_t MOST_ENTRIES = size_t(1) << 20;
 const size_t MOST_LISTING = size_t(1) << 22;
 const size_t MOST_CELLS = 20000;
+const size_t MOST_SHOTS = 4096;
 const int RECOUNT_FIELD = 24;
+// The most steps for which credits are counted, where every cell asks every shot.
+const uint64_t CREDIT_STEPS = 3000000;
 
 const uint8_t *input;
 size_t input_length;
@@ -86,6 +89,7 @@ struct Buffers {
     Lent<uint16_t> coords{40000};
     Lent<uint32_t> work{MOST_ENTRIES};
     Lent<uint8_t> listing{MOST_LISTING};
+    Lent<uint32_t> credits{MOST_SHOTS + 64};
     Lent<uint8_t> bytes{40000};
     Lent<uint32_t> run{64};
     Lent<uint64_t> answer{32};
@@ -273,6 +277,28 @@ void list_corners(const oracle::List &list, Expected &expected, const uint8_t *c
     lent.listing.check("list", "the listing differs");
 }
 
+void credit(const oracle::List &list, const Expected &expected, const uint8_t *choice) {
+    Buffers &lent = buffers();
+    lent.work.lend(about(expected.need, choice[1]), choice[5]);
+    lent.credits.lend(about(list.shots(), choice[2]), choice[5]);
+    lent.answer.lend(answer_places(choice[4]), choice[5]);
+    oracle::Refusal refusal = with_work(expected, lent.work.length);
+    bool indexed = refusal.number == 0;
+    if (indexed && lent.credits.length < list.shots()) refusal = {HEQDANU_SHORT_CREDITS, list.shots()};
+    uint64_t field = list.field;
+    if (refusal.number == 0 && field * field * field * (list.shots() + 1) > CREDIT_STEPS) return;
+    uint8_t written = heqdanu_credit(list.field, list.edge, list.grid, list.coords, list.ncoords, lent.work.places,
+                                     lent.work.length, lent.credits.places, lent.credits.length, lent.answer.places,
+                                     lent.answer.length);
+    bool room = expect_answer(HEQDANU_CREDIT_ANSWER, refusal, {});
+    if (room && indexed) lent.work.store(oracle::index(list));
+    if (room && refusal.number == 0) lent.credits.store(oracle::credits(list));
+    expect(written == room, "credit", "says wrongly whether it answered");
+    lent.answer.check("credit", "the answer differs");
+    lent.work.check("credit", "the index differs");
+    lent.credits.check("credit", "the credits differ");
+}
+
 void write(const oracle::List &list, const uint8_t *choice) {
     Buffers &lent = buffers();
     oracle::Refusal refusal = oracle::check(list);
@@ -290,7 +316,7 @@ void write(const oracle::List &list, const uint8_t *choice) {
 }
 
 // The cover test: runs made of the file's bytes, each a shot or a number past the list, and for each run a cell about
-// one of the shots, or anywhere. The list's coordinates are lent too.
+// one of the shots, or anywhere. The list's coordinates are lent too; the answer has two places, fewer or more.
 void cover(const oracle::List &list, const uint8_t *bytes, size_t nbytes, const uint8_t *choice) {
     Buffers &lent = buffers();
     lent.coords.lend(list.ncoords, 0);
@@ -312,9 +338,15 @@ void cover(const oracle::List &list, const uint8_t *bytes, size_t nbytes, const 
         lent.run.lend(run.size(), 0);
         std::copy(run.begin(), run.end(), lent.run.places);
         lent.run.expected = run;
-        uint8_t verdict = heqdanu_covers(held.edge, lent.coords.places, lent.coords.length, lent.run.places,
-                                         lent.run.length, cell[0], cell[1], cell[2]);
-        expect(verdict == uint8_t(oracle::covers(held, run, cell)), "covers", "the verdict differs");
+        lent.answer.lend(choice[4] < 200 ? HEQDANU_COVERS_ANSWER : choice[4] % 10, choice[5]);
+        uint8_t written = heqdanu_covers(held.edge, lent.coords.places, lent.coords.length, lent.run.places,
+                                         lent.run.length, cell[0], cell[1], cell[2], lent.answer.places,
+                                         lent.answer.length);
+        int64_t shot = oracle::first_covering(held, run, cell);
+        bool room = lent.answer.length >= HEQDANU_COVERS_ANSWER;
+        if (room) lent.answer.store({uint64_t(shot >= 0), uint64_t(std::max<int64_t>(shot, 0))});
+        expect(written == room, "covers", "says wrongly whether it answered");
+        lent.answer.check("covers", "the answer differs");
         lent.run.check("covers", "the run changed");
         lent.coords.check("covers", "the coordinates changed");
     }
@@ -354,6 +386,7 @@ extern "C" int LLVMFuzzerTestOneInput(const uint8_t *data, size_t size) {
         measure("recount", heqdanu_recount, list, expected, data);
     index_alone(list, expected, data);
     list_corners(list, expected, data);
+    credit(list, expected, data);
     write(list, data);
     return 0;
 }
