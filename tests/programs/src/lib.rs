@@ -1,5 +1,5 @@
-//! The programs `quote`, `quote_vox`, `recount`, `shots`, `write_shots` and `listing` as their users run them: bytes in,
-//! bytes out; and the scripts at the root that prove, build and run them.
+//! The programs `quote`, `quote_vox`, `recount`, `shots`, `write_shots`, `listing` and `credits` as their users run them:
+//! bytes in, bytes out; and the scripts at the root that prove, build and run them.
 
 pub mod listing;
 pub mod run;

@@ -9,9 +9,9 @@ use std::process::{Command, Stdio};
 use std::sync::atomic::{AtomicUsize, Ordering};
 
 /// The scripts that run a program of the same name.
-pub const PROGRAMS: [&str; 6] = ["quote", "quote_vox", "recount", "shots", "write_shots", "listing"];
+pub const PROGRAMS: [&str; 7] = ["quote", "quote_vox", "recount", "shots", "write_shots", "listing", "credits"];
 /// All scripts.
-pub const SCRIPTS: [&str; 7] = ["quote", "quote_vox", "recount", "shots", "write_shots", "listing", "same"];
+pub const SCRIPTS: [&str; 8] = ["quote", "quote_vox", "recount", "shots", "write_shots", "listing", "credits", "same"];
 /// A stand-in for `rt` that must not be called; `Tree::built` says whether it was.
 pub const NEVER: &str = "echo 'rt: called'; exit 1";
 

@@ -171,6 +171,25 @@ fn listings_have_a_status_too() {
 }
 
 #[test]
+fn credits_have_a_status_too() {
+    let tree = Tree::built();
+    tree.file("good", &OVERLAP);
+    tree.file("nothing", &OVERLAP[..7]);
+    tree.file("cut", &OVERLAP[..14]);
+    tree.run("credits", &["good"]).is("0 8\n1 7\n", "", 0);
+    // A list without shots is answered, by no line.
+    tree.run("credits", &["nothing"]).is("", "", 0);
+    tree.run("credits", &["cut"]).is("refused 5 8\n", "", 1);
+    tree.shell("\"$TREE/credits\" - <good", &[]).is("0 8\n1 7\n", "", 0);
+    tree.shell("\"$TREE/credits\" </", &[]).is("", "credits: standard input cannot be read\n", 2);
+    let headed = "==> good <==\n0 8\n1 7\n\n==> nothing <==\n";
+    tree.run("credits", &["good", "nothing"]).is(headed, "", 0);
+    let headed = format!("{headed}\n==> cut <==\nrefused 5 8\n");
+    tree.run("credits", &["good", "nothing", "cut"]).is(&headed, "", 1);
+    tree.run("credits", &["good", "missing", "nothing", "cut"]).is(&headed, "credits: missing: no such file\n", 2);
+}
+
+#[test]
 fn several_files_as_head_has_them() {
     let tree = Tree::built();
     tree.file("one", &OVERLAP);
@@ -260,6 +279,11 @@ fn what_programs_say_passes_through() {
     let tree = Tree::standing_in("echo 'plane 1 of 8' >&2; echo volume 8");
     tree.shell("\"$TREE/recount\"", &[]).is("volume 8\n", "plane 1 of 8\n", 0);
     tree.shell("\"$TREE/quote\"", &[]).is("volume 8\n", "plane 1 of 8\n", 2);
+    // A quote that prints nothing is trouble, even where nothing is said of it.
+    let tree = Tree::standing_in("true");
+    tree.shell("\"$TREE/quote\"", &[]).is("", "", 2);
+    tree.shell("\"$TREE/credits\"", &[]).is("", "", 0);
+    Tree::standing_in("echo trouble >&2").shell("\"$TREE/credits\"", &[]).is("", "trouble\n", 2);
     Tree::standing_in("echo volume 8; exit 3").shell("\"$TREE/quote\"", &[]).is("volume 8\n", "", 2);
     let tree = Tree::standing_in("echo half; kill -9 $$");
     let ended = tree.shell("\"$TREE/quote\"", &[]);

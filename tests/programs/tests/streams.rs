@@ -2,13 +2,14 @@
 
 use programs::run::with;
 
-const INPUTS: [(&str, &[u8]); 6] = [
+const INPUTS: [(&str, &[u8]); 7] = [
     ("quote", &[7, 8, 0, 2, 0, 2, 0, 0]),
     ("quote_vox", include_bytes!("../../../examples/arch.vox")),
     ("recount", &[7, 8, 0, 2, 0, 2, 0, 0]),
     ("shots", &[7, 8, 0, 2, 0, 2, 0, 0]),
     ("write_shots", b"shot 1 2 3\n"),
     ("listing", &[7, 8, 0, 2, 0, 2, 0, 0]),
+    ("credits", &[7, 8, 0, 2, 0, 2, 0, 0]),
 ];
 
 /// That every program prints nothing and says what it cannot do.
