@@ -84,6 +84,7 @@ impl ListCase {
         let expected = expect(answer.slice(), || oracle(work.slice()));
         same_answer(call, &[written.into()], &[expected])?;
         same_answer(call, our_answer.slice(), answer.slice())?;
+        our_answer.same_as(&answer, call, "answer")?;
         our_work.same_as(&work, call, "work")
     }
 
@@ -161,6 +162,7 @@ impl ListCase {
         let expected = expect(answer.slice(), || calls::write(&self.list, bytes.slice()));
         same_answer("write", &[written.into()], &[expected])?;
         same_answer("write", our_answer.slice(), answer.slice())?;
+        our_answer.same_as(&answer, "write", "answer")?;
         our_bytes.same_as(&bytes, "write", "byte")
     }
 }

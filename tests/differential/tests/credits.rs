@@ -102,8 +102,9 @@ fn shots_of_credit_0_can_be_left_out() {
         coarsen(&mut list, 5_000);
         let whole = credits(&lent(&list)).expect("the list is accepted");
         let Some(one) = (0..whole.len()).find(|shot| whole[*shot] == 0) else { continue };
-        for kept in [|shot: usize, one: usize, _: u32| shot != one, |_, _, credit| credit > 0] {
-            let kept: Vec<usize> = (0..whole.len()).filter(|shot| kept(*shot, one, whole[*shot])).collect();
+        let without_one: Vec<usize> = (0..whole.len()).filter(|shot| *shot != one).collect();
+        let without_any: Vec<usize> = (0..whole.len()).filter(|shot| whole[*shot] > 0).collect();
+        for kept in [without_one, without_any] {
             let coords = kept.iter().flat_map(|shot| list.coords[3 * shot..][..3].to_vec()).collect();
             let fewer = List { coords, ..list.clone() };
             assert_eq!(quote(&lent(&fewer)), quote(&lent(&list)), "{list:?}");
