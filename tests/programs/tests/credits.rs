@@ -100,10 +100,8 @@ fn files_cut_at_every_byte_and_in_pieces() {
 fn longest(random: &mut Random) -> Vec<u8> {
     let mut file = vec![7, 64, 0, 2, 0, 4, 0];
     for _ in 0..4096 {
-        file.push(7);
-        for _ in 0..3 {
-            file.extend((random.within(0, 62) as u16).to_le_bytes());
-        }
+        let [x, y, z] = [0; 3].map(|_| random.within(0, 62) as u8);
+        file.extend([7, x, 0, y, 0, z, 0]);
     }
     file
 }
