@@ -101,6 +101,18 @@ inline void count_plane(const uint8_t *below, const uint8_t *above, int field, T
     totals.corners += corners;
 }
 
+// The figures of credits: their sum, their sum weighted by place modulo 2^64, the shots with none, and the shots.
+inline Totals credit_figures(const std::vector<uint32_t> &credits) {
+    Totals figures;
+    for (size_t shot = 0; shot < credits.size(); shot++) {
+        figures.volume += credits[shot];
+        figures.area += (shot + 1) * uint64_t(credits[shot]);
+        figures.edge += credits[shot] == 0;
+    }
+    figures.corners = credits.size();
+    return figures;
+}
+
 inline double seconds(clockid_t clock) {
     timespec now;
     clock_gettime(clock, &now);

@@ -1,6 +1,6 @@
 // Ours: one call of heqdanu.h, timed: `ours FILE SECONDS [CALL]`, CALL being measure (unless said), list, index,
-// recount, need, read, read_vox or write. `need` is the measuring call with an empty work slice: the list's checks and
-// the count of the index's entries. FILE is a shot file, and a VOX file for read_vox.
+// recount, credit, need, read, read_vox or write. `need` is the measuring call with an empty work slice: the list's
+// checks and the count of the index's entries. FILE is a shot file, and a VOX file for read_vox.
 #include "../include/heqdanu.h"
 #include "common.hpp"
 
@@ -54,6 +54,14 @@ int main(int count, char **arguments) {
         return report(patience, [&] {
             return answered(indexing(list.field, list.edge, list.grid, coords, ncoords, work.data(), work.size(),
                                      answer, HEQDANU_ANSWER));
+        });
+    }
+    if (call == "credit") {
+        std::vector<uint32_t> credits(list.shots());
+        return report(patience, [&] {
+            answered(heqdanu_credit(list.field, list.edge, list.grid, coords, ncoords, work.data(), work.size(),
+                                    credits.data(), credits.size(), answer, HEQDANU_ANSWER));
+            return credit_figures(credits);
         });
     }
     if (call == "list") {
