@@ -5,20 +5,25 @@
 
 #include <algorithm>
 
-// Paints the cells from z to below end in a row and counts those that are new. A row with nothing new is only read,
-// which spares the memory half of its work.
+static uint32_t bits(uint64_t word) { return uint32_t(__builtin_popcountll(word)); }
+
+// Paints the cells from z to below end in a row and counts those that are new. A row of several words with nothing new
+// is only read, which spares the memory half of its work.
 static uint32_t paint_row(uint64_t *row, size_t z, size_t end) {
     size_t first = z / 64, last = (end - 1) / 64;
     uint64_t from = ~uint64_t(0) << z % 64, to = ~uint64_t(0) >> (63 - (end - 1) % 64);
-    if (first == last) from = to = from & to;
-    uint64_t fresh = uint64_t(__builtin_popcountll(from & ~row[first]));
-    for (size_t word = first + 1; word < last; word++) fresh += uint64_t(__builtin_popcountll(~row[word]));
-    if (first < last) fresh += uint64_t(__builtin_popcountll(to & ~row[last]));
+    if (first == last) {
+        uint64_t fresh = from & to & ~row[first];
+        row[first] |= fresh;
+        return bits(fresh);
+    }
+    uint32_t fresh = bits(from & ~row[first]) + bits(to & ~row[last]);
+    for (size_t word = first + 1; word < last; word++) fresh += bits(~row[word]);
     if (fresh == 0) return 0;
     row[first] |= from;
-    for (size_t word = first + 1; word < last; word++) row[word] = ~uint64_t(0);
+    std::fill(row + first + 1, row + last, ~uint64_t(0));
     row[last] |= to;
-    return uint32_t(fresh);
+    return fresh;
 }
 
 static Totals by_shots(const List &list) {
