@@ -5,7 +5,7 @@ use mathlib.Core.List.{List, [], _∷_, _++_}
 use mathlib.Core.Logic.{_⊎_}
 use Prim.Native.Nat.{ℕ, _+_, _*_, _/_, _%_, _≤_, _<_}
 use lib.Dec.{ltb}
-use lib.ListN.{length, drop}
+use lib.ListN.{length, getD, drop}
 use Rattle.lattice.specs.Sums.{join}
 use Rattle.lattice.specs.Cells.{Cells, volume}
 use Rattle.job.specs.Job.{shotCount, shotAt}
@@ -16,6 +16,7 @@ use Rattle.job.specs.declared.Refusal.the-variants.{ShortCredits}
 use Rattle.job.specs.declared.Checked.{Checked}
 use Rattle.grid_cover.specs.Cover.{lowestCovering}
 use Rattle.measure_intake.specs.Intake.{measureTests, sliceAfter, workAfter, MeasureAccepts, MeasureRefuses}
+use Rattle.measure.specs.Agreement.{Among}
 use Rattle.crediting_carving.specs.Blocks.{names, countIn}
 use Rattle.crediting_carving.specs.declared.blocks.Span.{Span}
 use Rattle.crediting_carving.specs.declared.blocks.Block.{Block}
@@ -67,6 +68,13 @@ abbrev pub CreditRefuses : ℕ → ℕ → ℕ → List ℕ → ℕ → ℕ → 
 CreditRefuses F E G coords entries places r =
     MeasureRefuses F E G coords entries r
     ⊎ (MeasureAccepts F E G coords entries × (places < shotCount coords) × (ShortCredits (shotCount coords) ≡ r))
+
+-- ---- leaving shots out
+-- with these credits of the first list: every shot of the second is one of the first, and every shot of the first whose credit is not 0 is
+-- one of the second
+pub record KeepsCredited (E : ℕ) (credits c d : List ℕ) : Type 0 where
+  pub from-first : Among E d c
+  pub credited : (s : ℕ) → s < shotCount c → (getD credits s 0 ≡ 0 → ⊥) → (j : ℕ) × (j < shotCount d) × (shotAt E c s ≡ shotAt E d j)
 
 -- ---- grid cell by grid cell
 -- the unit cells of interval g of width s of an axis, and of a grid cell

@@ -1,0 +1,225 @@
+-- What the credits of an accepted list are good for: docs/SCOPE.md, 'Credits'. The statements speak of the call by what it promises, a
+-- `CreditCall`, and of the credit slice at exit. In order: each shot has its credit and the places past the shots are as they were; the
+-- credits sum to the volume; a repeat of an earlier shot has none; another order may move credit but not the sum; and the shots without
+-- credit may all be left out: the others cover the same cells, and so have the same totals and the same listing. Assumes nothing.
+use mathlib.Core.Path.{_≡_, refl, sym, ap, _∙_, subst, fun-ext}
+use mathlib.Core.Bool.{Bool, true, false, true≢false, false≢true}
+use mathlib.Core.Option.{Option, none, some}
+use mathlib.Core.List.{List, _++_}
+use Prim.Native.Nat.{ℕ, zero, suc, _+_, _*_, _≤_, _<_}
+use native.Mathlib.Nat.{add-zero}
+use native.Mathlib.Omega.{arith}
+use lib.Dec.{T, eqb, ltb}
+use lib.ListN.{length, getD, take, drop, List·getD-append}
+use lib.Seq.{drop-at}
+use borrow.Author.Tests.{eqb-true, eq-eqb, ne-eqb, ltb-true, ltb-false}
+use Rattle.lattice.specs.Sums.{total}
+use Rattle.lattice.specs.Cells.{Cells, bit, volume}
+use Rattle.lattice.specs.Shots.{Shot, covers}
+use Rattle.lattice.specs.Listing.{listing}
+use Rattle.lattice_sums.specs.CornerSums.{totalsOf}
+use Rattle.lattice_sums.specs.declared.sums.Totals.{Totals}
+use Rattle.lattice.proofs.Cases.{bool-ext}
+use Rattle.job.specs.Job.{shotCount, shotAt, Valid}
+use Rattle.job.specs.declared.Refusal.the-variants.{ShortCredits}
+use Rattle.job.specs.declared.Checked.the-variants.{Accepted}
+use Rattle.job.proofs.Conditions.{valid-within}
+use Rattle.job.proofs.Shots.{any-at, at-any}
+use Rattle.job.proofs.OneMore.{more-accepted}
+use Rattle.grid.specs.Grid.{indexOf, need, Holds}
+use Rattle.grid.proofs.TotalLaws.{total-agree, total-swap}
+use Rattle.grid.proofs.NumberLaws.{singles-length, singles-at}
+use Rattle.grid_cover.specs.Cover.{isSome, lowestCovering}
+use Rattle.grid_cover.proofs.CoverRuns.{lowest-covers}
+use Rattle.grid_cover.proofs.LowestLaws.{lowest-shot, lowest-covering, lowest-least}
+use Rattle.measure_intake.specs.Intake.{solid, measureTests, measureChecked, sliceAfter, workAfter}
+use Rattle.measure_intake.specs.declared.Measured.the-variants.{Quote}
+use Rattle.measure_intake.proofs.Refused.{checks-accepted}
+use Rattle.measure.specs.Answers.{ListCall}
+use Rattle.measure.specs.Agreement.{SameCells, Among}
+use Rattle.measure.proofs.AcceptedLaws.{list-accepted}
+use Rattle.measure.proofs.Condition3.{bytes-are, same-shots}
+use Rattle.crediting_carving.specs.Blocks.{names}
+use Rattle.crediting.specs.Credits.{creditedTo, creditOf, creditsOf, creditTests, creditChecked, creditsAfter, CreditCall, KeepsCredited}
+
+-- ---- one cell
+
+-- a sum of nothing but 0
+nothing : (n : ℕ) (f : ℕ → ℕ) → ((i : ℕ) → i < n → f i ≡ 0) → total n f ≡ 0
+unfolding total
+nothing zero f h = refl
+nothing (suc n) f h = omega (arith, nothing n f (λ i l. h i (omega arith)), h n (omega arith))
+
+-- of n numbers, one is t
+one-named : (t n : ℕ) → t < n → total n (λ s. bit (eqb t s)) ≡ 1
+unfolding total
+one-named t zero h = absurd (omega arith)
+one-named t (suc n) h = one (ltb t n) refl (one-named t n)
+  where
+    one : (b : Bool) → ltb t n ≡ b → (t < n → total n (λ s. bit (eqb t s)) ≡ 1) → total n (λ s. bit (eqb t s)) + bit (eqb t n) ≡ 1
+    one true e before = rw (before (ltb-true t n e), ne-eqb t n (λ same. omega (arith, same, ltb-true t n e)))
+    one false e before =
+        let last : t ≡ n = omega (arith, ltb-false t n e) in
+        rw (nothing n (λ s. bit (eqb t s)) (λ s l. ap bit (ne-eqb t s (λ same. omega (arith, same, l, last)))), eq-eqb t n last)
+
+-- a covered cell is credited to one shot, an uncovered one to none
+cell-named : (E : ℕ) (coords : List ℕ) (i j k : ℕ) → total (shotCount coords) (λ s. bit (creditedTo E coords s i j k)) ≡ bit (solid E coords i j k)
+cell-named E coords i j k = one (lowestCovering E coords i j k) refl ∙ ap bit (lowest-covers E coords i j k)
+  where
+    one : (o : Option ℕ) → lowestCovering E coords i j k ≡ o → total (shotCount coords) (λ s. bit (names (lowestCovering E coords i j k) s)) ≡ bit (isSome (lowestCovering E coords i j k))
+    one none e = rw e (nothing (shotCount coords) (λ s. 0) (λ s l. refl))
+    one (some t) e = rw e (one-named t (shotCount coords) (lowest-shot E coords i j k t e))
+
+-- ---- one shot
+
+-- a solid without cells in the field
+none-counted : (n : ℕ) (f : ℕ → ℕ) → total n f ≡ 0 → (i : ℕ) → i < n → f i ≡ 0
+unfolding total
+none-counted zero f e i h = absurd (omega arith)
+none-counted (suc n) f e i h = one (ltb i n) refl (none-counted n f)
+  where
+    one : (b : Bool) → ltb i n ≡ b → (total n f ≡ 0 → (i : ℕ) → i < n → f i ≡ 0) → f i ≡ 0
+    one true l before = before (omega arith) i (ltb-true i n l)
+    one false l before =
+        let last : n ≡ i = omega (arith, ltb-false i n l) in
+        rw (← last) (omega arith)
+
+none-in-field : (F : ℕ) (p : Cells) → volume F p ≡ 0 → (i j k : ℕ) → i < F → j < F → k < F → p i j k ≡ false
+unfolding volume
+none-in-field F p e i j k hi hj hk = one (p i j k) (none-counted F (λ k. bit (p i j k)) (none-counted F (λ j. total F (λ k. bit (p i j k))) (none-counted F (λ i. total F (λ j. total F (λ k. bit (p i j k)))) e i hi) j hj) k hk)
+  where
+    one : (b : Bool) → bit b ≡ 0 → b ≡ false
+    one true h = absurd (omega arith)
+    one false h = refl
+
+none-at-all : (F : ℕ) (p : Cells) → ((i j k : ℕ) → p i j k ≡ false) → volume F p ≡ 0
+unfolding volume
+none-at-all F p h = nothing F _ λ i l. nothing F _ λ j m. nothing F _ λ k n. ap bit (h i j k)
+
+-- a repeat of an earlier shot is the lowest covering shot of no cell
+repeat-credited : (F E : ℕ) (coords : List ℕ) (s t : ℕ) → t < s → shotAt E coords t ≡ shotAt E coords s → creditOf F E coords s ≡ 0
+unfolding creditOf
+repeat-credited F E coords s t h same = none-at-all F (creditedTo E coords s) λ i j k. one i j k (lowestCovering E coords i j k) refl
+  where
+    one : (i j k : ℕ) (o : Option ℕ) → lowestCovering E coords i j k ≡ o → names o s ≡ false
+    one i j k none e = refl
+    one i j k (some r) e = ne-eqb r s λ is.
+        let low : lowestCovering E coords i j k ≡ some s = e ∙ ap some is in
+        true≢false (sym (lowest-covering E coords i j k s low) ∙ (ap (λ u. covers u i j k) (sym same) ∙ lowest-least E coords i j k s low t h))
+
+is-true : (b : Bool) → T b → b ≡ true
+is-true true t = refl
+is-true false t = absurd t
+
+truth : (b : Bool) → b ≡ true → T b
+truth true e = tt
+truth false e = absurd (false≢true e)
+
+-- ---- the credits of an accepted list
+
+module _ {F E G : ℕ} {coords work credits work' credits' : List ℕ} (call : CreditCall F E G coords work credits Accepted work' credits') where
+  passed : (measureChecked F E G coords (length work) ≡ Accepted) × (shotCount coords ≤ length credits)
+  unfolding creditTests
+  passed = more-accepted (measureTests F E G coords (length work)) (length credits) (shotCount coords) (ShortCredits (shotCount coords)) .0 (sym (call .answer))
+
+  pub credit-valid : Valid F E G coords
+  credit-valid = checks-accepted F E G coords (length work) .0 (passed .0) .0
+
+  -- the work slice holds the index
+  pub credit-holds : Holds F E G coords work'
+  unfolding workAfter
+  credit-holds = record {
+    rest = drop (need F E G coords) work;
+    is = call .index ∙ ap (λ c. sliceAfter c work (indexOf F E G coords ++ drop (need F E G coords) work)) (passed .0);
+  }
+
+  pub credits-are : credits' ≡ creditsOf F E coords ++ drop (shotCount coords) credits
+  unfolding creditsAfter
+  credits-are = call .credited ∙ ap (λ c. sliceAfter c credits (creditsOf F E coords ++ drop (shotCount coords) credits)) (sym (call .answer))
+
+  -- a place for each shot has its credit, and later places keep their values
+  pub credit-at : (s : ℕ) → s < shotCount coords → getD credits' s 0 ≡ creditOf F E coords s
+  unfolding creditsOf
+  credit-at s h =
+      ap (λ (l : List ℕ). getD l s 0) credits-are
+      ∙ (List·getD-append (creditsOf F E coords) (drop (shotCount coords) credits) 0 s (omega (arith, h, singles-length (creditOf F E coords) (shotCount coords)))
+      ∙ singles-at (creditOf F E coords) (shotCount coords) s h)
+
+  pub credits-kept : drop (shotCount coords) credits' ≡ drop (shotCount coords) credits
+  unfolding creditsOf
+  credits-kept = ap (drop (shotCount coords)) credits-are ∙ drop-at (creditsOf F E coords) (drop (shotCount coords) credits) (shotCount coords) (singles-length (creditOf F E coords) (shotCount coords))
+
+  -- they sum to the volume
+  pub credits-sum : total (shotCount coords) (λ s. getD credits' s 0) ≡ volume F (solid E coords)
+  unfolding creditOf volume
+  credits-sum =
+      total-agree n _ _ credit-at
+      ∙ (total-swap n F (λ s i. total F (λ j. total F (λ k. bit (creditedTo E coords s i j k))))
+      ∙ total-agree F _ _ (λ i hi. total-swap n F (λ s j. total F (λ k. bit (creditedTo E coords s i j k)))
+      ∙ total-agree F _ _ (λ j hj. total-swap n F (λ s k. bit (creditedTo E coords s i j k))
+      ∙ total-agree F _ _ (λ k hk. cell-named E coords i j k))))
+    where
+      n : ℕ
+      n = shotCount coords
+
+  -- a repeat of an earlier shot has none
+  pub repeat-none : (s t : ℕ) → s < shotCount coords → t < s → shotAt E coords t ≡ shotAt E coords s → getD credits' s 0 ≡ 0
+  repeat-none s t h l same = credit-at s h ∙ repeat-credited F E coords s t l same
+
+  -- ---- leaving shots out: a list of shots of this one that has each with credit covers the same cells
+  module _ {others : List ℕ} (keeps : KeepsCredited E credits' coords others) where
+    -- the lowest covering shot of a cell has credit
+    has-credit : (i j k s : ℕ) → T (solid E coords i j k) → lowestCovering E coords i j k ≡ some s → getD credits' s 0 ≡ 0 → ⊥
+    unfolding creditOf
+    has-credit i j k s t e zero-credit =
+        let h : s < shotCount coords = lowest-shot E coords i j k s e in
+        let in-field = valid-within credit-valid i j k t in
+        true≢false
+        (sym (ap (λ o. names o s) e ∙ eq-eqb s s refl)
+        ∙ none-in-field F (creditedTo E coords s) (sym (credit-at s h) ∙ zero-credit) i j k (in-field .0) (in-field .1) (in-field .2))
+
+    kept-covers : (i j k : ℕ) → T (solid E coords i j k) → T (solid E others i j k)
+    kept-covers i j k t = one (lowestCovering E coords i j k) refl
+      where
+        one : (o : Option ℕ) → lowestCovering E coords i j k ≡ o → T (solid E others i j k)
+        one none e = absurd (true≢false (sym (is-true (solid E coords i j k) t) ∙ (sym (lowest-covers E coords i j k) ∙ ap isSome e)))
+        one (some s) e =
+            let m = keeps .credited s (lowest-shot E coords i j k s e) (has-credit i j k s t e) in
+            at-any E (λ t. covers t i j k) others (m .0) (m .1) (subst (λ (t : Shot). T (covers t i j k)) (m .2) (truth (covers (shotAt E coords s) i j k) (lowest-covering E coords i j k s e)))
+
+    covers-kept : (i j k : ℕ) → T (solid E others i j k) → T (solid E coords i j k)
+    covers-kept i j k t =
+        let r = any-at E (λ t. covers t i j k) others t in
+        let m = keeps .from-first (r .0) (r .1) in
+        at-any E (λ t. covers t i j k) coords (m .0) (m .1) (subst (λ (t : Shot). T (covers t i j k)) (m .2) (r .2))
+
+    pub kept-cells : SameCells (solid E coords) (solid E others)
+    kept-cells i j k = bool-ext (solid E coords i j k) (solid E others i j k) (kept-covers i j k) (covers-kept i j k)
+
+    same-solid : solid E coords ≡ solid E others
+    same-solid = fun-ext λ i. fun-ext λ j. fun-ext λ k. kept-cells i j k
+
+    -- so they have the same totals and the same listing, whatever the grids
+    module _ {G₁ : ℕ} {work₁ buffer₁ work₁' buffer₁' : List ℕ} {t₁ : Totals} (one : ListCall F E G₁ coords work₁ buffer₁ (Quote t₁) work₁' buffer₁')
+        {G₂ : ℕ} {work₂ buffer₂ work₂' buffer₂' : List ℕ} {t₂ : Totals} (two : ListCall F E G₂ others work₂ buffer₂ (Quote t₂) work₂' buffer₂') where
+      pub kept-totals : t₁ ≡ t₂
+      kept-totals = list-accepted one .totals-are ∙ ap (λ s. totalsOf F s) same-solid ∙ sym (list-accepted two .totals-are)
+
+      pub kept-listing : take (7 * t₁ .corners) buffer₁' ≡ take (7 * t₂ .corners) buffer₂'
+      kept-listing = bytes-are one ∙ ap (λ s. listing F s) same-solid ∙ sym (bytes-are two)
+
+-- ---- two lists in one field
+
+module _ {F E G : ℕ} {coords work credits work' credits' : List ℕ} (one : CreditCall F E G coords work credits Accepted work' credits')
+    {G₂ : ℕ} {coords₂ work₂ credits₂ work₂' credits₂' : List ℕ} (two : CreditCall F E G₂ coords₂ work₂ credits₂ Accepted work₂' credits₂') where
+  -- another order, or other repeats: each has every shot of the other
+  pub reordered-sum : Among E coords coords₂ → Among E coords₂ coords → total (shotCount coords) (λ s. getD credits' s 0) ≡ total (shotCount coords₂) (λ s. getD credits₂' s 0)
+  reordered-sum h h₂ =
+      let same = same-shots E coords coords₂ h h₂ in
+      credits-sum one ∙ ap (volume F) (fun-ext λ i. fun-ext λ j. fun-ext λ k. same i j k) ∙ sym (credits-sum two)
+
+-- the grid does not matter
+module _ {F E : ℕ} {coords : List ℕ} {G : ℕ} {work credits work' credits' : List ℕ} (one : CreditCall F E G coords work credits Accepted work' credits')
+    {G₂ : ℕ} {work₂ credits₂ work₂' credits₂' : List ℕ} (two : CreditCall F E G₂ coords work₂ credits₂ Accepted work₂' credits₂') where
+  pub credits-any-grid : (s : ℕ) → s < shotCount coords → getD credits' s 0 ≡ getD credits₂' s 0
+  credits-any-grid s h = credit-at one s h ∙ sym (credit-at two s h)
