@@ -13,7 +13,7 @@ use measure_intake::Measured;
 use shotfile::ReadAnswer;
 
 // Puts the line of a refusal to the front.
-fn refuse(out: &mut [u8], refusal: Refusal) -> usize
+pub fn refuse(out: &mut [u8], refusal: Refusal) -> usize
     requires { ⌜ 128 ≤ length (now out) ⌝ }
     ensures { λ r. ⌜ Wrote (now (out .entry)) (now (out .exit)) 0 r (refusalText refusal) ⌝ }
 {

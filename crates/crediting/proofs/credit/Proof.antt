@@ -28,7 +28,7 @@ same-length-2 : tie.Need-same-length-2
 same-length-2 c = search needs
 
 returns-2 : tie.Need-returns-2
-returns-2 c = short-credit (c .before .before .before .before .before .before .indexed .ensures) (c .before .before .before .before .before .before .before .before .before .before .before .args .credits .now) (c .before .before .enum-told .given .1) (c .before .count .ensures) (c .if1 .taken)
+returns-2 c = short-credit (c .before .before .before .before .before .before .indexed .ensures) (c .before .before .before .before .before .before .before .before .before .before .before .args .credits .now) (c .before .before .enum-told .given .1) (c .before .count .ensures) (omega (arith, c .if1 .taken))
 
 store-requires : tie.Need-store-requires
 store-requires c κs = (accepted-list (c .before .before .before .before .before .before .before .before .indexed .ensures) (c .before .before .before .before .enum-told .given .1), (accepted-holds (c .before .before .before .before .before .before .before .before .indexed .ensures) (c .before .before .before .before .enum-told .given .1), omega (arith, c .before .before .before .count .ensures, c .before .before .if1 .left)))
