@@ -6,7 +6,7 @@ ghost use lib.ListN.{length};
 use check_print::print_byte;
 use check_print::print_number;
 
-// No index holds this number, and no listing of these jobs this byte.
+// No index and no credit is this number, and no listing of these jobs holds this byte.
 const JUNK_ENTRY: u32 = 4294967295;
 
 const JUNK_BYTE: u8 = 255;
@@ -109,15 +109,26 @@ fn print_changes(changed: usize, kept: usize) {
     print_number(kept as u64);
 }
 
+// Prints what became of a slice of entries, and what stands in front where it is short.
+fn print_front(slice: &[u32]) {
+    let changed = changed_entries(slice);
+    print_changes(changed, kept_entries(slice));
+    if 0 < changed && changed <= 40 {
+        io::write_all(1, b":");
+        print_entries(slice);
+    }
+}
+
 // Prints what became of a work slice, and the index in it where it is short.
 pub(crate) fn print_work(work: &[u32]) {
     io::write_all(1, b"; index");
-    let changed = changed_entries(work);
-    print_changes(changed, kept_entries(work));
-    if 0 < changed && changed <= 40 {
-        io::write_all(1, b":");
-        print_entries(work);
-    }
+    print_front(work);
+}
+
+// Prints what became of a credit slice, and the credits in it where they are few.
+pub(crate) fn print_credits(credits: &[u32]) {
+    io::write_all(1, b"; credits");
+    print_front(credits);
 }
 
 // Prints what became of a listing buffer, and the listing in it.

@@ -1,13 +1,15 @@
-// Runs the jobs with known totals of docs/SCOPE.md, the limits named under its table, each refusal of the measuring and the listing call,
-// and files that leave out the grid size. Every entry and byte that is lent is junk before the call. A line names the job and the call,
-// gives the answer, and then, of each lent slice, how many places in front changed and how many in all kept their junk: together they are
-// all places where only the front was written. The index in front is printed too, where it is short, and the listing.
+// Runs the jobs with known totals of docs/SCOPE.md, the limits named under its table, each refusal of the measuring, the listing and the
+// crediting call, and files that leave out the grid size. Every entry, byte and credit place that is lent is junk before the call. A line
+// names the job and the call, gives the answer, and then, of each lent slice, how many places in front changed and how many in all kept
+// their junk: together they are all places where only the front was written. The index in front is printed too, where it is short, and so
+// are the credits; the listing always.
 mod junk;
 
 ghost use mathlib.Core.Path.{_≡_};
 ghost use lib.ListN.{length};
 use check_print::print_number;
 use check_print::print_refusal;
+use job::Checked;
 use measure_intake::Measured;
 use shotfile::ReadAnswer;
 
@@ -18,6 +20,7 @@ struct Lent {
     grid: u16,
     entries: usize,
     room: usize,
+    places: usize,
 }
 
 fn print_answer(answer: Measured) {
@@ -29,6 +32,17 @@ fn print_answer(answer: Measured) {
             print_number(totals.corners as u64);
         }
         Measured::Refused(refusal) => {
+            print_refusal(refusal);
+        }
+    }
+}
+
+fn print_checked(answer: Checked) {
+    match answer {
+        Checked::Accepted => {
+            io::write_all(1, b" accepted");
+        }
+        Checked::Refused(refusal) => {
             print_refusal(refusal);
         }
     }
@@ -48,6 +62,15 @@ fn list_in(lent: Lent, coords: &[u16], work: &mut [u32], listing: &mut [u8]) {
     print_answer(answer);
     junk::print_work(work);
     junk::print_listing(listing);
+    io::write_all(1, b"\n");
+}
+
+fn credit_in(lent: Lent, coords: &[u16], work: &mut [u32], credits: &mut [u32]) {
+    io::write_all(1, b": credit");
+    let answer = crediting::credit(lent.field, lent.edge, lent.grid, coords, work, credits);
+    print_checked(answer);
+    junk::print_work(work);
+    junk::print_credits(credits);
     io::write_all(1, b"\n");
 }
 
@@ -78,12 +101,38 @@ fn show_list(lent: Lent, coords: &[u16]) {
     }
 }
 
-// A job by both calls.
+// Credits, with the entries lent, into a credit slice.
+fn credit_into(lent: Lent, coords: &[u16], credits: &mut [u32]) {
+    let mut work = junk::junk_entries();
+    let entries = lent.entries;
+    if entries <= 4100 {
+        credit_in(lent, coords, &mut work[..entries], credits);
+    }
+}
+
+// Credits, with the entries and the credit places lent.
+fn show_credit(lent: Lent, coords: &[u16]) {
+    let mut credits = junk::junk_entries();
+    let places = lent.places;
+    if places <= 4100 {
+        credit_into(lent, coords, &mut credits[..places]);
+    }
+}
+
+// A job by all three calls.
 fn show(name: &[u8], lent: Lent, coords: &[u16]) {
     io::write_all(1, name);
     show_measure(lent, coords);
     io::write_all(1, name);
     show_list(lent, coords);
+    io::write_all(1, name);
+    show_credit(lent, coords);
+}
+
+// A job by the crediting call alone.
+fn show_credits(name: &[u8], lent: Lent, coords: &[u16]) {
+    io::write_all(1, name);
+    show_credit(lent, coords);
 }
 
 // The settings of most jobs, with slices that are longer than these jobs need.
@@ -94,6 +143,7 @@ fn usual() -> Lent {
         grid: 2,
         entries: 40,
         room: 150,
+        places: 30,
     }
 }
 
@@ -105,10 +155,11 @@ fn of(field: u16, edge: u16, grid: u16) -> Lent {
         grid: grid,
         entries: 40,
         room: 150,
+        places: 30,
     }
 }
 
-// The usual settings, with slices of these lengths.
+// The usual settings, with a work slice and a listing buffer of these lengths.
 fn with(entries: usize, room: usize) -> Lent {
     Lent {
         field: 8,
@@ -116,6 +167,31 @@ fn with(entries: usize, room: usize) -> Lent {
         grid: 2,
         entries: entries,
         room: room,
+        places: 30,
+    }
+}
+
+// The usual settings, with a work slice and a credit slice of these lengths.
+fn placed(entries: usize, places: usize) -> Lent {
+    Lent {
+        field: 8,
+        edge: 2,
+        grid: 2,
+        entries: entries,
+        room: 0,
+        places: places,
+    }
+}
+
+// One grid cell, with entries for as many shots as are allowed, and so many credit places.
+fn in_one_cell(field: u16, places: usize) -> Lent {
+    Lent {
+        field: field,
+        edge: 2,
+        grid: 1,
+        entries: 4100,
+        room: 60,
+        places: places,
     }
 }
 
@@ -224,6 +300,7 @@ fn whole_field() {
         grid: 8,
         entries: 1030,
         room: 60,
+        places: 1,
     };
     show(b"whole field, 512 grid cells", longer, &[0, 0, 0]);
 }
@@ -286,6 +363,36 @@ fn listing_needs() {
     show(b"no bytes needed", with(12, 0), &[]);
 }
 
+// Three shots in a row, each over half of the next, in two orders: the sum stays, and the middle one gets nothing where it is the last.
+fn credit_orders() {
+    show_credits(
+        b"left to right",
+        placed(40, 3),
+        &[0, 0, 0, 1, 0, 0, 2, 0, 0],
+    );
+    show_credits(b"middle last", placed(40, 3), &[0, 0, 0, 2, 0, 0, 1, 0, 0]);
+}
+
+// Credit slices that have a place for each shot, one fewer, none, and more; and one too short beside a work slice too short.
+fn credit_needs() {
+    show_credits(b"2 places", placed(12, 2), &[0, 0, 0, 1, 1, 1]);
+    show_credits(b"1 place", placed(12, 1), &[0, 0, 0, 1, 1, 1]);
+    show_credits(b"no places", placed(12, 0), &[0, 0, 0, 1, 1, 1]);
+    show_credits(b"3 places", placed(12, 3), &[0, 0, 0, 1, 1, 1]);
+    show_credits(b"1 shot, 1 place", placed(12, 1), &[1, 1, 1]);
+    show_credits(b"1 shot, no places", placed(12, 0), &[1, 1, 1]);
+    show_credits(b"no places needed", placed(12, 0), &[]);
+    show_credits(b"no shots, 1 place", placed(12, 1), &[]);
+    show_credits(b"10 before 16", placed(10, 1), &[0, 0, 0, 1, 1, 1]);
+}
+
+// As many shots as are allowed, with a place for each, and one fewer.
+fn many_credits() {
+    let coords = [1u16; 12288];
+    show_credits(b"4096 shots, 4096 places", in_one_cell(8, 4096), &coords);
+    show_credits(b"4096 shots, 4095 places", in_one_cell(8, 4095), &coords);
+}
+
 // Of two refusals, the one with the lower number is given.
 fn order() {
     show(b"1 before 6", of(0, 2, 2), &[0, 0, 0, 0]);
@@ -315,14 +422,7 @@ fn show_first(name: &[u8], field: u16, coords: &[u16], count: usize) {
     if coords.len() < count {
         return;
     }
-    let lent = Lent {
-        field: field,
-        edge: 2,
-        grid: 1,
-        entries: 4100,
-        room: 60,
-    };
-    show(name, lent, &coords[..count]);
+    show(name, in_one_cell(field, 4100), &coords[..count]);
 }
 
 // As many shots as are allowed, and more.
@@ -351,6 +451,7 @@ fn show_file(name: &[u8], file: &[u8], entries: usize) {
                 grid: grid,
                 entries: entries,
                 room: 60,
+                places: 1,
             };
             show(name, lent, &coords);
         }
@@ -386,4 +487,7 @@ fn main() {
     many_shots();
     order();
     left_out_grids();
+    credit_orders();
+    credit_needs();
+    many_credits();
 }
