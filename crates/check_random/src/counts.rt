@@ -38,17 +38,33 @@ pub(crate) const UNCHANGED: usize = 15;
 
 pub(crate) const DISAGREEMENTS: usize = 16;
 
+pub(crate) const CREDITED: usize = 17;
+
+pub(crate) const CREDIT_SUMS: usize = 18;
+
+pub(crate) const CREDIT_GRIDS: usize = 19;
+
+pub(crate) const CREDIT_ORDERS: usize = 20;
+
+pub(crate) const MOVED: usize = 21;
+
+pub(crate) const ZERO_LISTS: usize = 22;
+
+pub(crate) const ZEROS: usize = 23;
+
+pub(crate) const HIDDEN: usize = 24;
+
 pub(crate) struct Counts {
-    of: [usize; 17],
+    of: [usize; 25],
 }
 
 pub(crate) fn none() -> Counts {
-    Counts { of: [0; 17] }
+    Counts { of: [0; 25] }
 }
 
 // Adds to a count.
 pub(crate) fn add(counts: Counts, which: usize, more: usize) -> Counts {
-    if 17 <= which {
+    if 25 <= which {
         return counts;
     }
     let mut next = counts;
@@ -102,7 +118,7 @@ pub(crate) fn judge(
 
 // Prints a count on a line of its own.
 fn print_count(name: &[u8], counts: Counts, which: usize) {
-    if 17 <= which {
+    if 25 <= which {
         return;
     }
     io::write_all(1, name);
@@ -140,7 +156,18 @@ fn print_changes(counts: Counts) {
     print_count(b"same cells, the same listing", counts, UNCHANGED);
     print_count(b"other cells, another listing", counts, CHANGED);
     print_count(b"of them with the same figures", counts, TWINS);
-    print_count(b"disagreements", counts, DISAGREEMENTS);
+}
+
+// Prints what was found of the credits.
+fn print_credits(counts: Counts) {
+    print_count(b"credited as counted", counts, CREDITED);
+    print_count(b"credits summed to the volume", counts, CREDIT_SUMS);
+    print_count(b"credited the same in another grid", counts, CREDIT_GRIDS);
+    print_count(b"the same sum in reverse order", counts, CREDIT_ORDERS);
+    print_count(b"of them with credit moved", counts, MOVED);
+    print_count(b"lists with a shot without credit", counts, ZERO_LISTS);
+    print_count(b"shots without credit", counts, ZEROS);
+    print_count(b"of them no repeats", counts, HIDDEN);
 }
 
 // Prints all counts.
@@ -149,4 +176,6 @@ pub(crate) fn print_all(counts: Counts) {
     print_kinds(counts);
     print_agreements(counts);
     print_changes(counts);
+    print_credits(counts);
+    print_count(b"disagreements", counts, DISAGREEMENTS);
 }

@@ -1,41 +1,23 @@
 // Random lists, measured in every way that there is: by the measuring call, by the listing call, by counting cells, and by the corner
 // sums read back from the listing's bytes alone. The same shots in another order and another grid have the same listing; a list that
 // covers other cells, by a shot added or moved, has another. Whether the cells are the same is decided by counting: two lists cover the
-// same cells if both cover as many as the two together. A list that disagrees is printed at once; the counts at the end tell what was
-// tried.
+// same cells if both cover as many as the two together. The credits are compared with counting too (credits.rt). A list that disagrees is
+// printed at once; the counts at the end tell what was tried.
 mod counts;
+mod credits;
+mod lent;
 mod listings;
 mod lists;
 mod touches;
 
-ghost use mathlib.Core.Path.{_≡_};
-ghost use lib.ListN.{length};
 use crate::counts::Counts;
+use crate::lent::bytes;
+use crate::lent::entries;
+use crate::lent::places;
 use crate::lists::Settings;
 use job::shot::count;
 use job::shot::first;
 use lattice_sums::sums::Totals;
-
-// Places for 61 shots.
-fn places() -> [u16; 183]
-    ensures { λ r. ⌜ 183 ≡ length r ⌝ }
-{
-    [0; 183]
-}
-
-// Entries for an index of 60 shots in 512 grid cells, or of 11 shots in 2,744, that belong to all of them.
-fn entries() -> [u32; 33000]
-    ensures { λ r. ⌜ 33000 ≡ length r ⌝ }
-{
-    [0; 33000]
-}
-
-// Bytes for the listing of 5,000 corners.
-fn bytes() -> [u8; 35000]
-    ensures { λ r. ⌜ 35000 ≡ length r ⌝ }
-{
-    [0; 35000]
-}
 
 // The figures by the measuring call.
 fn measured(settings: Settings, coords: &[u16]) -> Totals {
@@ -307,6 +289,7 @@ fn try_listed(
     let kinds = count_kinds(settings, coords, counts);
     let figures = compare_figures(settings, totals, coords, listing, kinds);
     let grids = compare_grids(settings, totals, coords, listing, figures);
+    let credits = credits::compare(settings, totals, coords, grids);
     let counted = recounted(settings, extended);
     let together = counted.volume;
     let added = compare_changed(
@@ -316,7 +299,7 @@ fn try_listed(
         extended,
         counted,
         together,
-        grids,
+        credits,
     );
     lend_changes(settings, totals, listing, coords, extended, together, added)
 }

@@ -57,7 +57,7 @@ fn relation(edge: u16, coords: &[u16], a: usize, b: usize) -> usize {
 }
 
 // Some shot before this one lies so to it.
-fn has_before(kind: usize, edge: u16, coords: &[u16], shot: usize) -> bool {
+pub(crate) fn has_before(kind: usize, edge: u16, coords: &[u16], shot: usize) -> bool {
     let mut before = 0;
     while before < shot {
         if relation(edge, coords, before, shot) == kind {
