@@ -153,8 +153,12 @@ uint8_t heqdanu_index(uint16_t field, uint16_t edge, uint16_t grid, const uint16
  *
  * answer: number, detail (HEQDANU_CREDIT_ANSWER places).
  *
- * `credits` takes a number for each shot: of how many cells it is the lowest covering shot. They sum to the volume; a
- * shot of credit 0, as the repeat of an earlier one has, can be left out and the list covers the same cells.
+ * `credits` takes a number for each shot: of how many cells it is the lowest covering shot. They sum to the volume. All
+ * shots of credit 0, as the repeat of an earlier one has, can be left out at once, and the list covers the same cells.
+ *
+ * Stack: the call nests up to 3*field/grid - 2 deep, at 192 bytes each. That is less than 577 KiB with grid 1 in a field
+ * of 1,024, and less than 80 KiB where field/grid is at most 128, as with grid 8 in every field. A thread with a small
+ * stack names a larger grid. The other calls take less than 66 KiB.
  *
  * Refusals: 1, 2, 6, 7, 8, 9, 10, 16.
  * After success `work` is as after heqdanu_measure; `credits` holds the credits in its first places, later places keep

@@ -1,12 +1,13 @@
 -- What the credits of an accepted list are good for: docs/SCOPE.md, 'Credits'. The statements speak of the call by what it promises, a
 -- `CreditCall`, and of the credit slice at exit. In order: each shot has its credit and the places past the shots are as they were; the
--- credits sum to the volume; a repeat of an earlier shot has none; another order may move credit but not the sum; and the shots without
--- credit may all be left out: the others cover the same cells, and so have the same totals and the same listing. Assumes nothing.
+-- credits sum to the volume; a shot whose cells earlier shots cover has none, a repeat for one; another order may move credit but not the
+-- sum; and the shots without credit may all be left out: the others are a valid list and cover the same cells, and so have the same totals
+-- and the same listing. Assumes nothing.
 use mathlib.Core.Path.{_≡_, refl, sym, ap, _∙_, subst, fun-ext}
 use mathlib.Core.Bool.{Bool, true, false, true≢false, false≢true}
 use mathlib.Core.Option.{Option, none, some}
 use mathlib.Core.List.{List, _++_}
-use Prim.Native.Nat.{ℕ, zero, suc, _+_, _*_, _≤_, _<_}
+use Prim.Native.Nat.{ℕ, zero, suc, _+_, _*_, _%_, _≤_, _<_}
 use native.Mathlib.Nat.{add-zero}
 use native.Mathlib.Omega.{arith}
 use lib.Dec.{T, eqb, ltb}
@@ -15,7 +16,7 @@ use lib.Seq.{drop-at}
 use borrow.Author.Tests.{eqb-true, eq-eqb, ne-eqb, ltb-true, ltb-false}
 use Rattle.lattice.specs.Sums.{total}
 use Rattle.lattice.specs.Cells.{Cells, bit, volume}
-use Rattle.lattice.specs.Shots.{Shot, covers}
+use Rattle.lattice.specs.Shots.{Shot, covers, InField}
 use Rattle.lattice.specs.Listing.{listing}
 use Rattle.lattice_sums.specs.CornerSums.{totalsOf}
 use Rattle.lattice_sums.specs.declared.sums.Totals.{Totals}
@@ -24,7 +25,7 @@ use Rattle.job.specs.Job.{shotCount, shotAt, Valid}
 use Rattle.job.specs.declared.Refusal.the-variants.{ShortCredits}
 use Rattle.job.specs.declared.Checked.the-variants.{Accepted}
 use Rattle.job.proofs.Conditions.{valid-within}
-use Rattle.job.proofs.Shots.{any-at, at-any}
+use Rattle.job.proofs.Shots.{any-at, at-any, stay-at, stay-all}
 use Rattle.job.proofs.OneMore.{more-accepted}
 use Rattle.grid.specs.Grid.{indexOf, need, Holds}
 use Rattle.grid.proofs.TotalLaws.{total-agree, total-swap}
@@ -40,7 +41,7 @@ use Rattle.measure.specs.Agreement.{SameCells, Among}
 use Rattle.measure.proofs.AcceptedLaws.{list-accepted}
 use Rattle.measure.proofs.Condition3.{bytes-are, same-shots}
 use Rattle.crediting_carving.specs.Blocks.{names}
-use Rattle.crediting.specs.Credits.{creditedTo, creditOf, creditsOf, creditTests, creditChecked, creditsAfter, CreditCall, KeepsCredited}
+use Rattle.crediting.specs.Credits.{creditedTo, creditOf, creditsOf, creditTests, creditChecked, creditsAfter, CreditCall, Hidden, KeepsCredited}
 
 -- ---- one cell
 
@@ -96,16 +97,17 @@ none-at-all : (F : ℕ) (p : Cells) → ((i j k : ℕ) → p i j k ≡ false) �
 unfolding volume
 none-at-all F p h = nothing F _ λ i l. nothing F _ λ j m. nothing F _ λ k n. ap bit (h i j k)
 
--- a repeat of an earlier shot is the lowest covering shot of no cell
-repeat-credited : (F E : ℕ) (coords : List ℕ) (s t : ℕ) → t < s → shotAt E coords t ≡ shotAt E coords s → creditOf F E coords s ≡ 0
+-- a shot whose cells earlier shots cover is the lowest covering shot of none
+hidden-credited : (F E : ℕ) (coords : List ℕ) (s : ℕ) → Hidden E coords s → creditOf F E coords s ≡ 0
 unfolding creditOf
-repeat-credited F E coords s t h same = none-at-all F (creditedTo E coords s) λ i j k. one i j k (lowestCovering E coords i j k) refl
+hidden-credited F E coords s hidden = none-at-all F (creditedTo E coords s) λ i j k. one i j k (lowestCovering E coords i j k) refl
   where
     one : (i j k : ℕ) (o : Option ℕ) → lowestCovering E coords i j k ≡ o → names o s ≡ false
     one i j k none e = refl
     one i j k (some r) e = ne-eqb r s λ is.
         let low : lowestCovering E coords i j k ≡ some s = e ∙ ap some is in
-        true≢false (sym (lowest-covering E coords i j k s low) ∙ (ap (λ u. covers u i j k) (sym same) ∙ lowest-least E coords i j k s low t h))
+        let h = hidden i j k (lowest-covering E coords i j k s low) in
+        true≢false (sym (h .2) ∙ lowest-least E coords i j k s low (h .0) (h .1))
 
 is-true : (b : Bool) → T b → b ≡ true
 is-true true t = refl
@@ -162,9 +164,12 @@ module _ {F E G : ℕ} {coords work credits work' credits' : List ℕ} (call : C
       n : ℕ
       n = shotCount coords
 
-  -- a repeat of an earlier shot has none
+  -- a shot whose cells earlier shots cover has none, so a repeat of an earlier shot has none
+  pub hidden-none : (s : ℕ) → s < shotCount coords → Hidden E coords s → getD credits' s 0 ≡ 0
+  hidden-none s h hidden = credit-at s h ∙ hidden-credited F E coords s hidden
+
   pub repeat-none : (s t : ℕ) → s < shotCount coords → t < s → shotAt E coords t ≡ shotAt E coords s → getD credits' s 0 ≡ 0
-  repeat-none s t h l same = credit-at s h ∙ repeat-credited F E coords s t l same
+  repeat-none s t h l same = hidden-none s h λ i j k c. (t, l, ap (λ u. covers u i j k) same ∙ c)
 
   -- ---- leaving shots out: a list of shots of this one that has each with credit covers the same cells
   module _ {others : List ℕ} (keeps : KeepsCredited E credits' coords others) where
@@ -195,6 +200,25 @@ module _ {F E G : ℕ} {coords work credits work' credits' : List ℕ} (call : C
 
     pub kept-cells : SameCells (solid E coords) (solid E others)
     kept-cells i j k = bool-ext (solid E coords i j k) (solid E others i j k) (kept-covers i j k) (covers-kept i j k)
+
+    -- and is valid, if its numbers are whole shots and not too many
+    pub kept-valid : length others % 3 ≡ 0 → shotCount others ≤ 4096 → Valid F E G others
+    kept-valid whole few =
+        let v = credit-valid in
+        record {
+          threes = whole;
+          few = few;
+          field-least = v .field-least;
+          field-most = v .field-most;
+          edge-least = v .edge-least;
+          edge-most = v .edge-most;
+          grid-least = v .grid-least;
+          grid-most = v .grid-most;
+          grid-divides = v .grid-divides;
+          inside = stay-all F E others λ i l.
+              let m = keeps .from-first i l in
+              subst (λ (t : Shot). InField F t) (sym (m .2)) (stay-at F E coords (v .inside) (m .0) (m .1));
+        }
 
     same-solid : solid E coords ≡ solid E others
     same-solid = fun-ext λ i. fun-ext λ j. fun-ext λ k. kept-cells i j k

@@ -1,6 +1,7 @@
 -- The credits of a list's shots, and what the crediting call answers and leaves: docs/SCOPE.md, 'Credits' and 'When a job is refused'.
 -- `CreditCall` is the promise of the call.
 use mathlib.Core.Path.{_≡_}
+use mathlib.Core.Bool.{true}
 use mathlib.Core.List.{List, [], _∷_, _++_}
 use mathlib.Core.Logic.{_⊎_}
 use Prim.Native.Nat.{ℕ, _+_, _*_, _/_, _%_, _≤_, _<_}
@@ -8,6 +9,7 @@ use lib.Dec.{ltb}
 use lib.ListN.{length, getD, drop}
 use Rattle.lattice.specs.Sums.{join}
 use Rattle.lattice.specs.Cells.{Cells, volume}
+use Rattle.lattice.specs.Shots.{covers}
 use Rattle.job.specs.Job.{shotCount, shotAt}
 use Rattle.job.specs.Refusals.{checkedNumbers}
 use Rattle.job.specs.Checking.{Test, firstOf, firstNumbers}
@@ -70,6 +72,10 @@ CreditRefuses F E G coords entries places r =
     ⊎ (MeasureAccepts F E G coords entries × (places < shotCount coords) × (ShortCredits (shotCount coords) ≡ r))
 
 -- ---- leaving shots out
+-- each cell that shot s covers is covered by an earlier one
+abbrev pub Hidden : ℕ → List ℕ → ℕ → Type 0
+Hidden E coords s = (i j k : ℕ) → covers (shotAt E coords s) i j k ≡ true → (t : ℕ) × (t < s) × (covers (shotAt E coords t) i j k ≡ true)
+
 -- with these credits of the first list: every shot of the second is one of the first, and every shot of the first whose credit is not 0 is
 -- one of the second
 pub record KeepsCredited (E : ℕ) (credits c d : List ℕ) : Type 0 where
