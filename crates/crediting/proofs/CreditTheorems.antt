@@ -30,7 +30,7 @@ use Rattle.job.proofs.OneMore.{more-accepted}
 use Rattle.grid.specs.Grid.{indexOf, need, Holds}
 use Rattle.grid.proofs.TotalLaws.{total-agree, total-swap}
 use Rattle.grid.proofs.NumberLaws.{singles-length, singles-at}
-use Rattle.grid_cover.specs.Cover.{isSome, lowestCovering}
+use Rattle.grid_cover.specs.Cover.{isSome, names, lowestCovering}
 use Rattle.grid_cover.proofs.CoverRuns.{lowest-covers}
 use Rattle.grid_cover.proofs.LowestLaws.{lowest-shot, lowest-covering, lowest-least}
 use Rattle.measure_intake.specs.Intake.{solid, measureTests, measureChecked, sliceAfter, workAfter}
@@ -40,8 +40,8 @@ use Rattle.measure.specs.Answers.{ListCall}
 use Rattle.measure.specs.Agreement.{SameCells, Among}
 use Rattle.measure.proofs.AcceptedLaws.{list-accepted}
 use Rattle.measure.proofs.Condition3.{bytes-are, same-shots}
-use Rattle.crediting_carving.specs.Blocks.{names}
-use Rattle.crediting.specs.Credits.{creditedTo, creditOf, creditsOf, creditTests, creditChecked, creditsAfter, CreditCall, Hidden, KeepsCredited}
+use Rattle.crediting.specs.Credits.{creditedTo, creditOf, creditsOf, creditTests, creditChecked, creditsAfter, CreditCall}
+use Rattle.crediting.specs.LeavingOut.{Hidden, KeepsCredited}
 
 -- ---- one cell
 

@@ -15,18 +15,18 @@ use Rattle.lattice.specs.Sums.{total, join}
 use Rattle.lattice.specs.Cells.{Cells, bit, volume}
 use Rattle.job.specs.Job.{shotCount, Valid}
 use Rattle.grid.specs.Grid.{runOf}
-use Rattle.grid.proofs.TotalLaws.{total-agree, total-most, total-swap, total-digits}
+use Rattle.grid.proofs.TotalLaws.{total-agree, total-most, total-up, total-front, total-swap, total-digits}
 use Rattle.lattice.proofs.JoinLaws.{join-ext}
 use Rattle.grid.proofs.CellLaws.{digit-high, digit-low}
 use Rattle.grid.proofs.ShotLaws.{width-times}
-use Rattle.grid_cover.specs.Cover.{firstCovering, lowestCovering}
+use Rattle.grid_cover.specs.Cover.{firstCovering, names, lowestCovering}
 use Rattle.grid_cover.proofs.CoverRuns.{Near, run-names}
-use Rattle.crediting_carving.specs.Blocks.{along, countIn, sizeOf, names, added, RoomFor, Small, InSpan, InBlock, creditsIn as runCreditsIn}
-use Rattle.crediting_carving.proofs.SpanLaws.{total-up, total-front}
+use Rattle.crediting_carving.specs.Blocks.{along, countIn, sizeOf, added, RoomFor, Small, InSpan, InBlock, creditsIn}
 use Rattle.crediting_carving.proofs.BlockLaws.{count-agree, count-most}
 use Rattle.crediting_carving.proofs.AddedLaws.{added-keeps, added-none, added-agree, added-more, room-added}
 use Rattle.crediting_carving.specs.declared.blocks.Block.{Block}
-use Rattle.crediting.specs.Credits.{creditedTo, creditOf, creditsOf, intervalOf, blockOf, creditsIn}
+use Rattle.crediting.specs.Credits.{creditedTo, creditOf, creditsOf}
+use Rattle.crediting.specs.GridBlocks.{intervalOf, blockOf, cellCredits}
 
 -- ---- an interval
 
@@ -128,18 +128,18 @@ module _ {F E G : ℕ} {coords : List ℕ} (v : Valid F E G coords) where
         ap (λ (n : ℕ). firstCovering E coords (runOf F E G coords n) i j k) (sym (digits G cell (v .grid-least)))
         ∙ run-names F E G coords (cell / G / G) (cell / G % G) (cell % G) (digit-y G cell (v .grid-least)) (digit-z G cell (v .grid-least)) i j k (near (cell / G / G) i (l .x)) (near (cell / G % G) j (l .y)) (near (cell % G) k (l .z))
 
-    run-credits : (s : ℕ) → runCreditsIn E coords (runOf F E G coords cell) (blockOf F G cell) s ≡ creditsIn F E G coords cell s
-    unfolding runCreditsIn creditsIn
+    run-credits : (s : ℕ) → creditsIn E coords (runOf F E G coords cell) (blockOf F G cell) s ≡ cellCredits F E G coords cell s
+    unfolding creditsIn cellCredits
     run-credits s = count-agree (blockOf F G cell) _ _ λ i j k l. ap (λ o. names o s) (run-lowest i j k l)
 
-    pub cell-credited : {run : List ℕ} → run ≡ runOf F E G coords cell → {b : Block} → b ≡ blockOf F G cell → (l : List ℕ) {m : List ℕ} → m ≡ added l (runCreditsIn E coords run b) → m ≡ added l (creditsIn F E G coords cell)
-    cell-credited r-is b-is l e = e ∙ rw (r-is, b-is) (added-agree l _ (creditsIn F E G coords cell) run-credits)
+    pub cell-credited : {run : List ℕ} → run ≡ runOf F E G coords cell → {b : Block} → b ≡ blockOf F G cell → (l : List ℕ) {m : List ℕ} → m ≡ added l (creditsIn E coords run b) → m ≡ added l (cellCredits F E G coords cell)
+    cell-credited r-is b-is l e = e ∙ rw (r-is, b-is) (added-agree l _ (cellCredits F E G coords cell) run-credits)
 
 -- ---- grid cell by grid cell, from 0 at every place
 
 -- the credits of the first grid cells
 abbrev pub creditsTo : ℕ → ℕ → ℕ → List ℕ → ℕ → ℕ → ℕ
-creditsTo F E G coords cells s = total cells λ cell. creditsIn F E G coords cell s
+creditsTo F E G coords cells s = total cells λ cell. cellCredits F E G coords cell s
 
 none-at : (n s : ℕ) → getD {A = ℕ} (replicate n 0) s 0 ≡ 0
 none-at n s = one (ltb s n) refl
@@ -167,13 +167,13 @@ module _ {F E G : ℕ} {coords : List ℕ} (v : Valid F E G coords) (n : ℕ) wh
   unfolding total
   cells-none = added-none (replicate n 0) _ λ s. refl
 
-  pub cells-next : (cell : ℕ) (l m : List ℕ) → l ≡ added (replicate n 0) (creditsTo F E G coords cell) → m ≡ added l (creditsIn F E G coords cell) → m ≡ added (replicate n 0) (creditsTo F E G coords (cell + 1))
+  pub cells-next : (cell : ℕ) (l m : List ℕ) → l ≡ added (replicate n 0) (creditsTo F E G coords cell) → m ≡ added l (cellCredits F E G coords cell) → m ≡ added (replicate n 0) (creditsTo F E G coords (cell + 1))
   unfolding total
   cells-next cell l m e k = rw (k, e, add-one cell) (added-more (replicate n 0) _ _)
 
   -- the credits so far and all cells of the next block are not more than the field has
   credits-few : (cell : ℕ) → cell < G * G * G → (s : ℕ) → creditsTo F E G coords cell s + sizeOf (blockOf F G cell) ≤ 1073741824
-  unfolding creditsIn total
+  unfolding cellCredits total
   credits-few cell h s =
       let all : suc cell + (G * G * G - suc cell) ≡ G * G * G = omega arith in
       omega (arith, total-up cell _ _ (λ c. count-most (blockOf F G c) (creditedTo E coords s)), rw all at (total-front (λ c. sizeOf (blockOf F G c)) (suc cell) (G * G * G - suc cell)), blocks-fill v (λ i j k. true), field-few v (λ i j k. true))
@@ -183,6 +183,6 @@ module _ {F E G : ℕ} {coords : List ℕ} (v : Valid F E G coords) (n : ℕ) wh
       rw e (room-added 1073741824 (sizeOf (blockOf F G cell)) (replicate n 0) (creditsTo F E G coords cell) (credits-few cell h) (record { at = λ s. omega (arith, none-at n s) }))
 
   pub cells-all : n ≡ shotCount coords → (l : List ℕ) → l ≡ added (replicate n 0) (creditsTo F E G coords (G * G * G)) → l ≡ creditsOf F E coords
-  unfolding added creditsOf creditOf creditsIn
+  unfolding added creditsOf creditOf cellCredits
   cells-all is l e =
       e ∙ rw (length-replicate {A = ℕ} n 0, is) (join-ext (shotCount coords) λ s. ap (λ (c : ℕ). c ∷ []) (rw (none-at (shotCount coords) s) (zero-add _ ∙ blocks-fill v (creditedTo E coords s))))

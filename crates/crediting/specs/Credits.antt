@@ -1,27 +1,21 @@
 -- The credits of a list's shots, and what the crediting call answers and leaves: docs/SCOPE.md, 'Credits' and 'When a job is refused'.
 -- `CreditCall` is the promise of the call.
 use mathlib.Core.Path.{_≡_}
-use mathlib.Core.Bool.{true}
 use mathlib.Core.List.{List, [], _∷_, _++_}
 use mathlib.Core.Logic.{_⊎_}
-use Prim.Native.Nat.{ℕ, _+_, _*_, _/_, _%_, _≤_, _<_}
+use Prim.Native.Nat.{ℕ, _≤_, _<_}
 use lib.Dec.{ltb}
-use lib.ListN.{length, getD, drop}
+use lib.ListN.{length, drop}
 use Rattle.lattice.specs.Sums.{join}
 use Rattle.lattice.specs.Cells.{Cells, volume}
-use Rattle.lattice.specs.Shots.{covers}
-use Rattle.job.specs.Job.{shotCount, shotAt}
+use Rattle.job.specs.Job.{shotCount}
 use Rattle.job.specs.Refusals.{checkedNumbers}
 use Rattle.job.specs.Checking.{Test, firstOf, firstNumbers}
 use Rattle.job.specs.declared.Refusal.{Refusal}
 use Rattle.job.specs.declared.Refusal.the-variants.{ShortCredits}
 use Rattle.job.specs.declared.Checked.{Checked}
-use Rattle.grid_cover.specs.Cover.{lowestCovering}
+use Rattle.grid_cover.specs.Cover.{names, lowestCovering}
 use Rattle.measure_intake.specs.Intake.{measureTests, sliceAfter, workAfter, MeasureAccepts, MeasureRefuses}
-use Rattle.measure.specs.Agreement.{Among}
-use Rattle.crediting_carving.specs.Blocks.{names, countIn}
-use Rattle.crediting_carving.specs.declared.blocks.Span.{Span}
-use Rattle.crediting_carving.specs.declared.blocks.Block.{Block}
 
 -- ---- credits
 -- the cells of which shot s is the lowest covering shot
@@ -70,27 +64,3 @@ abbrev pub CreditRefuses : ℕ → ℕ → ℕ → List ℕ → ℕ → ℕ → 
 CreditRefuses F E G coords entries places r =
     MeasureRefuses F E G coords entries r
     ⊎ (MeasureAccepts F E G coords entries × (places < shotCount coords) × (ShortCredits (shotCount coords) ≡ r))
-
--- ---- leaving shots out
--- each cell that shot s covers is covered by an earlier one
-abbrev pub Hidden : ℕ → List ℕ → ℕ → Type 0
-Hidden E coords s = (i j k : ℕ) → covers (shotAt E coords s) i j k ≡ true → (t : ℕ) × (t < s) × (covers (shotAt E coords t) i j k ≡ true)
-
--- with these credits of the first list: every shot of the second is one of the first, and every shot of the first whose credit is not 0 is
--- one of the second
-pub record KeepsCredited (E : ℕ) (credits c d : List ℕ) : Type 0 where
-  pub from-first : Among E d c
-  pub credited : (s : ℕ) → s < shotCount c → (getD credits s 0 ≡ 0 → ⊥) → (j : ℕ) × (j < shotCount d) × (shotAt E c s ≡ shotAt E d j)
-
--- ---- grid cell by grid cell
--- the unit cells of interval g of width s of an axis, and of a grid cell
-abbrev pub intervalOf : ℕ → ℕ → Span
-intervalOf s g = record { from = g * s; to = (g + 1) * s }
-
-abbrev pub blockOf : ℕ → ℕ → ℕ → Block
-blockOf F G cell =
-    record { x = intervalOf (F / G) (cell / G / G); y = intervalOf (F / G) (cell / G % G); z = intervalOf (F / G) (cell % G) }
-
--- of how many unit cells of a grid cell shot s is the lowest covering shot
-unfoldable pub creditsIn : ℕ → ℕ → ℕ → List ℕ → ℕ → ℕ → ℕ
-creditsIn F E G coords cell s = countIn (blockOf F G cell) (creditedTo E coords s)

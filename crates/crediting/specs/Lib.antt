@@ -1,1 +1,3 @@
 pub mod Credits
+pub mod LeavingOut
+pub mod GridBlocks

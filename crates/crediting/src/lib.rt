@@ -10,7 +10,8 @@ ghost use lib.ListN.{length, drop, replicate};
 ghost use Rattle.job.specs.Job.{shotCount, Valid};
 ghost use Rattle.grid.specs.Grid.{Holds};
 ghost use Rattle.crediting_carving.specs.Blocks.{added, sizeOf, RoomFor};
-ghost use Rattle.crediting.specs.Credits.{intervalOf, blockOf, creditsIn, creditsOf, CreditCall};
+ghost use Rattle.crediting.specs.Credits.{creditsOf, CreditCall};
+ghost use Rattle.crediting.specs.GridBlocks.{intervalOf, blockOf, cellCredits};
 use crediting_carving::blocks::Block;
 use crediting_carving::blocks::Span;
 use crediting_carving::carve;
@@ -66,7 +67,7 @@ fn credit_cell(
     requires { ⌜ cell < grid * grid * grid ⌝ }
     requires { ⌜ shotCount (now coords) ≤ length (now credits) ⌝ }
     requires { ⌜ RoomFor (sizeOf (blockOf field grid cell)) (now credits) ⌝ }
-    ensures { λ _. ⌜ now (credits .exit) ≡ added (now (credits .entry)) (creditsIn field edge grid (now (coords .entry)) cell) ⌝ }
+    ensures { λ _. ⌜ now (credits .exit) ≡ added (now (credits .entry)) (cellCredits field edge grid (now (coords .entry)) cell) ⌝ }
 {
     let run = run_of(work, cells_of(grid), cell);
     carve(coords, edge, run, block_of(field, grid, cell), credits);

@@ -13,13 +13,12 @@ use lib.Seq.{take-all}
 use Rattle.lattice.specs.Sums.{total}
 use Rattle.lattice.specs.Cells.{Cells, bit}
 use Rattle.job.specs.Job.{shotCount}
-use Rattle.grid_cover.specs.Cover.{firstCovering}
+use Rattle.grid_cover.specs.Cover.{firstCovering, names}
 use Rattle.grid_cover.proofs.CoverLaws.{rest-whole, rest-next, rest-found, rest-none}
-use Rattle.grid.proofs.TotalLaws.{total-agree}
+use Rattle.grid.proofs.TotalLaws.{total-agree, total-up, total-front}
 use Rattle.crediting_carving.specs.declared.blocks.Span.{Span}
 use Rattle.crediting_carving.specs.declared.blocks.Block.{Block}
-use Rattle.crediting_carving.specs.Blocks.{countIn, sizeOf, names, creditsIn, added, only, RoomFor, InBlock, Small, Ordered, emptyBlock, meetsBlock, Meets, FirstMeeting, sharedBlock, partOf}
-use Rattle.crediting_carving.proofs.SpanLaws.{total-up, total-front}
+use Rattle.crediting_carving.specs.Blocks.{countIn, sizeOf, creditsIn, added, only, RoomFor, InBlock, Small, Ordered, emptyBlock, meetsBlock, Meets, FirstMeeting, sharedBlock, partOf}
 use Rattle.crediting_carving.proofs.BlockLaws.{Inside, count-agree, count-false, count-most, count-parts}
 use Rattle.crediting_carving.proofs.MeetLaws.{none-in, missed-bare, met-shot, shared-inside, shared-ordered, shared-small, shared-covered, inside-in, part-bare, part-in, part-small}
 use Rattle.crediting_carving.proofs.AddedLaws.{added-keeps, added-none, added-agree, added-more, room-less, room-added}

@@ -1,6 +1,6 @@
 -- Which shots meet a block: the tests one by one, and what they say of the cells of the block.
 use mathlib.Core.Path.{_≡_, refl, sym, ap, _∙_}
-use mathlib.Core.Bool.{Bool, true, false, _&&_, _||_, and-false, false≢true, true≢false}
+use mathlib.Core.Bool.{Bool, true, false, _&&_, _||_, and-false, true≢false}
 use mathlib.Core.List.{List}
 use Prim.Native.Nat.{ℕ, zero, suc, _+_, _≤_, _<_, min, max}
 use native.Mathlib.Omega.{arith}
@@ -8,6 +8,7 @@ use lib.Dec.{leb, ltb}
 use borrow.Author.Tests.{le-leb, lt-leb, le-ltb, lt-ltb, leb-true, leb-false, ltb-true}
 use Rattle.lattice.specs.Shots.{spans, covers}
 use Rattle.job.specs.Job.{shotCount, xAt, yAt, zAt, edgeAt, shotAt}
+use Rattle.job.proofs.Tests.{or-false, and-true}
 use Rattle.grid_cover.specs.Cover.{shotCovers}
 use Rattle.crediting_carving.specs.declared.blocks.Span.{Span}
 use Rattle.crediting_carving.specs.declared.blocks.Block.{Block}
@@ -26,14 +27,6 @@ module _ (b : Block) {x : Bool} (x-is : x ≡ emptySpan (b .x)) where
 
     pub none-by-z : y ≡ false → {z : Bool} → z ≡ emptySpan (b .z) → z ≡ emptyBlock b
     none-by-z h z-is = rw (← x-is, some-x, ← y-is, h, ← z-is)
-
-or-both : (b c : Bool) → (b || c) ≡ false → (b ≡ false) × (c ≡ false)
-or-both true c h = absurd (true≢false h)
-or-both false c h = (refl, h)
-
-and-both : (b c : Bool) → (b && c) ≡ true → (b ≡ true) × (c ≡ true)
-and-both true c h = (refl, h)
-and-both false c h = (h, absurd (false≢true h))
 
 -- such a block has no cell
 pub none-in : (b : Block) → emptyBlock b ≡ true → (i j k : ℕ) → InBlock b i j k → ⊥
@@ -73,16 +66,16 @@ module _ (E : ℕ) (coords : List ℕ) (s : ℕ) (b : Block) where
 -- one that covers a cell of the block meets it
 span-meets : (e a : ℕ) (s : Span) (i : ℕ) → InSpan s i → spans e a i ≡ true → meetsSpan e a s ≡ true
 span-meets e a s i l h =
-    let c = and-both (leb a i) (ltb i (a + e)) h in
+    let c = and-true (leb a i) (ltb i (a + e)) h in
     rw (lt-ltb a (s .to) (omega (arith, l .high, leb-true a i (c .0))), lt-ltb (s .from) (a + e) (omega (arith, l .low, ltb-true i (a + e) (c .1))))
 
 module _ (E : ℕ) (coords : List ℕ) (s : ℕ) (b : Block) (i j k : ℕ) (l : InBlock b i j k) where
   covers-meets : shotCovers E coords s i j k ≡ true → meetsBlock E coords s b ≡ true
   unfolding shotCovers meetsBlock
   covers-meets h =
-      let n = and-both (ltb s (shotCount coords)) (covers (shotAt E coords s) i j k) h in
-      let x = and-both (spans (edgeAt E coords s) (xAt coords s) i) (spans (edgeAt E coords s) (yAt coords s) j && spans (edgeAt E coords s) (zAt coords s) k) (n .1) in
-      let yz = and-both (spans (edgeAt E coords s) (yAt coords s) j) (spans (edgeAt E coords s) (zAt coords s) k) (x .1) in
+      let n = and-true (ltb s (shotCount coords)) (covers (shotAt E coords s) i j k) h in
+      let x = and-true (spans (edgeAt E coords s) (xAt coords s) i) (spans (edgeAt E coords s) (yAt coords s) j && spans (edgeAt E coords s) (zAt coords s) k) (n .1) in
+      let yz = and-true (spans (edgeAt E coords s) (yAt coords s) j) (spans (edgeAt E coords s) (zAt coords s) k) (x .1) in
       rw (n .0, span-meets (edgeAt E coords s) (xAt coords s) (b .x) i (l .x) (x .0), span-meets (edgeAt E coords s) (yAt coords s) (b .y) j (l .y) (yz .0), span-meets (edgeAt E coords s) (zAt coords s) (b .z) k (l .z) (yz .1))
 
   pub missed-bare : meetsBlock E coords s b ≡ false → shotCovers E coords s i j k ≡ false
@@ -96,7 +89,7 @@ module _ (E : ℕ) (coords : List ℕ) (s : ℕ) (b : Block) (i j k : ℕ) (l : 
 
 shared-in : (e a : ℕ) (s : Span) → emptySpan s ≡ false → meetsSpan e a s ≡ true → SpanInside s (sharedSpan e a s)
 shared-in e a s some m =
-    let c = and-both (ltb a (s .to)) (ltb (s .from) (a + e)) m in
+    let c = and-true (ltb a (s .to)) (ltb (s .from) (a + e)) m in
     let order : s .from < s .to = leb-false (s .to) (s .from) some in
     let low : a < s .to = ltb-true a (s .to) (c .0) in
     let high : s .from < a + e = ltb-true (s .from) (a + e) (c .1) in
@@ -106,17 +99,17 @@ module _ (E : ℕ) (coords : List ℕ) (s : ℕ) (b : Block) (m : Meets E coords
   met : (ltb s (shotCount coords) ≡ true) × ((meetsSpan (edgeAt E coords s) (xAt coords s) (b .x) ≡ true) × ((meetsSpan (edgeAt E coords s) (yAt coords s) (b .y) ≡ true) × (meetsSpan (edgeAt E coords s) (zAt coords s) (b .z) ≡ true)))
   unfolding meetsBlock
   met =
-      let n = and-both (ltb s (shotCount coords)) (meetsSpan (edgeAt E coords s) (xAt coords s) (b .x) && (meetsSpan (edgeAt E coords s) (yAt coords s) (b .y) && meetsSpan (edgeAt E coords s) (zAt coords s) (b .z))) (m .meets) in
-      let x = and-both (meetsSpan (edgeAt E coords s) (xAt coords s) (b .x)) (meetsSpan (edgeAt E coords s) (yAt coords s) (b .y) && meetsSpan (edgeAt E coords s) (zAt coords s) (b .z)) (n .1) in
-      (n .0, (x .0, and-both (meetsSpan (edgeAt E coords s) (yAt coords s) (b .y)) (meetsSpan (edgeAt E coords s) (zAt coords s) (b .z)) (x .1)))
+      let n = and-true (ltb s (shotCount coords)) (meetsSpan (edgeAt E coords s) (xAt coords s) (b .x) && (meetsSpan (edgeAt E coords s) (yAt coords s) (b .y) && meetsSpan (edgeAt E coords s) (zAt coords s) (b .z))) (m .meets) in
+      let x = and-true (meetsSpan (edgeAt E coords s) (xAt coords s) (b .x)) (meetsSpan (edgeAt E coords s) (yAt coords s) (b .y) && meetsSpan (edgeAt E coords s) (zAt coords s) (b .z)) (n .1) in
+      (n .0, (x .0, and-true (meetsSpan (edgeAt E coords s) (yAt coords s) (b .y)) (meetsSpan (edgeAt E coords s) (zAt coords s) (b .z)) (x .1)))
 
   pub met-shot : s < shotCount coords
   met-shot = ltb-true s (shotCount coords) (met .0)
 
   pub shared-inside : Inside b (sharedBlock E coords s b)
   shared-inside =
-      let some = or-both (emptySpan (b .x)) (emptySpan (b .y) || emptySpan (b .z)) (m .has-cells) in
-      let yz = or-both (emptySpan (b .y)) (emptySpan (b .z)) (some .1) in
+      let some = or-false (emptySpan (b .x)) (emptySpan (b .y) || emptySpan (b .z)) (m .has-cells) in
+      let yz = or-false (emptySpan (b .y)) (emptySpan (b .z)) (some .1) in
       record {
         x = shared-in (edgeAt E coords s) (xAt coords s) (b .x) (some .0) (met .1 .0);
         y = shared-in (edgeAt E coords s) (yAt coords s) (b .y) (yz .0) (met .1 .1 .0);

@@ -1,29 +1,11 @@
 -- Sums over the cells of a span: term by term, cut in two and in three.
-use mathlib.Core.Path.{_≡_, refl, sym, ap, _∙_}
-use Prim.Native.Nat.{ℕ, zero, suc, _+_, _-_, _*_, _≤_, _<_}
-use native.Mathlib.Nat.{zero-mul, suc-mul}
+use mathlib.Core.Path.{_≡_, ap, _∙_}
+use Prim.Native.Nat.{ℕ, _+_, _-_, _*_, _≤_}
 use native.Mathlib.Omega.{arith}
 use Rattle.lattice.specs.Sums.{total}
-use Rattle.grid.proofs.TotalLaws.{total-agree, total-plus, total-append}
+use Rattle.grid.proofs.TotalLaws.{total-agree, total-plus, total-append, total-up, total-same}
 use Rattle.crediting_carving.specs.declared.blocks.Span.{Span}
 use Rattle.crediting_carving.specs.Blocks.{along, InSpan, spanBefore, spanAfter}
-
--- ---- totals
-
-pub total-up : (n : ℕ) (f g : ℕ → ℕ) → ((i : ℕ) → f i ≤ g i) → total n f ≤ total n g
-unfolding total
-total-up zero f g h = omega arith
-total-up (suc n) f g h = omega (arith, total-up n f g h, h n)
-
-total-same : (n k : ℕ) → total n (λ i. k) ≡ n * k
-unfolding total
-total-same zero k = sym (zero-mul k)
-total-same (suc n) k = omega (arith, total-same n k, suc-mul n k)
-
-pub total-front : (f : ℕ → ℕ) (n k : ℕ) → total n f ≤ total (n + k) f
-total-front f n k = omega (arith, total-append n k f)
-
--- ---- spans
 
 module _ (s : Span) where
   pub along-agree : (f g : ℕ → ℕ) → ((i : ℕ) → InSpan s i → f i ≡ g i) → along s f ≡ along s g

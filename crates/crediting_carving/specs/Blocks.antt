@@ -1,7 +1,6 @@
 -- Blocks of unit cells, and how many cells of a block the shots of a run are credited with. docs/SCOPE.md, 'Credits'.
 use mathlib.Core.Path.{_≡_}
 use mathlib.Core.Bool.{Bool, true, false, cond, _&&_, _||_}
-use mathlib.Core.Option.{Option, none, some}
 use mathlib.Core.List.{List, [], _∷_}
 use Prim.Native.Nat.{ℕ, zero, suc, _+_, _-_, _≤_, _<_, min, max}
 use lib.Dec.{eqb, leb, ltb}
@@ -9,7 +8,7 @@ use lib.ListN.{length, getD, drop}
 use Rattle.lattice.specs.Sums.{total, join}
 use Rattle.lattice.specs.Cells.{Cells, bit}
 use Rattle.job.specs.Job.{shotCount, xAt, yAt, zAt, edgeAt}
-use Rattle.grid_cover.specs.Cover.{firstCovering}
+use Rattle.grid_cover.specs.Cover.{firstCovering, names}
 use Rattle.crediting_carving.specs.declared.blocks.Span.{Span}
 use Rattle.crediting_carving.specs.declared.blocks.Block.{Block}
 
@@ -27,11 +26,6 @@ abbrev pub sizeOf : Block → ℕ
 sizeOf b = countIn b λ i j k. true
 
 -- ---- credits
--- shot s is the one that is named
-abbrev pub names : Option ℕ → ℕ → Bool
-names none s = false
-names (some t) s = eqb t s
-
 -- of how many cells of a block shot s is the first of the run that covers them
 unfoldable pub creditsIn : ℕ → List ℕ → List ℕ → Block → ℕ → ℕ
 creditsIn E coords run b s = countIn b λ i j k. names (firstCovering E coords run i j k) s

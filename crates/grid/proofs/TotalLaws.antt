@@ -19,6 +19,16 @@ unfolding total
 total-most zero k f h = omega (arith, zero-mul k)
 total-most (suc n) k f h = omega (arith, suc-mul n k, total-most n k f (λ i l. h i (omega arith)), h n (omega arith))
 
+pub total-up : (n : ℕ) (f g : ℕ → ℕ) → ((i : ℕ) → f i ≤ g i) → total n f ≤ total n g
+unfolding total
+total-up zero f g h = omega arith
+total-up (suc n) f g h = omega (arith, total-up n f g h, h n)
+
+pub total-same : (n k : ℕ) → total n (λ i. k) ≡ n * k
+unfolding total
+total-same zero k = sym (zero-mul k)
+total-same (suc n) k = omega (arith, total-same n k, suc-mul n k)
+
 total-none : (n : ℕ) → total n (λ i. 0) ≡ 0
 unfolding total
 total-none zero = refl
@@ -39,6 +49,9 @@ pub total-append : (n k : ℕ) (f : ℕ → ℕ) → total (n + k) f ≡ total n
 unfolding total
 total-append n zero f = rw (add-zero n, add-zero (total n f))
 total-append n (suc k) f = rw (add-suc n k) (omega (arith, total-append n k f))
+
+pub total-front : (f : ℕ → ℕ) (n k : ℕ) → total n f ≤ total (n + k) f
+total-front f n k = omega (arith, total-append n k f)
 
 -- by two digits
 pub total-digits : (n m : ℕ) (f : ℕ → ℕ) → total (n * m) f ≡ total n (λ i. total m (λ j. f (i * m + j)))

@@ -1,7 +1,7 @@
 -- The run of a grid cell names the lowest covering shot of the list, and so covers what the list covers: for the unit cells in it, and for
 -- the eight cells about each lattice point of its closed box.
 use mathlib.Core.Path.{_≡_, refl, sym, ap, _∙_}
-use mathlib.Core.Bool.{Bool, true, false, cond, _&&_, _||_, false≢true}
+use mathlib.Core.Bool.{Bool, true, false, cond, _&&_, _||_}
 use mathlib.Core.Option.{none, some}
 use mathlib.Core.List.{List, [], _∷_}
 use Prim.Native.Nat.{ℕ, zero, suc, _+_, _*_, _/_, _≤_, _<_}
@@ -14,7 +14,7 @@ use Rattle.lattice.specs.Pattern.{around}
 use Rattle.lattice.specs.Shots.{Shot, spans, covers, any, cells}
 use Rattle.job.specs.Job.{shotsOf, shotCount, shotAt, Valid}
 use Rattle.job.proofs.Shots.{any-at, at-any}
-use Rattle.job.proofs.Tests.{or-left, or-right}
+use Rattle.job.proofs.Tests.{or-left, or-right, and-true}
 use Rattle.lattice.proofs.ShotLaws.{or-elim}
 use Rattle.grid.specs.Numbers.{upTo}
 use Rattle.grid.specs.Grid.{meets, touchesCell, runOf, holding}
@@ -90,15 +90,11 @@ pub record Near (s g i : ℕ) : Type 0 where
   pub low : g * s ≤ i + 1
   pub high : i ≤ (g + 1) * s
 
-both : (b c : Bool) → (b && c) ≡ true → (b ≡ true) × (c ≡ true)
-both true c h = (refl, h)
-both false c h = (h, absurd (false≢true h))
-
 near-meets : (s g i e a : ℕ) → Near s g i → spans e a i ≡ true → meets s g a e ≡ true
 unfolding meets
 near-meets s g i e a n h =
-    let c : leb a i ≡ true = both (leb a i) (ltb i (a + e)) h .0 in
-    let d : ltb i (a + e) ≡ true = both (leb a i) (ltb i (a + e)) h .1 in
+    let c : leb a i ≡ true = and-true (leb a i) (ltb i (a + e)) h .0 in
+    let d : ltb i (a + e) ≡ true = and-true (leb a i) (ltb i (a + e)) h .1 in
     rw (le-leb (g * s) (a + e) (omega (arith, ltb-true i (a + e) d)), le-leb a ((g + 1) * s) (omega (arith, leb-true a i c)))
 
 module _ (F E G : ℕ) (coords : List ℕ) (gx gy gz : ℕ) (hy : gy < G) (hz : gz < G) (i j k : ℕ) (nx : Near (F / G) gx i) (ny : Near (F / G) gy j) (nz : Near (F / G) gz k) where
@@ -106,9 +102,9 @@ module _ (F E G : ℕ) (coords : List ℕ) (gx gy gz : ℕ) (hy : gy < G) (hz : 
   unfolding shotCovers
   covering-touches s h =
       let t : Shot = shotAt E coords s in
-      let c = both (ltb s (shotCount coords)) (covers (shotAt E coords s) i j k) h .1 in
-      let x = both (spans (t .edge) (t .x) i) (spans (t .edge) (t .y) j && spans (t .edge) (t .z) k) c in
-      let yz = both (spans (t .edge) (t .y) j) (spans (t .edge) (t .z) k) (x .1) in
+      let c = and-true (ltb s (shotCount coords)) (covers (shotAt E coords s) i j k) h .1 in
+      let x = and-true (spans (t .edge) (t .x) i) (spans (t .edge) (t .y) j && spans (t .edge) (t .z) k) c in
+      let yz = and-true (spans (t .edge) (t .y) j) (spans (t .edge) (t .z) k) (x .1) in
       rw (digit-high G (gx * G + gy) gz hz, digit-low G (gx * G + gy) gz hz, digit-high G gx gy hy, digit-low G gx gy hy, near-meets (F / G) gx i (t .edge) (t .x) nx (x .0), near-meets (F / G) gy j (t .edge) (t .y) ny (yz .0), near-meets (F / G) gz k (t .edge) (t .z) nz (yz .1))
 
   -- the run of a grid cell names the list's lowest covering shot of a unit cell that touches it

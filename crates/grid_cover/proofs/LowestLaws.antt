@@ -1,6 +1,6 @@
 -- What the lowest covering shot of a list is: a shot of the list that covers the cell, while no earlier one does.
 use mathlib.Core.Path.{_≡_, refl, sym, ap, _∙_}
-use mathlib.Core.Bool.{Bool, true, false, cond, _&&_, false≢true, true≢false}
+use mathlib.Core.Bool.{Bool, true, false, cond, _&&_}
 use mathlib.Core.Option.{Option, none, some}
 use mathlib.Core.List.{List, [], _∷_, _++_}
 use Prim.Native.Nat.{ℕ, zero, suc, _<_}
@@ -9,6 +9,7 @@ use lib.Dec.{ltb}
 use borrow.Author.Tests.{ltb-true, ltb-false, lt-ltb}
 use Rattle.lattice.specs.Shots.{covers}
 use Rattle.job.specs.Job.{shotCount, shotAt}
+use Rattle.job.proofs.Tests.{and-true}
 use Rattle.grid.specs.Numbers.{upTo}
 use Rattle.grid_cover.specs.Cover.{shotCovers, first, firstCovering, lowestCovering}
 
@@ -82,13 +83,9 @@ module _ (f : ℕ → Bool) where
 -- ---- the lowest covering shot of a list
 
 module _ (E : ℕ) (coords : List ℕ) (i j k s : ℕ) (e : lowestCovering E coords i j k ≡ some s) where
-  and-both : (b c : Bool) → (b && c) ≡ true → (b ≡ true) × (c ≡ true)
-  and-both true c h = (refl, h)
-  and-both false c h = (h, absurd (false≢true h))
-
   passes : (ltb s (shotCount coords) ≡ true) × (covers (shotAt E coords s) i j k ≡ true)
   unfolding lowestCovering firstCovering shotCovers
-  passes = and-both (ltb s (shotCount coords)) (covers (shotAt E coords s) i j k) (first-passes (λ s. shotCovers E coords s i j k) (upTo (shotCount coords)) s e)
+  passes = and-true (ltb s (shotCount coords)) (covers (shotAt E coords s) i j k) (first-passes (λ s. shotCovers E coords s i j k) (upTo (shotCount coords)) s e)
 
   pub lowest-shot : s < shotCount coords
   lowest-shot = ltb-true s (shotCount coords) (passes .0)

@@ -1,6 +1,6 @@
 -- A run narrowed to the shots that reach a line of points covers the cells about the line as the whole run does.
 use mathlib.Core.Path.{_≡_, refl, ap, fun-ext}
-use mathlib.Core.Bool.{Bool, true, false, _&&_, false≢true}
+use mathlib.Core.Bool.{Bool, true, false, _&&_}
 use mathlib.Core.List.{List}
 use Prim.Native.Nat.{ℕ, suc, _+_, _≤_, _<_}
 use native.Mathlib.Omega.{arith}
@@ -11,6 +11,7 @@ use Rattle.lattice.specs.Cells.{up}
 use Rattle.lattice.specs.Pattern.{around}
 use Rattle.lattice.specs.Shots.{spans, covers}
 use Rattle.job.specs.Job.{shotCount, xAt, yAt, zAt, edgeAt, shotAt}
+use Rattle.job.proofs.Tests.{and-true}
 use Rattle.grid.specs.Numbers.{those}
 use Rattle.grid.proofs.NumberLaws.{those-length}
 use Rattle.grid_cover.specs.Cover.{shotCovers, isSome, firstCovering, runCovers}
@@ -39,14 +40,10 @@ line-room p run h = omega (arith, those-length p run)
 
 -- ---- what covers a cell about the line reaches the line
 
-both : (b c : Bool) → (b && c) ≡ true → (b ≡ true) × (c ≡ true)
-both true c h = (refl, h)
-both false c h = (h, absurd (false≢true h))
-
 span-reaches : (e a i x : ℕ) → i ≤ x → x ≤ i + 1 → spans e a i ≡ true → reaches e a x ≡ true
 span-reaches e a i x low high h =
-    let c : leb a i ≡ true = both (leb a i) (ltb i (a + e)) h .0 in
-    let d : ltb i (a + e) ≡ true = both (leb a i) (ltb i (a + e)) h .1 in
+    let c : leb a i ≡ true = and-true (leb a i) (ltb i (a + e)) h .0 in
+    let d : ltb i (a + e) ≡ true = and-true (leb a i) (ltb i (a + e)) h .1 in
     rw (le-leb a x (omega (arith, leb-true a i c)), le-leb x (a + e) (omega (arith, ltb-true i (a + e) d)))
 
 about : (a : Bool) (x i : ℕ) → up a x ≡ suc i → (i ≤ x) × (x ≤ i + 1)
@@ -57,9 +54,9 @@ module _ (E : ℕ) (coords : List ℕ) (x y : ℕ) where
   covering-reaches : (i j k s : ℕ) → (i ≤ x) × (x ≤ i + 1) → (j ≤ y) × (y ≤ j + 1) → shotCovers E coords s i j k ≡ true → reachesLine E coords x y s ≡ true
   unfolding shotCovers
   covering-reaches i j k s hx hy h =
-      let c : covers (shotAt E coords s) i j k ≡ true = both (ltb s (shotCount coords)) (covers (shotAt E coords s) i j k) h .1 in
-      let cx = both (spans (edgeAt E coords s) (xAt coords s) i) (spans (edgeAt E coords s) (yAt coords s) j && spans (edgeAt E coords s) (zAt coords s) k) c in
-      let cy = both (spans (edgeAt E coords s) (yAt coords s) j) (spans (edgeAt E coords s) (zAt coords s) k) (cx .1) in
+      let c : covers (shotAt E coords s) i j k ≡ true = and-true (ltb s (shotCount coords)) (covers (shotAt E coords s) i j k) h .1 in
+      let cx = and-true (spans (edgeAt E coords s) (xAt coords s) i) (spans (edgeAt E coords s) (yAt coords s) j && spans (edgeAt E coords s) (zAt coords s) k) c in
+      let cy = and-true (spans (edgeAt E coords s) (yAt coords s) j) (spans (edgeAt E coords s) (zAt coords s) k) (cx .1) in
       rw (span-reaches (edgeAt E coords s) (xAt coords s) i x (hx .0) (hx .1) (cx .0), span-reaches (edgeAt E coords s) (yAt coords s) j y (hy .0) (hy .1) (cy .0))
 
 module _ (E : ℕ) (coords run : List ℕ) (x y : ℕ) where

@@ -1,0 +1,19 @@
+-- The field grid cell by grid cell, as blocks of unit cells: the words of the functions that credit them.
+use mathlib.Core.List.{List}
+use Prim.Native.Nat.{ℕ, _+_, _*_, _/_, _%_}
+use Rattle.crediting_carving.specs.Blocks.{countIn}
+use Rattle.crediting_carving.specs.declared.blocks.Span.{Span}
+use Rattle.crediting_carving.specs.declared.blocks.Block.{Block}
+use Rattle.crediting.specs.Credits.{creditedTo}
+
+-- the unit cells of interval g of width s of an axis, and of a grid cell
+abbrev pub intervalOf : ℕ → ℕ → Span
+intervalOf s g = record { from = g * s; to = (g + 1) * s }
+
+abbrev pub blockOf : ℕ → ℕ → ℕ → Block
+blockOf F G cell =
+    record { x = intervalOf (F / G) (cell / G / G); y = intervalOf (F / G) (cell / G % G); z = intervalOf (F / G) (cell % G) }
+
+-- of how many unit cells of a grid cell shot s is the lowest covering shot
+unfoldable pub cellCredits : ℕ → ℕ → ℕ → List ℕ → ℕ → ℕ → ℕ
+cellCredits F E G coords cell s = countIn (blockOf F G cell) (creditedTo E coords s)
