@@ -25,7 +25,7 @@ fn is_empty(span: Span) -> bool
 }
 
 // Whether a block has no cell.
-pub fn has_no_cell(block: Block) -> bool
+pub(crate) fn has_no_cell(block: Block) -> bool
     ensures { λ r. ⌜ r ≡ emptyBlock block ⌝ }
 {
     if is_empty(block.x) {
@@ -48,7 +48,7 @@ fn meets(edge: u16, at: u16, span: Span) -> bool
 }
 
 // Whether a shot meets a block. A number past the list's shots meets nothing.
-pub fn shot_meets(coords: &[u16], edge: u16, shot: u32, block: Block) -> bool
+pub(crate) fn shot_meets(coords: &[u16], edge: u16, shot: u32, block: Block) -> bool
     ensures { λ r. ⌜ r ≡ meetsBlock edge (now (coords .entry)) shot block ⌝ }
 {
     let number = shot as usize;
@@ -96,7 +96,7 @@ fn shared_span(edge: u16, at: u16, span: Span) -> Span
 }
 
 // The cells of a block that a shot covers.
-pub fn shared(coords: &[u16], edge: u16, shot: u32, block: Block) -> Block
+pub(crate) fn shared(coords: &[u16], edge: u16, shot: u32, block: Block) -> Block
     requires { ⌜ shot < shotCount (now coords) ⌝ }
     ensures { λ r. ⌜ r ≡ sharedBlock edge (now (coords .entry)) shot block ⌝ }
 {
@@ -128,7 +128,7 @@ fn product(x: u32, y: u32, z: u32) -> u32
 }
 
 // How many cells a block has.
-pub fn size(block: Block) -> u32
+pub(crate) fn size(block: Block) -> u32
     requires { ⌜ Ordered block ⌝ }
     requires { ⌜ Small block ⌝ }
     ensures { λ r. ⌜ r ≡ sizeOf block ⌝ }
@@ -158,7 +158,7 @@ fn part_after(span: Span, inner: Span) -> Span
 
 // The part of a block on a side of a block in it: 0 and 1 before and after it on x; 2 and 3 on y, of what it spans on x; 4 and 5 on z, of
 // what it spans on x and y.
-pub fn part(block: Block, core: Block, side: u16) -> Block
+pub(crate) fn part(block: Block, core: Block, side: u16) -> Block
     ensures { λ r. ⌜ r ≡ partOf block core side ⌝ }
 {
     let y = block.y;
