@@ -98,59 +98,63 @@ module _ (E : ℕ) (coords run : List ℕ) (b : Block) where
   -- ---- a shot meets it
 
   module _ (n : ℕ) (found : FirstMeeting E coords run b n) (h : n < length run) where
+    -- the cells of the block that it covers
+    abbrev core : Block
+    core = sharedBlock E coords (getD run n 0) b
+
     pub meeting : Meets E coords (getD run n 0) b
     meeting = found .found h
 
-    pub core-inside : Inside b (sharedBlock E coords (getD run n 0) b)
+    core-inside : Inside b core
     core-inside = shared-inside E coords (getD run n 0) b meeting
 
     -- the cells that it covers are its own
-    core-names : (i j k : ℕ) → InBlock (sharedBlock E coords (getD run n 0) b) i j k → firstCovering E coords run i j k ≡ some (getD run n 0)
+    core-names : (i j k : ℕ) → InBlock core i j k → firstCovering E coords run i j k ≡ some (getD run n 0)
     core-names i j k l =
-        sym (rest-found E coords run i j k n h (shared-covered E coords (getD run n 0) b (met-shot E coords (getD run n 0) b meeting) i j k l) (found .rest-decides i j k (inside-in b (sharedBlock E coords (getD run n 0) b) core-inside i j k l)))
+        sym (rest-found E coords run i j k n h (shared-covered E coords (getD run n 0) b (met-shot E coords (getD run n 0) b meeting) i j k l) (found .rest-decides i j k (inside-in b core core-inside i j k l)))
 
-    core-credits : (s : ℕ) → countIn (sharedBlock E coords (getD run n 0) b) (λ i j k. names (firstCovering E coords run i j k) s) ≡ only (getD run n 0) (sizeOf (sharedBlock E coords (getD run n 0) b)) s
+    core-credits : (s : ℕ) → countIn core (λ i j k. names (firstCovering E coords run i j k) s) ≡ only (getD run n 0) (sizeOf core) s
     core-credits s =
-        count-agree (sharedBlock E coords (getD run n 0) b) _ (λ i j k. eqb (getD run n 0) s) (λ i j k l. ap (λ o. names o s) (core-names i j k l))
+        count-agree core _ (λ i j k. eqb (getD run n 0) s) (λ i j k l. ap (λ o. names o s) (core-names i j k l))
         ∙ one (eqb (getD run n 0) s)
       where
-        one : (t : Bool) → countIn (sharedBlock E coords (getD run n 0) b) (λ i j k. t) ≡ cond t (sizeOf (sharedBlock E coords (getD run n 0) b)) 0
+        one : (t : Bool) → countIn core (λ i j k. t) ≡ cond t (sizeOf core) 0
         one true = refl
-        one false = count-false (sharedBlock E coords (getD run n 0) b)
+        one false = count-false core
 
     -- the others are left to the shots after it
-    part-credits : (side s : ℕ) → countIn (partOf b (sharedBlock E coords (getD run n 0) b) side) (λ i j k. names (firstCovering E coords run i j k) s) ≡ creditsIn E coords (drop (n + 1) run) (partOf b (sharedBlock E coords (getD run n 0) b) side) s
+    part-credits : (side s : ℕ) → countIn (partOf b core side) (λ i j k. names (firstCovering E coords run i j k) s) ≡ creditsIn E coords (drop (n + 1) run) (partOf b core side) s
     unfolding creditsIn
     part-credits side s =
-        count-agree (partOf b (sharedBlock E coords (getD run n 0) b) side) _ _ λ i j k l. ap (λ o. names o s)
-        (sym (rest-next E coords run i j k n h (part-bare E coords (getD run n 0) b i j k side l) (found .rest-decides i j k (part-in b (sharedBlock E coords (getD run n 0) b) core-inside side i j k l))))
+        count-agree (partOf b core side) _ _ λ i j k l. ap (λ o. names o s)
+        (sym (rest-next E coords run i j k n h (part-bare E coords (getD run n 0) b i j k side l) (found .rest-decides i j k (part-in b core core-inside side i j k l))))
 
     -- the shot's own, and those of all six parts
-    carved-all : (s : ℕ) → only (getD run n 0) (sizeOf (sharedBlock E coords (getD run n 0) b)) s + sidesIn E coords (drop (n + 1) run) b (sharedBlock E coords (getD run n 0) b) 6 s ≡ creditsIn E coords run b s
+    carved-all : (s : ℕ) → only (getD run n 0) (sizeOf core) s + sidesIn E coords (drop (n + 1) run) b core 6 s ≡ creditsIn E coords run b s
     unfolding creditsIn
     carved-all s =
-        sym (count-parts b (sharedBlock E coords (getD run n 0) b) core-inside (λ i j k. names (firstCovering E coords run i j k) s)
-        ∙ rw (core-credits s) (ap (λ (t : ℕ). only (getD run n 0) (sizeOf (sharedBlock E coords (getD run n 0) b)) s + t) (total-agree 6 _ _ λ side l. part-credits side s)))
+        sym (count-parts b core core-inside (λ i j k. names (firstCovering E coords run i j k) s)
+        ∙ rw (core-credits s) (ap (λ (t : ℕ). only (getD run n 0) (sizeOf core) s + t) (total-agree 6 _ _ λ side l. part-credits side s)))
 
     -- the shot's own, those of some parts and all cells of the next are not more than the block has
-    carved-few : (side : ℕ) → side < 6 → (s : ℕ) → only (getD run n 0) (sizeOf (sharedBlock E coords (getD run n 0) b)) s + sidesIn E coords (drop (n + 1) run) b (sharedBlock E coords (getD run n 0) b) side s + sizeOf (partOf b (sharedBlock E coords (getD run n 0) b) side) ≤ sizeOf b
+    carved-few : (side : ℕ) → side < 6 → (s : ℕ) → only (getD run n 0) (sizeOf core) s + sidesIn E coords (drop (n + 1) run) b core side s + sizeOf (partOf b core side) ≤ sizeOf b
     unfolding creditsIn total
     carved-few side l s =
         let all : suc side + (5 - side) ≡ 6 = omega arith in
-        omega (arith, rw all at (total-front (λ m. sizeOf (partOf b (sharedBlock E coords (getD run n 0) b) m)) (suc side) (5 - side)), only-most (eqb (getD run n 0) s) (sizeOf (sharedBlock E coords (getD run n 0) b)), total-up side _ _ (λ m. count-most (partOf b (sharedBlock E coords (getD run n 0) b) m) (λ i j k. names (firstCovering E coords (drop (n + 1) run) i j k) s)), count-parts b (sharedBlock E coords (getD run n 0) b) core-inside (λ i j k. true))
+        omega (arith, rw all at (total-front (λ m. sizeOf (partOf b core m)) (suc side) (5 - side)), only-most (eqb (getD run n 0) s) (sizeOf core), total-up side _ _ (λ m. count-most (partOf b core m) (λ i j k. names (firstCovering E coords (drop (n + 1) run) i j k) s)), count-parts b core core-inside (λ i j k. true))
 
     module _ {shot : ℕ} (shot-is : shot ≡ getD run n 0) {c : Block} (c-is : c ≡ sharedBlock E coords shot b) {rest : List ℕ} (rest-is : rest ≡ drop (n + 1) run) where
       part-fits : (side : ℕ) → Small b → Small (partOf b c side)
-      part-fits side h = rw (c-is, shot-is) (part-small b (sharedBlock E coords (getD run n 0) b) core-inside side h)
+      part-fits side h = rw (c-is, shot-is) (part-small b core core-inside side h)
 
       -- the credits before the call, with the shot's own, with those of some parts
       module _ (l₀ l₁ l₂ : List ℕ) (own : l₁ ≡ added l₀ (only shot (sizeOf (sharedBlock E coords shot b)))) where
-        both : (side : ℕ) → l₂ ≡ added l₁ (sidesIn E coords rest b c side) → l₂ ≡ added l₀ (λ s. only (getD run n 0) (sizeOf (sharedBlock E coords (getD run n 0) b)) s + sidesIn E coords (drop (n + 1) run) b (sharedBlock E coords (getD run n 0) b) side s)
+        both : (side : ℕ) → l₂ ≡ added l₁ (sidesIn E coords rest b c side) → l₂ ≡ added l₀ (λ s. only (getD run n 0) (sizeOf core) s + sidesIn E coords (drop (n + 1) run) b core side s)
         both side e = e ∙ rw (own, c-is, shot-is, rest-is) (added-more l₀ _ _)
 
         part-room : (side : ℕ) → side < 6 → l₂ ≡ added l₁ (sidesIn E coords rest b c side) → RoomFor (sizeOf b) l₀ → RoomFor (sizeOf (partOf b c side)) l₂
         part-room side l e r =
-            rw (both side e, c-is, shot-is) (room-added (sizeOf b) (sizeOf (partOf b (sharedBlock E coords (getD run n 0) b) side)) l₀ _ (carved-few side l) r)
+            rw (both side e, c-is, shot-is) (room-added (sizeOf b) (sizeOf (partOf b core side)) l₀ _ (carved-few side l) r)
 
         -- so a part may be carved
         pub carve-ready : (side : ℕ) → side < 6 → l₂ ≡ added l₁ (sidesIn E coords rest b c side) → {p : Block} → p ≡ partOf b c side → Small b × ((shotCount coords ≤ length l₀) × RoomFor (sizeOf b) l₀) → Small p × ((shotCount coords ≤ length l₂) × RoomFor (sizeOf p) l₂)

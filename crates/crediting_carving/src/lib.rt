@@ -2,7 +2,7 @@
 // cell by cell. The first shot that meets the block gets its part of it; what is left of the block is at most six blocks, and each is carved
 // by the shots after that one.
 //
-// specs/Blocks.antt says what is counted; proofs/PartLaws.antt, that a block's count is that of the shot's part and of the six around it.
+// specs/Blocks.antt says what is counted; proofs/BlockLaws.antt, that a block's count is that of a block in it and of the six parts around that.
 // Stands on `grid_cover`, whose cover test it counts by, and on `job`, `grid` and `lattice`.
 pub mod blocks;
 

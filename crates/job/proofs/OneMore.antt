@@ -1,4 +1,4 @@
--- One test more after a list of tests: how the checks pass, and when they refuse. Refusals 10, 11 and 12 come so after those of a list:
+-- One test more after a list of tests: how the checks pass, and when they refuse. Refusals 10, 11, 12 and 16 come so after those of a list:
 -- docs/SCOPE.md, 'When a job is refused'. Assumes nothing.
 use mathlib.Core.Path.{_≡_, refl, sym, ap, _∙_}
 use mathlib.Core.Bool.{Bool, true, false, cond}
