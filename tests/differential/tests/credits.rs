@@ -117,18 +117,24 @@ fn shots_of_credit_0_can_be_left_out() {
     assert!(left_out > 1_000, "{left_out} lists have a shot of credit 0");
 }
 
-/// The largest credit, and cubes that meet in the largest field.
+/// The largest credit, cubes that meet in the largest field, and random ones in coarse and fine grids.
 #[test]
 fn the_field_of_1024() {
     if std::env::var("HEQDANU_TESTS").is_ok_and(|tests| tests == "quick") {
         return;
     }
-    for (edge, grid, coords) in [
-        (1024, 1, vec![0; 9]),
-        (1000, 2, vec![24, 24, 24, 0, 0, 0, 24, 0, 24]),
-        (300, 16, vec![0, 0, 0, 724, 724, 724, 512, 512, 512, 100, 200, 299]),
-    ] {
-        let list = List { field: 1024, edge, grid, coords };
+    let hold = |edge, grid, coords: &[u16]| {
+        let list = List { field: 1024, edge, grid, coords: coords.to_vec() };
         assert_eq!(credits(&lent(&list)), Ok(oracle::credits::credits(&list)), "{list:?}");
+    };
+    hold(1024, 1, &[0; 9]);
+    hold(1000, 2, &[24, 24, 24, 0, 0, 0, 24, 0, 24]);
+    hold(300, 16, &[0, 0, 0, 724, 724, 724, 512, 512, 512, 100, 200, 299]);
+    let mut random = Random::new(76);
+    for (edge, shots) in [(1, 4_096), (9, 1_500), (40, 300), (200, 40)] {
+        let coords: Vec<u16> = (0..3 * shots).map(|_| random.within(0, 1024 - edge) as u16).collect();
+        for grid in [1, 8, 64] {
+            hold(edge as u16, grid, &coords);
+        }
     }
 }
