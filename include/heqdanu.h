@@ -75,8 +75,9 @@ enum {
     HEQDANU_VOLUME = 2,
     HEQDANU_AREA = 3,
     HEQDANU_EDGE_LENGTH = 4,
-    HEQDANU_CORNERS = 5,
-    HEQDANU_MEASURE_ANSWER = 6,
+    HEQDANU_INNER_LENGTH = 5,
+    HEQDANU_CORNERS = 6,
+    HEQDANU_MEASURE_ANSWER = 7,
     /* heqdanu_index */
     HEQDANU_INDEX_ANSWER = 2,
     /* heqdanu_credit */
@@ -95,7 +96,7 @@ enum {
     HEQDANU_WRITE_BYTES = 2,
     HEQDANU_WRITE_ANSWER = 3,
     /* enough for every call */
-    HEQDANU_ANSWER = 6
+    HEQDANU_ANSWER = 7
 };
 
 /* Bytes of a listing's record: x, y, z in 16 bits each, least byte first, then the pattern byte. */
@@ -104,8 +105,9 @@ enum {
 /* Measures a list.
  *
  * answer: number, detail, volume (covered unit cells), area (unit squares with one of their two cells covered), edge
- * length (unit edges: 1 where one or three of the four cells about it are covered, 2 where two that share only the
- * edge are), corner count (lattice points that carry a weight).
+ * length (outer unit edges: 1 where one of the four cells about it is covered, 2 where two that share only the edge
+ * are), inner length (unit edges with three of the four covered, 1 each), corner count (lattice points that carry a
+ * weight); HEQDANU_MEASURE_ANSWER places.
  *
  * `work` takes the grid index. It needs grid*grid*grid + 1 entries and one for each pair of a grid cell and a shot that
  * touches it; call with any shorter slice to learn the need from refusal 10.
@@ -120,7 +122,7 @@ uint8_t heqdanu_measure(uint16_t field, uint16_t edge, uint16_t grid, const uint
 
 /* Measures a list and lists its corner points.
  *
- * answer: as heqdanu_measure.
+ * answer: as heqdanu_measure, HEQDANU_MEASURE_ANSWER places.
  *
  * `listing` takes HEQDANU_RECORD bytes a corner, rising by x, then y, then z. Bit 4a+2b+c of the pattern is set if the
  * cell there is covered; a is 1 for the cell above the point on x and 0 for the one below, b and c likewise on y, z.
@@ -187,9 +189,9 @@ uint8_t heqdanu_covers(uint16_t edge, const uint16_t *coords, size_t ncoords, co
 
 /* Reads a shot file.
  *
- * answer: number, detail, field, edge, grid, number of shots. What the file's header leaves out is field 1,024, edge
- * 16, grid 16; with that grid the work slice needs 4,097 entries and the pairs. The ranges of these numbers and of the
- * coordinates are not tested; the calls that take the list do that.
+ * answer: number, detail, field, edge, grid, number of shots (HEQDANU_READ_ANSWER places). What the file's header leaves
+ * out is field 1,024, edge 16, grid 16; with that grid the work slice needs 4,097 entries and the pairs. The ranges of
+ * these numbers and of the coordinates are not tested; the calls that take the list do that.
  *
  * `coords` takes three numbers a shot; 12,288 places are enough for every file.
  *
@@ -202,8 +204,9 @@ uint8_t heqdanu_read(const uint8_t *bytes, size_t nbytes, uint16_t *coords, size
 
 /* Reads a VOX file of the voxel editor MagicaVoxel: each voxel is a shot of edge 1, in file order.
  *
- * answer: number, detail, field (the largest side of SIZE), edge 1, grid 1, number of voxels. Every such list is
- * accepted by the calls that take one, and its index needs the number of voxels and 2 more work entries.
+ * answer: number, detail, field (the largest side of SIZE), edge 1, grid 1, number of voxels (HEQDANU_READ_ANSWER
+ * places). Every such list is accepted by the calls that take one, and its index needs the number of voxels and 2 more
+ * work entries.
  *
  * The file is the mark `VOX ` and version 150, then the chunk MAIN without content, whose children are the rest of the
  * file: SIZE, XYZI, and any others, which are skipped with their children. A chunk is a name of four bytes, the sizes

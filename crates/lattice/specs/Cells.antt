@@ -1,4 +1,4 @@
--- Unit cells, and the three totals by counting them: docs/SCOPE.md, 'Cells and the three totals'.
+-- Unit cells, and the three totals by counting them: docs/SCOPE.md, 'Cells and totals'.
 -- A solid is the predicate of its cells. A field of side n has the cells with i, j, k < n and the lattice points with x, y, z ≤ n.
 use mathlib.Core.Bool.{Bool, true, false, not}
 use Prim.Native.Nat.{ℕ, zero, suc, _+_, _*_, _<_}

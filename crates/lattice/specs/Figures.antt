@@ -1,4 +1,4 @@
--- The figures of a solid: docs/SCOPE.md, 'Cells and the three totals' and 'Corner points'.
+-- The figures of a solid: docs/SCOPE.md, 'Cells and totals' and 'Corner points'.
 -- A figure is an index, with its count of cells and its term: a law of figures is said once over the index, and one more figure is one
 -- constructor with its clauses. Counts are signed, so that a figure may be negative.
 use Prim.Native.Nat.{ℕ}

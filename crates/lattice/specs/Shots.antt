@@ -1,4 +1,4 @@
--- Shots and the cells that they cover: docs/SCOPE.md, 'The job' and 'Cells and the three totals'.
+-- Shots and the cells that they cover: docs/SCOPE.md, 'The job' and 'Cells and totals'.
 use mathlib.Core.Bool.{Bool, false, _&&_, _||_}
 use mathlib.Core.List.{List, [], _∷_}
 use Prim.Native.Nat.{ℕ, _+_, _≤_}

@@ -1,4 +1,4 @@
-// The unit edges at a lattice point, and the corner test, from the pattern byte: docs/SCOPE.md, 'Cells and the three totals' and
+// The unit edges at a lattice point, and the corner test, from the pattern byte: docs/SCOPE.md, 'Cells and totals' and
 // 'Corner points'.
 ghost use mathlib.Core.Path.{_≡_};
 ghost use mathlib.Core.Bool.{Bool, false};
