@@ -8,6 +8,7 @@ use lib.Dec.{leb, ltb}
 use borrow.Author.Tests.{lt-ltb, le-ltb, leb-true, leb-false}
 use Rattle.lattice.specs.Sums.{total}
 use Rattle.lattice.specs.Cells.{bit}
+use Rattle.lattice.proofs.SumLaws.{total-plus}
 
 pub total-agree : (n : ℕ) (f g : ℕ → ℕ) → ((i : ℕ) → i < n → f i ≡ g i) → total n f ≡ total n g
 unfolding total
@@ -33,11 +34,6 @@ total-none : (n : ℕ) → total n (λ i. 0) ≡ 0
 unfolding total
 total-none zero = refl
 total-none (suc n) = omega (arith, total-none n)
-
-pub total-plus : (n : ℕ) (f g : ℕ → ℕ) → total n (λ i. f i + g i) ≡ total n f + total n g
-unfolding total
-total-plus zero f g = refl
-total-plus (suc n) f g = omega (arith, total-plus n f g)
 
 -- in either order
 pub total-swap : (n m : ℕ) (f : ℕ → ℕ → ℕ) → total n (λ i. total m (λ j. f i j)) ≡ total m (λ j. total n (λ i. f i j))

@@ -17,7 +17,8 @@ use Rattle.lattice.proofs.Order.{corners-rising, corners-exactly}
 use Rattle.lattice.proofs.SameSolid.{listing-same}
 
 module _ (n : ℕ) (s : Cells) (within : Within n s) where
-  -- over corner points only, volume is the sum of x·y·z·w, area of y·z·ax + x·z·ay + x·y·az, edge length of x·ex + y·ey + z·ez
+  -- over corner points only, volume is the sum of x·y·z·w, area of y·z·ax + x·z·ay + x·y·az, edge length of x·ex + y·ey + z·ez, inner
+  -- length of x·ix + y·iy + z·iz
   pub corner-sums : (f : Figure) → cornerSum (term f) (corners n s) ≡ cellCount f n s
   corner-sums f = corners-points n s (term f) (figure-weighted f) ∙ figure-points n s within f
 

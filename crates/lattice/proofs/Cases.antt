@@ -5,7 +5,7 @@ use Prim.Native.Nat.{ℕ, zero, suc, _+_, _<_}
 use native.Mathlib.Nat.{add-zero, zero-add, add-suc, suc-add, le-of-suc-le-suc, not-suc-le-zero}
 use lib.Dec.{T}
 use Rattle.lattice.specs.Pattern.{Pattern}
-use Rattle.lattice.specs.Figures.{Figure, Volume, Area, EdgeLength}
+use Rattle.lattice.specs.Figures.{Figure, Volume, Area, EdgeLength, InnerLength}
 
 pub and-left : (a b : Bool) → T (a && b) → T a
 and-left true b t = tt
@@ -82,19 +82,22 @@ eachPattern-at f t p =
     (eachFour-at (λ h. f (layers (p false) h)) (eachFour-at (λ l. eachFour λ h. f (layers l h)) t (p false)) (p true))
 
 -- the figures
-pub by-figure : (P : Figure → Type 0) → P Volume → P Area → P EdgeLength → (f : Figure) → P f
-by-figure P v a e Volume = v
-by-figure P v a e Area = a
-by-figure P v a e EdgeLength = e
+pub by-figure : (P : Figure → Type 0) → P Volume → P Area → P EdgeLength → P InnerLength → (f : Figure) → P f
+by-figure P v a e i Volume = v
+by-figure P v a e i Area = a
+by-figure P v a e i EdgeLength = e
+by-figure P v a e i InnerLength = i
 
 abbrev pub eachFigure : (Figure → Bool) → Bool
-eachFigure g = g Volume && (g Area && g EdgeLength)
+eachFigure g = g Volume && (g Area && (g EdgeLength && g InnerLength))
 
 pub eachFigure-at : (g : Figure → Bool) → T (eachFigure g) → (f : Figure) → T (g f)
 eachFigure-at g t =
-    by-figure (λ f. T (g f)) (and-left (g Volume) (g Area && g EdgeLength) t)
-    (and-left (g Area) (g EdgeLength) (and-right (g Volume) (g Area && g EdgeLength) t))
-    (and-right (g Area) (g EdgeLength) (and-right (g Volume) (g Area && g EdgeLength) t))
+    let lengths : Bool = g EdgeLength && g InnerLength in
+    let past-volume : T (g Area && lengths) = and-right (g Volume) (g Area && lengths) t in
+    let past-area : T lengths = and-right (g Area) lengths past-volume in
+    by-figure (λ f. T (g f)) (and-left (g Volume) (g Area && lengths) t) (and-left (g Area) lengths past-volume)
+    (and-left (g EdgeLength) (g InnerLength) past-area) (and-right (g EdgeLength) (g InnerLength) past-area)
 
 -- the numbers i, i + 1, .. i + n - 1
 abbrev pub eachFrom : (ℕ → Bool) → ℕ → ℕ → Bool

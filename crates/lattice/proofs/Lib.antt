@@ -5,6 +5,7 @@ pub mod JoinLaws
 pub mod Inside
 pub mod PointSums
 pub mod Cases
+pub mod LengthLaws
 pub mod PatternLaws
 pub mod ShotLaws
 pub mod ListingLaws

@@ -10,7 +10,7 @@ use lib.ListN.{length}
 use Rattle.lattice.specs.Sums.{sum, join}
 use Rattle.lattice.specs.Cells.{Cells, bit}
 use Rattle.lattice.specs.Pattern.{Pattern, around, byte, corner, Term}
-use Rattle.lattice.specs.Figures.{Figure, Volume, Area, EdgeLength, term}
+use Rattle.lattice.specs.Figures.{Figure, Volume, Area, EdgeLength, InnerLength, term}
 use Rattle.lattice.specs.Listing.{Corner, here, corners, cornerCount, cornerRecord, bytes, listing, readBack, over, termAt, cornerSum}
 use Rattle.lattice.proofs.SumLaws.{sum-ext, total-ext}
 use Rattle.lattice.proofs.JoinLaws.{length-join}
@@ -86,3 +86,4 @@ pub figure-weighted : (f : Figure) → Weighted (term f)
 figure-weighted Volume x y z p e = rw (no-corner-zero p e 0) (*ℤ-zero (pos (x * y * z)))
 figure-weighted Area x y z p e = simp (no-corner-zero p e 1, no-corner-zero p e 2, no-corner-zero p e 3, mul-zero)
 figure-weighted EdgeLength x y z p e = simp (no-corner-zero p e 4, no-corner-zero p e 5, no-corner-zero p e 6, mul-zero)
+figure-weighted InnerLength x y z p e = simp (no-corner-zero p e 7, no-corner-zero p e 8, no-corner-zero p e 9, mul-zero)

@@ -6,7 +6,7 @@ use Prim.Native.Nat.{ℕ, zero, suc, zero-le, _<_, _≤_}
 use lib.Dec.{T, eqb, eqb→eq, leb, leb→le}
 use lib.IntN.{ℤ, pos, negsuc, natAbs}
 use lib.ListN.{getD}
-use Rattle.lattice.specs.Pattern.{Pattern, byte, ofByte, w, ax, ay, az, ex, ey, ez, weights, isZero, someNonzero, corner}
+use Rattle.lattice.specs.Pattern.{Pattern, byte, ofByte, w, ax, ay, az, ex, ey, ez, ix, iy, iz, weights, isZero, someNonzero, corner}
 use Rattle.lattice.specs.Axes.{Axis, x-axis, y-axis, z-axis}
 use Rattle.lattice.proofs.Cases.{same, same-at, each, each-at, eachPattern-at, eachBelow-at, and-left, and-right}
 
@@ -25,12 +25,12 @@ unfolding byte ofByte
 byte-ofByte n h = eqb→eq (byte (ofByte n)) n (eachBelow-at (λ n. eqb (byte (ofByte n)) n) 256 tt n h)
 
 -- ---- the range of the weights
--- w is within -4 and 4, the others within -2 and 2
+-- w is within -4 and 4, the weights of area and edge length within -2 and 2, those of inner length within -1 and 1
 abbrev pub Small : ℕ → (Pattern → ℤ) → Type 0
 Small m f = (p : Pattern) → natAbs (f p) ≤ m
 
 abbrev pub largest : List ℕ
-largest = 4 ∷ 2 ∷ 2 ∷ 2 ∷ 2 ∷ 2 ∷ 2 ∷ []
+largest = 4 ∷ 2 ∷ 2 ∷ 2 ∷ 2 ∷ 2 ∷ 2 ∷ 1 ∷ 1 ∷ 1 ∷ []
 
 abbrev inRange : List ℤ → List ℕ → Bool
 inRange (k ∷ ks) (m ∷ ms) = leb (natAbs k) m && inRange ks ms
@@ -43,9 +43,9 @@ range-at (k ∷ ks) [] t i = absurd t
 range-at (k ∷ ks) (m ∷ ms) t zero = leb→le (natAbs k) m (and-left (leb (natAbs k) m) (inRange ks ms) t)
 range-at (k ∷ ks) (m ∷ ms) t (suc i) = range-at ks ms (and-right (leb (natAbs k) m) (inRange ks ms) t) i
 
--- weight i of the seven, counted from 0
+-- weight i of the ten, counted from 0
 pub weight-small : (i : ℕ) (p : Pattern) → natAbs (getD (weights p) i (pos 0)) ≤ getD largest i 0
-unfolding w ax ay az ex ey ez
+unfolding w ax ay az ex ey ez ix iy iz
 weight-small i p = range-at (weights p) largest (eachPattern-at (λ p. inRange (weights p) largest) tt p) i
 
 -- ---- a point that is no corner weighs nothing
@@ -82,7 +82,7 @@ abbrev pub changes : Axis → Pattern → Bool
 changes axis p = not (each λ b. each λ c. same (turned axis p false b c) (turned axis p true b c))
 
 pub corner-changes : (p : Pattern) → corner p ≡ (changes x-axis p && (changes y-axis p && changes z-axis p))
-unfolding corner someNonzero w ax ay az ex ey ez
+unfolding corner someNonzero w ax ay az ex ey ez ix iy iz
 corner-changes p =
     same-at (corner p) (changes x-axis p && (changes y-axis p && changes z-axis p))
     (eachPattern-at (λ p. same (corner p) (changes x-axis p && (changes y-axis p && changes z-axis p))) tt p)

@@ -5,9 +5,9 @@ use Prim.Native.Nat.{ℕ, suc, _+_, _*_}
 use native.Mathlib.Nat.{one-mul, mul-one}
 use lib.IntN.{ℤ, pos, _+ℤ_, _-ℤ_, _*ℤ_}
 use Rattle.lattice.specs.Sums.{sum}
-use Rattle.lattice.specs.Cells.{Cells, Within, below, up, bit, volume, OfTwo, areaBy, square, OfFour, lengthBy, edge}
-use Rattle.lattice.specs.Pattern.{Pattern, around, sign, both, w, ax, ay, az, ex, ey, ez, across-x, across-y, across-z, along-x, along-y, along-z, volumeTerm}
-use Rattle.lattice.specs.Figures.{Figure, Volume, Area, EdgeLength, cellCount, term}
+use Rattle.lattice.specs.Cells.{Cells, Within, below, up, bit, volume, OfTwo, areaBy, square, OfFour, lengthBy, edge, innerEdge}
+use Rattle.lattice.specs.Pattern.{Pattern, around, sign, both, w, ax, ay, az, ex, ey, ez, ix, iy, iz, across-x, across-y, across-z, along-x, along-y, along-z, volumeTerm}
+use Rattle.lattice.specs.Figures.{Figure, Volume, Area, EdgeLength, InnerLength, cellCount, term}
 use Rattle.lattice.proofs.Integers.{one-*ℤ, minus-one-*ℤ, *ℤ-dist, *ℤ-assoc}
 use Rattle.lattice.proofs.SumLaws.{sum-ext, sum-add}
 use Rattle.lattice.proofs.ByParts.{scale, falls, countedℕ, by-parts-count, Vanishes}
@@ -117,7 +117,8 @@ module _ (n : ℕ) (s : Cells) (within : Within n s) where
 
   -- over all points each figure is the sum of its terms
   pub figure-points : (f : Figure) → (points n λ x y z. term f x y z (around s x y z)) ≡ cellCount f n s
-  unfolding ax ay az ex ey ez
+  unfolding ax ay az ex ey ez ix iy iz
   figure-points Volume = volume-points
   figure-points Area = area-points square refl
   figure-points EdgeLength = length-points edge refl
+  figure-points InnerLength = length-points innerEdge refl

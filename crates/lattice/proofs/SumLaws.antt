@@ -41,6 +41,20 @@ unfolding sum
 sum-zero zero h = refl
 sum-zero (suc n) h = rw (sum-zero n h, h n)
 
+pub total-plus : (n : ℕ) (f g : ℕ → ℕ) → total n (λ i. f i + g i) ≡ total n f + total n g
+unfolding total
+total-plus zero f g = refl
+total-plus (suc n) f g = omega (arith, total-plus n f g)
+
+-- three nested totals
+pub totals-plus : (k m l : ℕ) (f g : ℕ → ℕ → ℕ → ℕ)
+    → (total k λ x. total m λ y. total l λ z. f x y z + g x y z) ≡ (total k λ x. total m λ y. total l λ z. f x y z) + (total k λ x. total m λ y. total l λ z. g x y z)
+totals-plus k m l f g =
+    total-ext k (λ x.
+    total-ext m (λ y. total-plus l (f x y) (g x y))
+    ∙ total-plus m (λ y. total l (f x y)) (λ y. total l (g x y)))
+    ∙ total-plus k (λ x. total m λ y. total l (f x y)) (λ x. total m λ y. total l (g x y))
+
 pub total-bound : (m : ℕ) (f : ℕ → ℕ) → ((i : ℕ) → f i ≤ m) → (n : ℕ) → total n f ≤ n * m
 unfolding total
 total-bound m f h zero = omega (arith, zero-mul m)

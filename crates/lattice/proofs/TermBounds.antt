@@ -3,8 +3,8 @@ use Prim.Native.Nat.{ℕ, _+_, _*_, _≤_}
 use native.Mathlib.Nat.{mul-le-mul, le-trans, le-of-eq}
 use native.Mathlib.Omega.{arith}
 use lib.IntN.{ℤ, pos, natAbs, _+ℤ_, _*ℤ_}
-use Rattle.lattice.specs.Pattern.{Pattern, w, ax, ay, az, ex, ey, ez}
-use Rattle.lattice.specs.Figures.{Figure, Volume, Area, EdgeLength, term, largestTerm}
+use Rattle.lattice.specs.Pattern.{Pattern, w, ax, ay, az, ex, ey, ez, ix, iy, iz}
+use Rattle.lattice.specs.Figures.{Figure, Volume, Area, EdgeLength, InnerLength, term, largestTerm}
 use Rattle.lattice.proofs.Integers.{natAbs-add, natAbs-mul}
 use Rattle.lattice.proofs.PatternLaws.{weight-small}
 
@@ -32,3 +32,6 @@ term-small Volume x y z p hx hy hz = scaled-small 1073741824 4 (x * y * z) (w p)
 term-small Area x y z p hx hy hz =
     sum-of-three (y * z) (x * z) (x * y) (ax p) (ay p) (az p) (two-small y z hy hz) (two-small x z hx hz) (two-small x y hx hy) (weight-small 1 p) (weight-small 2 p) (weight-small 3 p)
 term-small EdgeLength x y z p hx hy hz = sum-of-three x y z (ex p) (ey p) (ez p) (omega arith) (omega arith) (omega arith) (weight-small 4 p) (weight-small 5 p) (weight-small 6 p)
+term-small InnerLength x y z p hx hy hz =
+    sum-of-three x y z (ix p) (iy p) (iz p) (omega arith) (omega arith) (omega arith)
+    (omega (arith, weight-small 7 p)) (omega (arith, weight-small 8 p)) (omega (arith, weight-small 9 p))

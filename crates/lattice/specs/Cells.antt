@@ -1,8 +1,8 @@
--- Unit cells, and the three totals by counting them: docs/SCOPE.md, 'Cells and totals'.
+-- Unit cells, and the four totals by counting them: docs/SCOPE.md, 'Cells and totals'.
 -- A solid is the predicate of its cells. A field of side n has the cells with i, j, k < n and the lattice points with x, y, z ≤ n.
 use mathlib.Core.Bool.{Bool, true, false, not}
 use Prim.Native.Nat.{ℕ, zero, suc, _+_, _*_, _<_}
-use lib.Dec.{T}
+use lib.Dec.{T, eqb}
 use Rattle.lattice.specs.Sums.{total}
 
 -- cell (i, j, k) fills i to i + 1, j to j + 1, k to k + 1
@@ -78,7 +78,7 @@ lengthBy count n s =
 abbrev pub covered : OfFour
 covered q = bit (q false false) + bit (q false true) + bit (q true false) + bit (q true true)
 
--- one or three count 1; two that share only the unit edge count 2; all else 0
+-- outer unit edges: one counts 1; two that share only the unit edge count 2; all else 0
 abbrev pub edge : OfFour
 edge q = by (covered q) (alike (q false false) (q true true))
   where
@@ -91,8 +91,14 @@ edge q = by (covered q) (alike (q false false) (q true true))
     by zero opposite = 0
     by (suc zero) opposite = 1
     by (suc (suc zero)) opposite = bit opposite + bit opposite
-    by (suc (suc (suc zero))) opposite = 1
-    by (suc (suc (suc (suc n)))) opposite = 0
+    by (suc (suc (suc n))) opposite = 0
 
 abbrev pub edgeLength : ℕ → Cells → ℕ
 edgeLength = lengthBy edge
+
+-- inner unit edges: three count 1; all else 0
+abbrev pub innerEdge : OfFour
+innerEdge q = bit (eqb (covered q) 3)
+
+abbrev pub innerLength : ℕ → Cells → ℕ
+innerLength = lengthBy innerEdge

@@ -5,7 +5,7 @@ use mathlib.Core.List.{List, [], _∷_}
 use Prim.Native.Nat.{ℕ, _+_, _*_, _/_, _%_, _^_}
 use lib.Dec.{eqb}
 use lib.IntN.{ℤ, pos, negsuc, _+ℤ_, _-ℤ_, _*ℤ_}
-use Rattle.lattice.specs.Cells.{Cells, below, up, bit, OfTwo, OfFour, square, edge}
+use Rattle.lattice.specs.Cells.{Cells, below, up, bit, OfTwo, OfFour, square, edge, innerEdge}
 
 abbrev pub Pattern : Type 0
 Pattern = Bool → Bool → Bool → Bool
@@ -79,8 +79,17 @@ ey = along-y edge
 unfoldable pub ez : Pattern → ℤ
 ez = along-z edge
 
+unfoldable pub ix : Pattern → ℤ
+ix = along-x innerEdge
+
+unfoldable pub iy : Pattern → ℤ
+iy = along-y innerEdge
+
+unfoldable pub iz : Pattern → ℤ
+iz = along-z innerEdge
+
 abbrev pub weights : Pattern → List ℤ
-weights p = w p ∷ ax p ∷ ay p ∷ az p ∷ ex p ∷ ey p ∷ ez p ∷ []
+weights p = w p ∷ ax p ∷ ay p ∷ az p ∷ ex p ∷ ey p ∷ ez p ∷ ix p ∷ iy p ∷ iz p ∷ []
 
 -- a corner point: some weight is not zero
 abbrev pub isZero : ℤ → Bool
@@ -94,7 +103,7 @@ someNonzero (k ∷ ks) = not (isZero k) || someNonzero ks
 unfoldable pub corner : Pattern → Bool
 corner p = someNonzero (weights p)
 
--- what a point of pattern p adds to the three corner sums
+-- what a point of pattern p adds to the four corner sums
 abbrev pub Term : Type 0
 Term = ℕ → ℕ → ℕ → Pattern → ℤ
 
@@ -106,3 +115,6 @@ areaTerm x y z p = pos (y * z) *ℤ ax p +ℤ pos (x * z) *ℤ ay p +ℤ pos (x 
 
 abbrev pub edgeTerm : Term
 edgeTerm x y z p = pos x *ℤ ex p +ℤ pos y *ℤ ey p +ℤ pos z *ℤ ez p
+
+abbrev pub innerTerm : Term
+innerTerm x y z p = pos x *ℤ ix p +ℤ pos y *ℤ iy p +ℤ pos z *ℤ iz p

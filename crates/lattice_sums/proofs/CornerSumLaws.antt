@@ -12,7 +12,7 @@ use mir.Val.{Fits, SFits, toZ, ofZ}
 use mir.Facts.{toZ-ofZ, toZ-pos}
 use Rattle.lattice.specs.Cells.{Cells, Within, fieldPoints}
 use Rattle.lattice.specs.Pattern.{ofByte, Term}
-use Rattle.lattice.specs.Figures.{Figure, Volume, Area, EdgeLength, cellCount, term, largestTerm}
+use Rattle.lattice.specs.Figures.{Figure, Volume, Area, EdgeLength, InnerLength, cellCount, term, largestTerm}
 use Rattle.lattice.specs.Listing.{Corner, corners, termAt, over, cornerSum}
 use Rattle.lattice_sums.specs.CornerSums.{sumIn, value, sumsBy, sumsOf, added, Room, RoomFor, Whole, totalsOf}
 use Rattle.lattice_sums.specs.declared.sums.Totals.{Totals}
@@ -77,6 +77,7 @@ pub sum-by : (f : Figure) (g : Figure → ℤ) (n : ℕ) → sumIn f (sumsBy g n
 sum-by Volume g n = refl
 sum-by Area g n = refl
 sum-by EdgeLength g n = refl
+sum-by InnerLength g n = refl
 
 pub added-room : (t : CornerSums) (v : Corner) → v .x ≤ 1024 → v .y ≤ 1024 → v .z ≤ 1024 → (n : ℕ) → Room t n → Room (added t v) (n + 1)
 unfolding added
@@ -111,6 +112,7 @@ unfolding totalsOf
 value-counts Volume n s = refl
 value-counts Area n s = refl
 value-counts EdgeLength n s = refl
+value-counts InnerLength n s = refl
 
 -- the corner sums of a solid come to its totals by counting
 pub sums-whole : (n : ℕ) (s : Cells) → Within n s → Whole (sumsOf (corners n s)) (totalsOf n s)
@@ -122,7 +124,13 @@ sums-whole n s within = record {
 
 -- totals are known by the values of their figures and their corner count
 pub totals-known : {r u : Totals} → ((f : Figure) → value f r ≡ value f u) → r .corners ≡ u .corners → r ≡ u
-totals-known h k = λ i. record { volume = ap natAbs (h Volume) i; area = ap natAbs (h Area) i; edge = ap natAbs (h EdgeLength) i; corners = k i }
+totals-known h k = λ i. record {
+  volume = ap natAbs (h Volume) i;
+  area = ap natAbs (h Area) i;
+  edge = ap natAbs (h EdgeLength) i;
+  inner = ap natAbs (h InnerLength) i;
+  corners = k i;
+}
 
 pub whole-same : {t : CornerSums} {r u : Totals} → Whole t r → Whole t u → r ≡ u
 whole-same h k = totals-known (λ f. sym (h .figure-is f) ∙ k .figure-is f) (sym (h .corners-is) ∙ k .corners-is)

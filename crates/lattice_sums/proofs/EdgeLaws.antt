@@ -7,8 +7,8 @@ use lib.Dec.{T, eqb, eqb→eq}
 use lib.Bits.{bitAnd, bitXor}
 use lib.Count.{ones, onesIn}
 use borrow.Author.Tests.{eq-eqb, ne-eqb}
-use Rattle.lattice.specs.Cells.{covered, edge}
-use Rattle.lattice.specs.Pattern.{ofByte, corner, someNonzero, w, ax, ay, az, ex, ey, ez}
+use Rattle.lattice.specs.Cells.{bit, covered, edge, innerEdge}
+use Rattle.lattice.specs.Pattern.{ofByte, corner, someNonzero, w, ax, ay, az, ex, ey, ez, ix, iy, iz}
 use Rattle.lattice_sums.specs.UnitEdges.{fourAbout}
 use Rattle.lattice_sums.specs.declared.edges.UnitEdge.{UnitEdge}
 use Rattle.lattice_sums.specs.declared.edges.UnitEdge.the-variants.{BelowX, AboveX, BelowY, AboveY, BelowZ, AboveZ}
@@ -96,34 +96,29 @@ pub past : (n q : ℕ) → Past n q → n ≤ q
 past zero q h = zero-le
 past (suc n) q h = omega (arith, past n q (h .0), h .1)
 
--- how many of the four cells are covered decides, but for two
+-- how many of the four cells are covered decides, but for two of an outer edge
 abbrev byCount : (Bool → Bool → Bool) → Bool
-byCount q = cond (eqb (covered q) 1) (eqb (edge q) 1) (cond (eqb (covered q) 3) (eqb (edge q) 1) (cond (eqb (covered q) 2) true (eqb (edge q) 0)))
+byCount q = cond (eqb (covered q) 1) (eqb (edge q) 1) (cond (eqb (covered q) 2) true (eqb (edge q) 0))
 
 module _ (q : Bool → Bool → Bool) {n : ℕ} (counts : n ≡ covered q) where
   tested-one : T (byCount q)
   tested-one = eachFour-at byCount tt q
 
-  not-one : (n ≡ 1 → ⊥) → T (cond (eqb (covered q) 3) (eqb (edge q) 1) (cond (eqb (covered q) 2) true (eqb (edge q) 0)))
-  not-one h =
-      chosen-false (eqb (covered q) 1) (eqb (edge q) 1) (cond (eqb (covered q) 3) (eqb (edge q) 1) (cond (eqb (covered q) 2) true (eqb (edge q) 0)))
-      tested-one (ne-eqb (covered q) 1 (λ k. h (counts ∙ k)))
-
   pub edge-one : n ≡ 1 → 1 ≡ edge q
   edge-one h = sym (eqb→eq (edge q) 1
-      (chosen-true (eqb (covered q) 1) (eqb (edge q) 1) (cond (eqb (covered q) 3) (eqb (edge q) 1) (cond (eqb (covered q) 2) true (eqb (edge q) 0)))
-      tested-one (eq-eqb (covered q) 1 (sym counts ∙ h))))
+      (chosen-true (eqb (covered q) 1) (eqb (edge q) 1) (cond (eqb (covered q) 2) true (eqb (edge q) 0)) tested-one (eq-eqb (covered q) 1 (sym counts ∙ h))))
 
-  pub edge-three : n ≡ 3 → 1 ≡ edge q
-  edge-three h = sym (eqb→eq (edge q) 1
-      (chosen-true (eqb (covered q) 3) (eqb (edge q) 1) (cond (eqb (covered q) 2) true (eqb (edge q) 0))
-      (not-one (λ k. omega (arith, h, k))) (eq-eqb (covered q) 3 (sym counts ∙ h))))
-
-  pub edge-none : (n ≡ 1 → ⊥) → (n ≡ 3 → ⊥) → (n ≡ 2 → ⊥) → 0 ≡ edge q
-  edge-none one three two = sym (eqb→eq (edge q) 0
+  pub edge-none : (n ≡ 1 → ⊥) → (n ≡ 2 → ⊥) → 0 ≡ edge q
+  edge-none one two = sym (eqb→eq (edge q) 0
       (chosen-false (eqb (covered q) 2) true (eqb (edge q) 0)
-      (chosen-false (eqb (covered q) 3) (eqb (edge q) 1) (cond (eqb (covered q) 2) true (eqb (edge q) 0))
-      (not-one one) (ne-eqb (covered q) 3 (λ k. three (counts ∙ k)))) (ne-eqb (covered q) 2 (λ k. two (counts ∙ k)))))
+      (chosen-false (eqb (covered q) 1) (eqb (edge q) 1) (cond (eqb (covered q) 2) true (eqb (edge q) 0))
+      tested-one (ne-eqb (covered q) 1 (λ k. one (counts ∙ k)))) (ne-eqb (covered q) 2 (λ k. two (counts ∙ k)))))
+
+  pub inner-three : n ≡ 3 → 1 ≡ innerEdge q
+  inner-three h = ap bit (sym (eq-eqb (covered q) 3 (sym counts ∙ h)))
+
+  pub inner-none : (n ≡ 3 → ⊥) → 0 ≡ innerEdge q
+  inner-none h = ap bit (sym (ne-eqb (covered q) 3 (λ k. h (counts ∙ k))))
 
 -- ---- the corner test, axis after axis
 abbrev steady-y : ℕ → ℕ
@@ -139,7 +134,7 @@ onXYZ : ℕ → Bool
 onXYZ p = cond (eqb (p / 16) (p % 16)) (not (corner (ofByte p))) (onYZ p)
 
 all-on : T (eachFrom onXYZ 0 256)
-unfolding onXYZ onYZ ofByte corner someNonzero w ax ay az ex ey ez
+unfolding onXYZ onYZ ofByte corner someNonzero w ax ay az ex ey ez ix iy iz
 all-on = tt
 
 refuted : (b : Bool) → T (not b) → false ≡ b

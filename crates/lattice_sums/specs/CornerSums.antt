@@ -4,8 +4,8 @@ use mathlib.Core.List.{List}
 use Prim.Native.Nat.{ℕ, _+_, _-_, _*_, _≤_}
 use lib.IntN.{ℤ, pos, natAbs, _+ℤ_}
 use lib.ListN.{length}
-use Rattle.lattice.specs.Cells.{Cells, fieldPoints, volume, area, edgeLength}
-use Rattle.lattice.specs.Figures.{Figure, Volume, Area, EdgeLength, term, largestTerm}
+use Rattle.lattice.specs.Cells.{Cells, fieldPoints, volume, area, edgeLength, innerLength}
+use Rattle.lattice.specs.Figures.{Figure, Volume, Area, EdgeLength, InnerLength, term, largestTerm}
 use Rattle.lattice.specs.Listing.{Corner, cornerCount, termAt, cornerSum}
 use Rattle.lattice_sums.specs.declared.sums.CornerSums.{CornerSums}
 use Rattle.lattice_sums.specs.declared.sums.Totals.{Totals}
@@ -15,16 +15,18 @@ abbrev pub sumIn : Figure → CornerSums → ℤ
 sumIn Volume t = t .volume
 sumIn Area t = t .area
 sumIn EdgeLength t = t .edge
+sumIn InnerLength t = t .inner
 
 -- the value of a figure in the totals
 abbrev pub value : Figure → Totals → ℤ
 value Volume r = pos (r .volume)
 value Area r = pos (r .area)
 value EdgeLength r = pos (r .edge)
+value InnerLength r = pos (r .inner)
 
 -- sums by figure, and a corner count
 abbrev pub sumsBy : (Figure → ℤ) → ℕ → CornerSums
-sumsBy g n = record { volume = g Volume; area = g Area; edge = g EdgeLength; corners = n }
+sumsBy g n = record { volume = g Volume; area = g Area; edge = g EdgeLength; inner = g InnerLength; corners = n }
 
 -- the corner sums of a list of corners
 unfoldable pub sumsOf : List Corner → CornerSums
@@ -54,4 +56,4 @@ SomeTotals t = (r : Totals) × Whole t r
 
 -- the totals of a solid in a field of side n, by counting
 unfoldable pub totalsOf : ℕ → Cells → Totals
-totalsOf n s = record { volume = volume n s; area = area n s; edge = edgeLength n s; corners = cornerCount n s }
+totalsOf n s = record { volume = volume n s; area = area n s; edge = edgeLength n s; inner = innerLength n s; corners = cornerCount n s }

@@ -5,7 +5,7 @@ ghost use mathlib.Core.Bool.{Bool, false};
 ghost use Prim.Native.Nat.{ℕ, _<_};
 ghost use lib.Bits.{bitAnd};
 ghost use lib.Count.{ones};
-ghost use Rattle.lattice.specs.Cells.{covered, edge};
+ghost use Rattle.lattice.specs.Cells.{covered, edge, innerEdge};
 ghost use Rattle.lattice.specs.Pattern.{ofByte, corner};
 ghost use Rattle.lattice_sums.specs.UnitEdges.{fourAbout};
 
@@ -19,8 +19,8 @@ pub enum UnitEdge {
     AboveZ,
 }
 
-// What a unit edge counts, by which of the four cells about it are covered: the low four bits of q, where 1 and 8, and 2 and 4, share
-// only the edge.
+// What a unit edge counts as an outer one, by which of the four cells about it are covered: the low four bits of q, where 1 and 8, and
+// 2 and 4, share only the edge.
 pub fn edge_of_four(q: u8) -> u8
     ensures { λ r. ⌜ r ≡ edge (λ b c. ofByte q false b c) ⌝ }
 {
@@ -33,14 +33,14 @@ pub fn edge_of_four(q: u8) -> u8
         4 => 1,
         5 => 0,
         6 => 2,
-        7 => 1,
+        7 => 0,
         8 => 1,
         9 => 2,
         10 => 0,
-        11 => 1,
+        11 => 0,
         12 => 0,
-        13 => 1,
-        14 => 1,
+        13 => 0,
+        14 => 0,
         _ => 0,
     }
 }
@@ -73,14 +73,26 @@ fn low_four(p: u8, e: UnitEdge) -> u8
     }
 }
 
-// What a unit edge at a point of pattern p counts: how many of its four cells are covered selects, and for two of them which they are.
+// What a unit edge at a point of pattern p counts as an outer one: how many of its four cells are covered selects, and for two of them
+// which they are.
 pub fn unit_edge(p: u8, e: UnitEdge) -> u8
     ensures { λ r. ⌜ r ≡ edge (fourAbout e (ofByte p)) ⌝ }
 {
     let covered = u8::count_ones(p & mask(e));
     match covered {
-        1 | 3 => 1,
+        1 => 1,
         2 => edge_of_four(low_four(p, e)),
+        _ => 0,
+    }
+}
+
+// What a unit edge at a point of pattern p counts as an inner one: 1 if three of its four cells are covered.
+pub fn unit_inner(p: u8, e: UnitEdge) -> u8
+    ensures { λ r. ⌜ r ≡ innerEdge (fourAbout e (ofByte p)) ⌝ }
+{
+    let covered = u8::count_ones(p & mask(e));
+    match covered {
+        3 => 1,
         _ => 0,
     }
 }

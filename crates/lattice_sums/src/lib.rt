@@ -1,4 +1,4 @@
-// A pattern byte, read: its seven weights, its unit edges, whether it is a corner, and the corner sums point after point.
+// A pattern byte, read: its ten weights, its unit edges, whether it is a corner, and the corner sums point after point.
 //
 // Each function promises a definition of `lattice`; specs/ has the sums as they are taken and the totals that they come to. Stands on
 // `lattice` alone.

@@ -4,7 +4,7 @@ ghost use mathlib.Core.Path.{_≡_};
 ghost use Prim.Native.Nat.{_+_, _*_, _<_, _≤_};
 ghost use lib.IntN.{pos, natAbs, _+ℤ_, _*ℤ_};
 ghost use mathlib.Core.List.{[]};
-ghost use Rattle.lattice.specs.Pattern.{ofByte, volumeTerm, areaTerm, edgeTerm};
+ghost use Rattle.lattice.specs.Pattern.{ofByte, volumeTerm, areaTerm, edgeTerm, innerTerm};
 ghost use Rattle.lattice.specs.Figures.{largestTerm};
 ghost use Rattle.lattice_sums.specs.CornerSums.{sumsOf, added, RoomFor, Whole, SomeTotals};
 use crate::tables::weight_ax;
@@ -13,13 +13,17 @@ use crate::tables::weight_az;
 use crate::tables::weight_ex;
 use crate::tables::weight_ey;
 use crate::tables::weight_ez;
+use crate::tables::weight_ix;
+use crate::tables::weight_iy;
+use crate::tables::weight_iz;
 use crate::tables::weight_w;
 
-// The three sums so far, and how many corners they have.
+// The four sums so far, and how many corners they have.
 pub struct CornerSums {
     pub volume: i64,
     pub area: i64,
     pub edge: i64,
+    pub inner: i64,
     pub corners: usize,
 }
 
@@ -28,6 +32,7 @@ pub struct Totals {
     pub volume: u64,
     pub area: u64,
     pub edge: u64,
+    pub inner: u64,
     pub corners: usize,
 }
 
@@ -104,6 +109,21 @@ fn edge_term(x: u16, y: u16, z: u16, p: u8) -> i64
     )
 }
 
+// What a point adds to the inner length: x·ix + y·iy + z·iz.
+fn inner_term(x: u16, y: u16, z: u16, p: u8) -> i64
+    requires { ⌜ (x ≤ 1024) × (y ≤ 1024) × (z ≤ 1024) ⌝ }
+    ensures { λ r. ⌜ (r ≡ innerTerm x y z (ofByte p)) × (natAbs r ≤ largestTerm) ⌝ }
+{
+    three(
+        x as u64,
+        weight_ix(p),
+        y as u64,
+        weight_iy(p),
+        z as u64,
+        weight_iz(p),
+    )
+}
+
 // A sum that is not negative.
 fn whole(v: i64) -> u64
     requires { ⌜ v ≡ pos (natAbs v) ⌝ }
@@ -121,6 +141,7 @@ impl CornerSums {
             volume: 0,
             area: 0,
             edge: 0,
+            inner: 0,
             corners: 0,
         }
     }
@@ -134,6 +155,7 @@ impl CornerSums {
             volume: plus(self.volume, volume_term(x, y, z, p)),
             area: plus(self.area, area_term(x, y, z, p)),
             edge: plus(self.edge, edge_term(x, y, z, p)),
+            inner: plus(self.inner, inner_term(x, y, z, p)),
             corners: self.corners + 1,
         }
     }
@@ -147,6 +169,7 @@ impl CornerSums {
             volume: whole(self.volume),
             area: whole(self.area),
             edge: whole(self.edge),
+            inner: whole(self.inner),
             corners: self.corners,
         }
     }

@@ -1,14 +1,13 @@
 -- The count of ones of the masked byte is how many of the four cells are covered; it decides, and for two the four cells do.
 use borrow.Author.Needs.{needs}
 use mathlib.Core.Path.{_≡_, _∙_, ap, fun-ext}
-use mathlib.Core.Logic.{⊎-elim, inl, inr}
 use mathlib.Core.Bool.{Bool}
 use lib.Bits.{bitAnd}
 use lib.Count.{ones}
 use Rattle.lattice.specs.Cells.{covered, edge}
 use Rattle.lattice.specs.Pattern.{ofByte}
 use Rattle.lattice_sums.specs.UnitEdges.{fourAbout}
-use Rattle.lattice_sums.proofs.EdgeLaws.{edge-one, edge-three, edge-none}
+use Rattle.lattice_sums.proofs.EdgeLaws.{edge-one, edge-none}
 use Rattle.lattice_sums.proofs.edges.unit_edge.Statement.{statement}
 use Rattle.lattice_sums.proofs.edges.unit_edge.Tie as tie
 
@@ -28,13 +27,13 @@ edge-of-four-requires : tie.Need-edge-of-four-requires
 edge-of-four-requires c κs = search needs
 
 returns : tie.Need-returns
-returns c = ⊎-elim (edge-one (four (c .before)) (counts (c .before))) (edge-three (four (c .before)) (counts (c .before))) (c .match .keys1)
+returns c = edge-one (four (c .before)) (counts (c .before)) (c .match .keys1)
 
 returns-2 : tie.Need-returns-2
 returns-2 c = c .edge-of-four .ensures ∙ ap edge (fun-ext λ a. fun-ext λ b. c .before .low-four .ensures a b)
 
 returns-3 : tie.Need-returns-3
-returns-3 c = edge-none (four (c .before)) (counts (c .before)) (λ h. c .match .rest .0 .1 (inl h)) (λ h. c .match .rest .0 .1 (inr h)) (c .match .rest .1)
+returns-3 c = edge-none (four (c .before)) (counts (c .before)) (c .match .rest .0 .1) (c .match .rest .1)
 
 pub unit-edge-spec : {M : Type 1} → statement M
 unit-edge-spec =

@@ -1,5 +1,5 @@
 -- Each sum has room for one more term of at most 2³².
-use Rattle.lattice.specs.Figures.{Volume, Area, EdgeLength}
+use Rattle.lattice.specs.Figures.{Volume, Area, EdgeLength, InnerLength}
 use Rattle.lattice_sums.specs.CornerSums.{added}
 use Rattle.lattice_sums.proofs.CornerSumLaws.{sum-asked, sum-told, sum-bound}
 use Prim.Native.Nat.{_+_}
@@ -34,24 +34,38 @@ plus-requires-3 c κs =
     let t = c .before .edge-term in
     sum-asked (s .args .self .edge) (t .result) (sum-bound EdgeLength (s .args .self) (s .pre .3)) (t .ensures .1) (t .ok)
 
-add-t12 : tie.Need-add-t12
-add-t12 c = search needs
+inner-term-requires : tie.Need-inner-term-requires
+inner-term-requires c κs = search needs
+
+plus-requires-4 : tie.Need-plus-requires-4
+plus-requires-4 c κs =
+    let s = c .before .before .before .before .before .before .before .before .before .before .before in
+    let t = c .before .inner-term in
+    sum-asked (s .args .self .inner) (t .result) (sum-bound InnerLength (s .args .self) (s .pre .3)) (t .ensures .1) (t .ok)
+
+add-t14 : tie.Need-add-t14
+add-t14 c = search needs
 
 returns : tie.Need-returns
 unfolding added
 returns c =
-    let s = c .before .before .before .before .before .before .before .before .before .before in
+    let edges = c .before .before .before in
+    let areas = edges .before .before .before in
+    let s = areas .before .before .before .before .before .before .before in
     let self = s .args .self in
-    let v = c .before .before .before .before .before .before .before .before .before .volume-term in
-    let v' = c .before .before .before .before .before .before .before .plus in
-    let a = c .before .before .before .before .before .before .area-term in
-    let a' = c .before .before .before .before .plus2 in
-    let e = c .before .before .before .edge-term in
-    let e' = c .before .plus3 in
-    λ i. record {
-      volume = sum-told (self .volume) (v .result) (sum-bound Volume self (s .pre .3)) (v .ensures .1) (v .ok) (v' .ok) (v' .ensures) (v .ensures .0) i;
-      area = sum-told (self .area) (a .result) (sum-bound Area self (s .pre .3)) (a .ensures .1) (a .ok) (a' .ok) (a' .ensures) (a .ensures .0) i;
-      edge = sum-told (self .edge) (e .result) (sum-bound EdgeLength self (s .pre .3)) (e .ensures .1) (e .ok) (e' .ok) (e' .ensures) (e .ensures .0) i;
+    let v = areas .before .before .before .before .before .before .volume-term in
+    let v' = areas .before .before .before .before .plus in
+    let a = areas .before .before .before .area-term in
+    let a' = areas .before .plus2 in
+    let e = edges .before .before .before .edge-term in
+    let e' = edges .before .plus3 in
+    let i = c .before .before .before .inner-term in
+    let i' = c .before .plus4 in
+    λ k. record {
+      volume = sum-told (self .volume) (v .result) (sum-bound Volume self (s .pre .3)) (v .ensures .1) (v .ok) (v' .ok) (v' .ensures) (v .ensures .0) k;
+      area = sum-told (self .area) (a .result) (sum-bound Area self (s .pre .3)) (a .ensures .1) (a .ok) (a' .ok) (a' .ensures) (a .ensures .0) k;
+      edge = sum-told (self .edge) (e .result) (sum-bound EdgeLength self (s .pre .3)) (e .ensures .1) (e .ok) (e' .ok) (e' .ensures) (e .ensures .0) k;
+      inner = sum-told (self .inner) (i .result) (sum-bound InnerLength self (s .pre .3)) (i .ensures .1) (i .ok) (i' .ok) (i' .ensures) (i .ensures .0) k;
       corners = self .corners + 1;
     }
 
@@ -65,5 +79,7 @@ add-spec =
     plus-requires-2
     edge-term-requires
     plus-requires-3
-    add-t12
+    inner-term-requires
+    plus-requires-4
+    add-t14
     returns)
