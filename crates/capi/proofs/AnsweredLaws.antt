@@ -38,6 +38,10 @@ pub six-stored : (l : List ℕ) (a b c d e f : ℕ) → 6 ≤ length l
     → set (set (set (set (set (set l 0 a) 1 b) 2 c) 3 d) 4 e) 5 f ≡ inFront (a ∷ b ∷ c ∷ d ∷ e ∷ f ∷ []) l
 six-stored l a b c d e f h = sets-eq (a ∷ b ∷ c ∷ d ∷ e ∷ f ∷ []) l 0 h
 
+pub seven-stored : (l : List ℕ) (a b c d e f g : ℕ) → 7 ≤ length l
+    → set (set (set (set (set (set (set l 0 a) 1 b) 2 c) 3 d) 4 e) 5 f) 6 g ≡ inFront (a ∷ b ∷ c ∷ d ∷ e ∷ f ∷ g ∷ []) l
+seven-stored l a b c d e f g h = sets-eq (a ∷ b ∷ c ∷ d ∷ e ∷ f ∷ g ∷ []) l 0 h
+
 -- the numbers of an answer that is known
 pub put-as : {A : Type 0} (numbers : A → List ℕ) (answer : List ℕ) {answer' : List ℕ} {a b : A} → answer' ≡ inFront (numbers b) answer → a ≡ b → answer' ≡ inFront (numbers a) answer
 put-as numbers answer e k = e ∙ ap (λ m. inFront (numbers m) answer) (sym k)
@@ -99,18 +103,18 @@ module _ {F E G : ℕ} {coords work : List ℕ} (answer : List ℕ) where
       let n = indexPlaces (firstNumbers (measureTests F E G coords (length work))) in
       record { told = told n refl answer h e (ap indexPlaces (call .numbers)); index = done-is n refl answer h (workAfter F E G coords work) work (call .index) }
 
-  pub measure-untold : length answer < 6 → MeasureTold F E G coords work answer 0 work answer
+  pub measure-untold : length answer < 7 → MeasureTold F E G coords work answer 0 work answer
   measure-untold h =
       let n = measurePlaces (measureNumbers F E G coords (length work)) in
       record { told = untold n refl answer h; index = kept n refl answer h (workAfter F E G coords work) work }
 
-  pub measure-told : {m : Measured} {work' answer' : List ℕ} → 6 ≤ length answer → MeasureCall F E G coords work m work' → answer' ≡ inFront (measurePlaces (measuredNumbers m)) answer
+  pub measure-told : {m : Measured} {work' answer' : List ℕ} → 7 ≤ length answer → MeasureCall F E G coords work m work' → answer' ≡ inFront (measurePlaces (measuredNumbers m)) answer
       → MeasureTold F E G coords work answer 1 work' answer'
   measure-told h call e =
       let n = measurePlaces (measureNumbers F E G coords (length work)) in
       record { told = told n refl answer h e (ap measurePlaces (call .numbers)); index = done-is n refl answer h (workAfter F E G coords work) work (call .index) }
 
-  pub list-untold : {buffer : List ℕ} → length answer < 6 → ListTold F E G coords work buffer answer 0 work buffer answer
+  pub list-untold : {buffer : List ℕ} → length answer < 7 → ListTold F E G coords work buffer answer 0 work buffer answer
   list-untold {buffer} h =
       let n = measurePlaces (listNumbers F E G coords (length work) (length buffer)) in
       record {
@@ -119,7 +123,7 @@ module _ {F E G : ℕ} {coords work : List ℕ} (answer : List ℕ) where
         listing = kept n refl answer h (listingAfter F E G coords (length work) buffer) buffer;
       }
 
-  pub list-told : {m : Measured} {buffer work' buffer' answer' : List ℕ} → 6 ≤ length answer → ListCall F E G coords work buffer m work' buffer'
+  pub list-told : {m : Measured} {buffer work' buffer' answer' : List ℕ} → 7 ≤ length answer → ListCall F E G coords work buffer m work' buffer'
       → answer' ≡ inFront (measurePlaces (measuredNumbers m)) answer → ListTold F E G coords work buffer answer 1 work' buffer' answer'
   list-told {m} {buffer} h call e =
       let n = measurePlaces (listNumbers F E G coords (length work) (length buffer)) in

@@ -29,7 +29,7 @@ indexPlaces n = n .number ∷ n .detail ∷ []
 
 -- of measuring: then the totals and the corner count, all 0 if refused
 abbrev pub measurePlaces : MeasuredNumbers → List ℕ
-measurePlaces n = n .number ∷ n .detail ∷ n .totals .volume ∷ n .totals .area ∷ n .totals .edge ∷ n .totals .corners ∷ []
+measurePlaces n = n .number ∷ n .detail ∷ n .totals .volume ∷ n .totals .area ∷ n .totals .edge ∷ n .totals .inner ∷ n .totals .corners ∷ []
 
 -- of the cover test: 1 and the shot that it names, or 0 and 0
 abbrev pub shotOf : Option ℕ → ℕ

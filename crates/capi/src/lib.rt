@@ -20,6 +20,7 @@ use crate::places::CREDIT_ANSWER;
 use crate::places::DETAIL;
 use crate::places::EDGE_LENGTH;
 use crate::places::INDEX_ANSWER;
+use crate::places::INNER_LENGTH;
 use crate::places::MEASURE_ANSWER;
 use crate::places::NUMBER;
 use crate::places::READ_ANSWER;
@@ -57,8 +58,8 @@ fn put_named(answer: &mut [u64], covered: u8, shot: u32)
 }
 
 fn put_totals(answer: &mut [u64], number: u8, detail: usize, t: Totals)
-    requires { ⌜ 6 ≤ length (now answer) ⌝ }
-    ensures { λ _. ⌜ now (answer .exit) ≡ inFront (number ∷ detail ∷ t .volume ∷ t .area ∷ t .edge ∷ t .corners ∷ [])
+    requires { ⌜ 7 ≤ length (now answer) ⌝ }
+    ensures { λ _. ⌜ now (answer .exit) ≡ inFront (number ∷ detail ∷ t .volume ∷ t .area ∷ t .edge ∷ t .inner ∷ t .corners ∷ [])
         (now (answer .entry)) ⌝ }
 {
     answer[NUMBER] = number as u64;
@@ -66,6 +67,7 @@ fn put_totals(answer: &mut [u64], number: u8, detail: usize, t: Totals)
     answer[VOLUME] = t.volume;
     answer[AREA] = t.area;
     answer[EDGE_LENGTH] = t.edge;
+    answer[INNER_LENGTH] = t.inner;
     answer[CORNERS] = t.corners as u64;
 }
 
@@ -121,13 +123,14 @@ fn put_covering(answer: &mut [u64], covering: Covering)
 }
 
 fn put_measured(answer: &mut [u64], measured: Measured)
-    requires { ⌜ 6 ≤ length (now answer) ⌝ }
+    requires { ⌜ 7 ≤ length (now answer) ⌝ }
     ensures { λ _. ⌜ now (answer .exit) ≡ inFront (measurePlaces (measuredNumbers measured)) (now (answer .entry)) ⌝ }
 {
     let none = Totals {
         volume: 0,
         area: 0,
         edge: 0,
+        inner: 0,
         corners: 0,
     };
     match measured {

@@ -13,9 +13,11 @@ pub const AREA: usize = 3;
 
 pub const EDGE_LENGTH: usize = 4;
 
-pub const CORNERS: usize = 5;
+pub const INNER_LENGTH: usize = 5;
 
-pub const MEASURE_ANSWER: usize = 6;
+pub const CORNERS: usize = 6;
+
+pub const MEASURE_ANSWER: usize = 7;
 
 // The index alone.
 pub const INDEX_ANSWER: usize = 2;

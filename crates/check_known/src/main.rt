@@ -29,6 +29,7 @@ fn print_answer(answer: Measured) {
             print_number(totals.volume);
             print_number(totals.area);
             print_number(totals.edge);
+            print_number(totals.inner);
             print_number(totals.corners as u64);
         }
         Measured::Refused(refusal) => {

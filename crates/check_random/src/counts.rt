@@ -54,17 +54,19 @@ pub(crate) const ZEROS: usize = 23;
 
 pub(crate) const HIDDEN: usize = 24;
 
+pub(crate) const HOLLOWS: usize = 25;
+
 pub(crate) struct Counts {
-    of: [usize; 25],
+    of: [usize; 26],
 }
 
 pub(crate) fn none() -> Counts {
-    Counts { of: [0; 25] }
+    Counts { of: [0; 26] }
 }
 
 // Adds to a count.
 pub(crate) fn add(counts: Counts, which: usize, more: usize) -> Counts {
-    if 25 <= which {
+    if 26 <= which {
         return counts;
     }
     let mut next = counts;
@@ -118,7 +120,7 @@ pub(crate) fn judge(
 
 // Prints a count on a line of its own.
 fn print_count(name: &[u8], counts: Counts, which: usize) {
-    if 25 <= which {
+    if 26 <= which {
         return;
     }
     io::write_all(1, name);
@@ -140,6 +142,7 @@ fn print_kinds(counts: Counts) {
     print_count(b"lists with a shared edge", counts, EDGES);
     print_count(b"lists with a shared corner", counts, CORNERS);
     print_count(b"lists with a shot at the border", counts, BORDERS);
+    print_count(b"lists with inner length", counts, HOLLOWS);
 }
 
 // Prints how often the same was found.

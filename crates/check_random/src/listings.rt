@@ -14,6 +14,7 @@ fn refused() -> Totals {
         volume: 0,
         area: 0,
         edge: 0,
+        inner: 0,
         corners: NO_CORNERS,
     }
 }
@@ -40,6 +41,9 @@ pub(crate) fn agree(a: Totals, b: Totals) -> bool {
     if a.edge != b.edge {
         return false;
     }
+    if a.inner != b.inner {
+        return false;
+    }
     a.corners == b.corners
 }
 
@@ -60,6 +64,9 @@ fn sums_are(sums: CornerSums, totals: Totals) -> bool {
         return false;
     }
     if !is_total(sums.edge, totals.edge) {
+        return false;
+    }
+    if !is_total(sums.inner, totals.inner) {
         return false;
     }
     sums.corners == totals.corners

@@ -6,7 +6,7 @@ use lib.Dec.{T, eqb, eqb→eq}
 use lib.IntN.{pos}
 use Rattle.lattice.specs.Sums.{total}
 use Rattle.lattice.specs.Cells.{Cells, volume, areaBy, lengthBy}
-use Rattle.lattice.specs.Pattern.{corner, someNonzero, w, ax, ay, az, ex, ey, ez}
+use Rattle.lattice.specs.Pattern.{corner, someNonzero, w, ax, ay, az, ex, ey, ez, ix, iy, iz}
 use Rattle.lattice.specs.Figures.{Figure, cellCount}
 use Rattle.lattice.specs.Listing.{cornerCount}
 use Rattle.lattice.specs.Shots.{cells, any}
@@ -50,7 +50,7 @@ tests-known [] t = tt
 tests-known (j ∷ js) t = (test-known j (and-left (test j) (tests js) t), tests-known js (and-right (test j) (tests js) t))
 
 all-right : T (tests knownJobs)
-unfolding tests knownJobs test figure-test any volume areaBy lengthBy cornerCount total corner someNonzero w ax ay az ex ey ez
+unfolding tests knownJobs test figure-test any volume areaBy lengthBy cornerCount total corner someNonzero w ax ay az ex ey ez ix iy iz
 all-right = tt
 
 -- the jobs marked P in the table of docs/SCOPE.md have the totals that it states

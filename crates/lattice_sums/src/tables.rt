@@ -1880,7 +1880,7 @@ const IX: [i8; 256] = [
     0,
     0,
     0,
-    1,
+    1, // 07: three of the four cells below on x
     0,
     0,
     0,
@@ -2158,7 +2158,7 @@ const IY: [i8; 256] = [
     0,
     0,
     0,
-    1,
+    1, // 13: three of the four cells below on y
     0,
     0,
     0,
@@ -2426,7 +2426,7 @@ const IZ: [i8; 256] = [
     0,
     0,
     0,
-    1,
+    1, // 15: three of the four cells below on z
     0,
     1,
     0,

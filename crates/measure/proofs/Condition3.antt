@@ -5,21 +5,23 @@
 -- lattice points with a nonzero weight, and the work slice holds the index; for every list that `list` accepts, the first 7 bytes for each
 -- corner hold each corner point once, with its pattern, in rising order, and nothing else, and the corner sums from these bytes alone are
 -- the same figures; and for every two such lists, these bytes are the same exactly when the lists cover the same cells. What follows at
--- the end says what does not matter: the grid, the order, repeats.
-use mathlib.Core.Path.{_≡_, sym, _∙_, ap, subst}
+-- the end says what edge and inner length are together, and what does not matter: the grid, the order, repeats.
+use mathlib.Core.Path.{_≡_, sym, _∙_, ap, ap₂, subst}
 use mathlib.Core.Logic.{_↔_}
 use mathlib.Core.List.{List, _++_}
-use Prim.Native.Nat.{ℕ, _*_}
+use Prim.Native.Nat.{ℕ, _+_, _*_}
 use lib.Dec.{T}
+use lib.IntN.{natAbs, _+ℤ_}
 use lib.ListN.{length, take, drop}
 use lib.Seq.{take-at}
-use Rattle.lattice.specs.Cells.{Cells, Within}
-use Rattle.lattice.specs.Figures.{Figure, term}
+use Rattle.lattice.specs.Cells.{Cells, Within, lengthBy}
+use Rattle.lattice.specs.Figures.{Figure, EdgeLength, InnerLength, term}
 use Rattle.lattice.specs.Shots.{Shot, covers}
 use Rattle.lattice.specs.Listing.{corners, listing, cornerSum, SameBytes}
 use Rattle.lattice_sums.specs.CornerSums.{value, sumsOf}
 use Rattle.lattice_sums.specs.declared.sums.Totals.{Totals}
 use Rattle.lattice.proofs.Cases.{bool-ext}
+use Rattle.lattice.proofs.LengthLaws.{eitherEdge, either-length}
 use Rattle.lattice.proofs.Agreement as agreement
 use Rattle.lattice.proofs.SameSolid.{same-corners}
 use Rattle.lattice_sums.proofs.CornerSumLaws.{sum-by, sums-whole}
@@ -101,7 +103,11 @@ module _ {F E G : ℕ} {coords work buffer work' buffer' : List ℕ} {t : Totals
   same-bytes = rw (bytes-are one, bytes-are two)
       (agreement.same-listing F F₂ (solid E coords) (solid E₂ coords₂) (within (list-accepted one)) (within (list-accepted two)))
 
--- ---- corollaries: lists that cover the same cells, in the same field or another, have the same totals
+-- ---- corollaries: edge and inner length together are the length by a count that takes one and three covered cells alike
+pub lengths-together : {F : ℕ} {s : Cells} {t : Totals} → Agrees F s t → t .edge + t .inner ≡ lengthBy eitherEdge F s
+lengths-together {F} {s} a = ap natAbs (ap₂ _+ℤ_ (a .counts EdgeLength) (a .counts InnerLength)) ∙ sym (either-length F s)
+
+-- ---- lists that cover the same cells, in the same field or another, have the same totals
 module _ {F E G : ℕ} {coords work' : List ℕ} {t : Totals} (one : Accepted F E G coords t work')
     {F₂ E₂ G₂ : ℕ} {coords₂ work₂' : List ℕ} {t₂ : Totals} (two : Accepted F₂ E₂ G₂ coords₂ t₂ work₂')
     (same : SameCells (solid E coords) (solid E₂ coords₂)) where

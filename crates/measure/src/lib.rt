@@ -59,7 +59,7 @@ fn list_corners(
     Measured::Quote(totals)
 }
 
-// Measures a list: gives its three totals and its corner count, and leaves its index in the work slice. Refusals 1, 2, 6, 7, 8, 9, 10,
+// Measures a list: gives its four totals and its corner count, and leaves its index in the work slice. Refusals 1, 2, 6, 7, 8, 9, 10,
 // in this order, change nothing.
 pub fn measure(field: u16, edge: u16, grid: u16, coords: &[u16], work: &mut [u32]) -> Measured
     ensures { λ r. ⌜ MeasureCall field edge grid (now (coords .entry)) (now (work .entry)) r (now (work .exit)) ⌝ }

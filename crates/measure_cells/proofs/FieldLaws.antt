@@ -1,20 +1,21 @@
 -- Over all points of a field the counts are the totals: every cell, unit square and unit edge of the field stands above one point, and what
 -- stands above the far sides is outside the field and counts nothing.
-use mathlib.Core.Path.{_≡_, refl, ap, _∙_}
+use mathlib.Core.Path.{_≡_, refl, ap, _∙_, fun-ext}
 use mathlib.Core.Bool.{Bool, true, false}
 use Prim.Native.Nat.{ℕ, zero, suc, _+_}
 use native.Mathlib.Nat.{add-zero}
 use native.Mathlib.Numerals.{add-one}
 use native.Mathlib.Omega.{arith}
 use Rattle.lattice.specs.Sums.{total}
-use Rattle.lattice.specs.Cells.{Cells, Within, below, up, bit, volume, areaBy, square, area, lengthBy, edge, edgeLength}
+use Rattle.lattice.specs.Cells.{Cells, Within, below, up, bit, volume, areaBy, square, area, OfFour, lengthBy, edge, innerEdge}
 use Rattle.lattice.specs.Pattern.{around}
 use Rattle.lattice.specs.Listing.{cornerCount}
 use Rattle.lattice_sums.specs.CornerSums.{totalsOf}
 use Rattle.lattice_sums.specs.declared.sums.Totals.{Totals}
 use Rattle.lattice.proofs.Inside.{past}
-use Rattle.grid.proofs.TotalLaws.{total-agree, total-plus}
-use Rattle.measure_cells.specs.Points.{atPattern, nothing, plus, sumTo, fieldTo}
+use Rattle.lattice.proofs.SumLaws.{totals-plus}
+use Rattle.grid.proofs.TotalLaws.{total-agree}
+use Rattle.measure_cells.specs.Points.{edgesAbove, atPattern, nothing, plus, sumTo, fieldTo}
 
 -- ---- a figure of a sum is the total of the figures
 
@@ -52,20 +53,15 @@ module _ (n : ℕ) (f : ℕ → ℕ → ℕ → ℕ) where
 
 total-three : (k m l : ℕ) (f g h : ℕ → ℕ → ℕ → ℕ) → (total k λ x. total m λ y. total l λ z. f x y z + g x y z + h x y z) ≡ (total k λ x. total m λ y. total l λ z. f x y z) + (total k λ x. total m λ y. total l λ z. g x y z) + (total k λ x. total m λ y. total l λ z. h x y z)
 total-three k m l f g h =
-    two k m l (λ x y z. f x y z + g x y z) h ∙ ap (λ (t : ℕ). t + (total k λ x. total m λ y. total l λ z. h x y z)) (two k m l f g)
-  where
-    two : (k m l : ℕ) (f g : ℕ → ℕ → ℕ → ℕ) → (total k λ x. total m λ y. total l λ z. f x y z + g x y z) ≡ (total k λ x. total m λ y. total l λ z. f x y z) + (total k λ x. total m λ y. total l λ z. g x y z)
-    two k m l f g =
-        total-agree k _ _ (λ x i. total-agree m _ _ (λ y j. total-plus l (λ z. f x y z) (λ z. g x y z)) ∙ total-plus m (λ y. total l λ z. f x y z) (λ y. total l λ z. g x y z))
-        ∙ total-plus k (λ x. total m λ y. total l λ z. f x y z) (λ x. total m λ y. total l λ z. g x y z)
+    totals-plus k m l (λ x y z. f x y z + g x y z) h ∙ ap (λ (t : ℕ). t + (total k λ x. total m λ y. total l λ z. h x y z)) (totals-plus k m l f g)
 
 -- ---- outside the field nothing counts
 
 square-none : (q : Bool → Bool) → ((a : Bool) → q a ≡ false) → square q ≡ 0
 square-none q h = rw (h false, h true)
 
-edge-none : (q : Bool → Bool → Bool) → ((b c : Bool) → q b c ≡ false) → edge q ≡ 0
-edge-none q h = rw (h false false, h false true, h true false, h true true)
+four-none : (count : OfFour) → count (λ b c. false) ≡ 0 → (q : Bool → Bool → Bool) → ((b c : Bool) → q b c ≡ false) → count q ≡ 0
+four-none count none q h = ap count (fun-ext λ b. fun-ext λ c. h b c) ∙ none
 
 module _ (n : ℕ) (s : Cells) (within : Within n s) where
   past-x : (y z : ℕ) → below s (suc n) y z ≡ false
@@ -103,18 +99,20 @@ module _ (n : ℕ) (s : Cells) (within : Within n s) where
   unfolding areaBy
   area-is = total-three (suc n) (suc n) (suc n) (λ x y z. square (λ a. below s (up a x) (suc y) (suc z))) (λ x y z. square (λ b. below s (suc x) (up b y) (suc z))) (λ x y z. square (λ c. below s (suc x) (suc y) (up c z))) ∙ rw (squares-x, squares-y, squares-z)
 
-  edges-x : (total (suc n) λ x. total (suc n) λ y. total (suc n) λ z. edge (λ b c. below s (suc x) (up b y) (up c z))) ≡ (total n λ i. total (suc n) λ y. total (suc n) λ z. edge (λ b c. below s (suc i) (up b y) (up c z)))
-  edges-x = short-x n (λ x y z. edge (λ b c. below s (suc x) (up b y) (up c z))) (λ y z. edge-none _ λ b c. past-x (up b y) (up c z)) (suc n) (suc n)
+  -- the length by any count that gives nothing where no cell is covered
+  module _ (count : OfFour) (none : count (λ b c. false) ≡ 0) where
+    edges-x : (total (suc n) λ x. total (suc n) λ y. total (suc n) λ z. count (λ b c. below s (suc x) (up b y) (up c z))) ≡ (total n λ i. total (suc n) λ y. total (suc n) λ z. count (λ b c. below s (suc i) (up b y) (up c z)))
+    edges-x = short-x n (λ x y z. count (λ b c. below s (suc x) (up b y) (up c z))) (λ y z. four-none count none _ λ b c. past-x (up b y) (up c z)) (suc n) (suc n)
 
-  edges-y : (total (suc n) λ x. total (suc n) λ y. total (suc n) λ z. edge (λ a c. below s (up a x) (suc y) (up c z))) ≡ (total (suc n) λ x. total n λ j. total (suc n) λ z. edge (λ a c. below s (up a x) (suc j) (up c z)))
-  edges-y = short-y n (λ x y z. edge (λ a c. below s (up a x) (suc y) (up c z))) (λ x z. edge-none _ λ a c. past-y (up a x) (up c z)) (suc n) (suc n)
+    edges-y : (total (suc n) λ x. total (suc n) λ y. total (suc n) λ z. count (λ a c. below s (up a x) (suc y) (up c z))) ≡ (total (suc n) λ x. total n λ j. total (suc n) λ z. count (λ a c. below s (up a x) (suc j) (up c z)))
+    edges-y = short-y n (λ x y z. count (λ a c. below s (up a x) (suc y) (up c z))) (λ x z. four-none count none _ λ a c. past-y (up a x) (up c z)) (suc n) (suc n)
 
-  edges-z : (total (suc n) λ x. total (suc n) λ y. total (suc n) λ z. edge (λ a b. below s (up a x) (up b y) (suc z))) ≡ (total (suc n) λ x. total (suc n) λ y. total n λ k. edge (λ a b. below s (up a x) (up b y) (suc k)))
-  edges-z = short-z n (λ x y z. edge (λ a b. below s (up a x) (up b y) (suc z))) (λ x y. edge-none _ λ a b. past-z (up a x) (up b y)) (suc n) (suc n)
+    edges-z : (total (suc n) λ x. total (suc n) λ y. total (suc n) λ z. count (λ a b. below s (up a x) (up b y) (suc z))) ≡ (total (suc n) λ x. total (suc n) λ y. total n λ k. count (λ a b. below s (up a x) (up b y) (suc k)))
+    edges-z = short-z n (λ x y z. count (λ a b. below s (up a x) (up b y) (suc z))) (λ x y. four-none count none _ λ a b. past-z (up a x) (up b y)) (suc n) (suc n)
 
-  edge-is : (total (suc n) λ x. total (suc n) λ y. total (suc n) λ z. edge (λ b c. below s (suc x) (up b y) (up c z)) + edge (λ a c. below s (up a x) (suc y) (up c z)) + edge (λ a b. below s (up a x) (up b y) (suc z))) ≡ edgeLength n s
-  unfolding lengthBy
-  edge-is = total-three (suc n) (suc n) (suc n) (λ x y z. edge (λ b c. below s (suc x) (up b y) (up c z))) (λ x y z. edge (λ a c. below s (up a x) (suc y) (up c z))) (λ x y z. edge (λ a b. below s (up a x) (up b y) (suc z))) ∙ rw (edges-x, edges-y, edges-z)
+    length-is : (total (suc n) λ x. total (suc n) λ y. total (suc n) λ z. edgesAbove count (around s x y z)) ≡ lengthBy count n s
+    unfolding lengthBy
+    length-is = total-three (suc n) (suc n) (suc n) (λ x y z. count (λ b c. below s (suc x) (up b y) (up c z))) (λ x y z. count (λ a c. below s (up a x) (suc y) (up c z))) (λ x y z. count (λ a b. below s (up a x) (up b y) (suc z))) ∙ rw (edges-x, edges-y, edges-z)
 
   -- the counts over all points are the totals
   pub field-totals : fieldTo s (n + 1) (n + 1) (n + 1) ≡ totalsOf n s
@@ -124,11 +122,9 @@ module _ (n : ℕ) (s : Cells) (within : Within n s) where
       (figures _ _
       (figure-field (λ t. t .volume) refl (λ t u. refl) s (suc n) ∙ volume-is)
       (figure-field (λ t. t .area) refl (λ t u. refl) s (suc n) ∙ area-is)
-      (figure-field (λ t. t .edge) refl (λ t u. refl) s (suc n) ∙ edge-is)
+      (figure-field (λ t. t .edge) refl (λ t u. refl) s (suc n) ∙ length-is edge refl)
+      (figure-field (λ t. t .inner) refl (λ t u. refl) s (suc n) ∙ length-is innerEdge refl)
       (figure-field (λ t. t .corners) refl (λ t u. refl) s (suc n)))
     where
-      figures : (t u : Totals) → t .volume ≡ u .volume → t .area ≡ u .area → t .edge ≡ u .edge → t .corners ≡ u .corners → t ≡ u
-      figures t u a b c d = four a b c d
-        where
-          four : {p q r v p' q' r' v' : ℕ} → p ≡ p' → q ≡ q' → r ≡ r' → v ≡ v' → _≡_ {A = Totals} (record { volume = p; area = q; edge = r; corners = v }) (record { volume = p'; area = q'; edge = r'; corners = v' })
-          four e f g h = rw (e, f, g, h)
+      figures : (t u : Totals) → t .volume ≡ u .volume → t .area ≡ u .area → t .edge ≡ u .edge → t .inner ≡ u .inner → t .corners ≡ u .corners → t ≡ u
+      figures t u a b c d e = λ i. record { volume = a i; area = b i; edge = c i; inner = d i; corners = e i }

@@ -12,11 +12,17 @@ use Rattle.measure_cells.proofs.TallyLaws.{pattern-most}
 
 plus-assoc : (t u v : Totals) → plus (plus t u) v ≡ plus t (plus u v)
 unfolding plus
-plus-assoc t u v = rw (add-assoc (t .volume) (u .volume) (v .volume), add-assoc (t .area) (u .area) (v .area), add-assoc (t .edge) (u .edge) (v .edge), add-assoc (t .corners) (u .corners) (v .corners))
+plus-assoc t u v = rw (
+  add-assoc (t .volume) (u .volume) (v .volume),
+  add-assoc (t .area) (u .area) (v .area),
+  add-assoc (t .edge) (u .edge) (v .edge),
+  add-assoc (t .inner) (u .inner) (v .inner),
+  add-assoc (t .corners) (u .corners) (v .corners),
+)
 
 plus-nothing : (t : Totals) → plus t nothing ≡ t
 unfolding plus
-plus-nothing t = rw (add-zero (t .volume), add-zero (t .area), add-zero (t .edge), add-zero (t .corners))
+plus-nothing t = rw (add-zero (t .volume), add-zero (t .area), add-zero (t .edge), add-zero (t .inner), add-zero (t .corners))
 
 sum-parts : (f : ℕ → Totals) (n k : ℕ) → sumTo (n + k) f ≡ plus (sumTo n f) (sumTo k λ i. f (n + i))
 unfolding sumTo
@@ -31,7 +37,7 @@ sum-agree (suc n) f g h = rw (sum-agree n f g (λ i l. h i (omega arith)), h n (
 module _ (f : ℕ → Totals) (t₀ : Totals) where
   pub sums-none : t₀ ≡ plus t₀ (sumTo 0 f)
   unfolding plus sumTo
-  sums-none = rw (add-zero (t₀ .volume), add-zero (t₀ .area), add-zero (t₀ .edge), add-zero (t₀ .corners))
+  sums-none = sym (plus-nothing t₀)
 
   pub sums-turn : (n : ℕ) {t t' : Totals} → t ≡ plus t₀ (sumTo n f) → t' ≡ plus t (f n) → t' ≡ plus t₀ (sumTo (n + 1) f)
   unfolding sumTo
@@ -55,7 +61,9 @@ module _ (f : ℕ → Totals) where
 
 sum-most : (k : ℕ) (f : ℕ → Totals) → ((i : ℕ) → AtMost k (f i)) → (n : ℕ) → AtMost (n * k) (sumTo n f)
 unfolding sumTo plus
-sum-most k f h zero = record { volume-in = omega (arith, zero-mul k); area-in = omega (arith, zero-mul k); edge-in = omega (arith, zero-mul k); corners-in = omega (arith, zero-mul k) }
+sum-most k f h zero =
+    let none : 0 ≤ 0 * k = omega (arith, zero-mul k) in
+    record { volume-in = none; area-in = none; edge-in = none; inner-in = none; corners-in = none }
 sum-most k f h (suc n) =
     let b : AtMost (n * k) (sumTo n f) = sum-most k f h n in
     let c : AtMost k (f n) = h n in
@@ -63,15 +71,28 @@ sum-most k f h (suc n) =
       volume-in = omega (arith, suc-mul n k, b .volume-in, c .volume-in);
       area-in = omega (arith, suc-mul n k, b .area-in, c .area-in);
       edge-in = omega (arith, suc-mul n k, b .edge-in, c .edge-in);
+      inner-in = omega (arith, suc-mul n k, b .inner-in, c .inner-in);
       corners-in = omega (arith, suc-mul n k, b .corners-in, c .corners-in);
     }
 
 plus-most : (a b c : ℕ) (t u : Totals) → AtMost a t → AtMost b u → a + b ≤ c → AtMost c (plus t u)
 unfolding plus
-plus-most a b c t u h k l = record { volume-in = omega (arith, h .volume-in, k .volume-in); area-in = omega (arith, h .area-in, k .area-in); edge-in = omega (arith, h .edge-in, k .edge-in); corners-in = omega (arith, h .corners-in, k .corners-in) }
+plus-most a b c t u h k l = record {
+  volume-in = omega (arith, h .volume-in, k .volume-in);
+  area-in = omega (arith, h .area-in, k .area-in);
+  edge-in = omega (arith, h .edge-in, k .edge-in);
+  inner-in = omega (arith, h .inner-in, k .inner-in);
+  corners-in = omega (arith, h .corners-in, k .corners-in);
+}
 
 weaker : (a b : ℕ) (t : Totals) → a ≤ b → AtMost a t → AtMost b t
-weaker a b t l h = record { volume-in = omega (arith, h .volume-in); area-in = omega (arith, h .area-in); edge-in = omega (arith, h .edge-in); corners-in = omega (arith, h .corners-in) }
+weaker a b t l h = record {
+  volume-in = omega (arith, h .volume-in);
+  area-in = omega (arith, h .area-in);
+  edge-in = omega (arith, h .edge-in);
+  inner-in = omega (arith, h .inner-in);
+  corners-in = omega (arith, h .corners-in);
+}
 
 -- the sums stay small, in a field of at most 1,024
 pub points-low : (f : ℕ → Pattern) (n : ℕ) → n ≤ 1025 → (a b : ℕ) → a + 6150 ≤ b → (t₀ : Totals) {t : Totals} → AtMost a t₀ → t ≡ plus t₀ (sumTo n λ i. atPattern (f i)) → AtMost b t

@@ -6,11 +6,11 @@ use native.Mathlib.Nat.{add-zero, mod-eq-of-lt}
 use native.Mathlib.Omega.{arith}
 use lib.Dec.{eqb, leb, leb→le}
 use borrow.Author.Tests.{eq-eqb, ne-eqb}
-use Rattle.lattice.specs.Cells.{bit, square, edge}
-use Rattle.lattice.specs.Pattern.{Pattern, ofByte, w, ax, ay, az, ex, ey, ez, someNonzero, corner}
+use Rattle.lattice.specs.Cells.{bit, square, OfFour, covered, edge, innerEdge}
+use Rattle.lattice.specs.Pattern.{Pattern, ofByte, w, ax, ay, az, ex, ey, ez, ix, iy, iz, someNonzero, corner}
 use Rattle.lattice_sums.specs.declared.sums.Totals.{Totals}
 use Rattle.lattice.proofs.Cases.{eachFour-at}
-use Rattle.measure_cells.specs.Points.{atPattern, nothing, plus, differs, AtMost}
+use Rattle.measure_cells.specs.Points.{edgesAbove, atPattern, nothing, plus, differs, AtMost}
 
 pub alike : (a b : ℕ) → a ≡ b → 0 ≡ differs a b
 alike a b e = rw (eq-eqb a b e)
@@ -62,6 +62,9 @@ bit-most : (b : Bool) → bit b ≤ 1
 bit-most true = omega arith
 bit-most false = omega arith
 
+pub inner-most : (q : Bool → Bool → Bool) → innerEdge q ≤ 1
+inner-most q = bit-most (eqb (covered q) 3)
+
 square-most : (q : Bool → Bool) → square q ≤ 1
 square-most q = one (q false) (q true) refl refl
   where
@@ -78,12 +81,13 @@ pattern-most p =
       volume-in = omega (arith, bit-most (p true true true));
       area-in = omega (arith, square-most (λ a. p a true true), square-most (λ b. p true b true), square-most (λ c. p true true c));
       edge-in = omega (arith, edge-most (λ b c. p true b c), edge-most (λ a c. p a true c), edge-most (λ a b. p a b true));
+      inner-in = omega (arith, inner-most (λ b c. p true b c), inner-most (λ a c. p a true c), inner-most (λ a b. p a b true));
       corners-in = omega (arith, bit-most (corner p));
     }
 
-pub edges-are : (p : Pattern) {a b c : ℕ} → a ≡ edge (λ b c. p true b c) → b ≡ edge (λ a c. p a true c) → c ≡ edge (λ a b. p a b true) → a + b + c ≡ atPattern p .edge
-unfolding atPattern
-edges-are p ea eb ec = rw (ea, eb, ec)
+pub edges-are : (count : OfFour) (p : Pattern) {a b c : ℕ}
+    → a ≡ count (λ b c. p true b c) → b ≡ count (λ a c. p a true c) → c ≡ count (λ a b. p a b true) → a + b + c ≡ edgesAbove count p
+edges-are count p ea eb ec = rw (ea, eb, ec)
 
 pub corner-is : (p : Pattern) {t : Bool} → t ≡ corner p → t ≡ true → 1 ≡ atPattern p .corners
 unfolding atPattern
@@ -93,33 +97,34 @@ pub no-corner-is : (p : Pattern) {t : Bool} → t ≡ corner p → t ≡ false �
 unfolding atPattern
 no-corner-is p e h = rw (← e, h)
 
-pub plus-is : (t u : Totals) {a b c d : ℕ} → a ≡ u .volume → b ≡ u .area → c ≡ u .edge → d ≡ u .corners → record { volume = t .volume + a; area = t .area + b; edge = t .edge + c; corners = t .corners + d } ≡ plus t u
+pub plus-is : (t u : Totals) {a b c d e : ℕ} → a ≡ u .volume → b ≡ u .area → c ≡ u .edge → d ≡ u .inner → e ≡ u .corners
+    → record { volume = t .volume + a; area = t .area + b; edge = t .edge + c; inner = t .inner + d; corners = t .corners + e } ≡ plus t u
 unfolding plus
-plus-is t u ea eb ec ed = rw (ea, eb, ec, ed)
+plus-is t u ea eb ec ed ee = rw (ea, eb, ec, ed, ee)
 
 -- ---- points that lie wholly outside or inside
 
 none-no-corner : corner (ofByte 0) ≡ false
-unfolding corner someNonzero w ax ay az ex ey ez ofByte
+unfolding corner someNonzero w ax ay az ex ey ez ix iy iz ofByte
 none-no-corner = refl
 
 full-no-corner : corner (ofByte 255) ≡ false
-unfolding corner someNonzero w ax ay az ex ey ez ofByte
+unfolding corner someNonzero w ax ay az ex ey ez ix iy iz ofByte
 full-no-corner = refl
 
 none-counts : atPattern (ofByte 0) ≡ nothing
 unfolding atPattern ofByte
 none-counts = rw none-no-corner
 
-full-counts : atPattern (ofByte 255) ≡ record { volume = 1; area = 0; edge = 0; corners = 0 }
+full-counts : atPattern (ofByte 255) ≡ record { volume = 1; area = 0; edge = 0; inner = 0; corners = 0 }
 unfolding atPattern ofByte
 full-counts = rw full-no-corner
 
 module _ (t : Totals) (p : ℕ) where
   pub tally-none : p ≡ 0 → t ≡ plus t (atPattern (ofByte p))
   unfolding plus
-  tally-none e = rw (e, none-counts, add-zero (t .volume), add-zero (t .area), add-zero (t .edge), add-zero (t .corners))
+  tally-none e = rw (e, none-counts, add-zero (t .volume), add-zero (t .area), add-zero (t .edge), add-zero (t .inner), add-zero (t .corners))
 
-  pub tally-full : p ≡ 255 → record { volume = t .volume + 1; area = t .area; edge = t .edge; corners = t .corners } ≡ plus t (atPattern (ofByte p))
+  pub tally-full : p ≡ 255 → record { volume = t .volume + 1; area = t .area; edge = t .edge; inner = t .inner; corners = t .corners } ≡ plus t (atPattern (ofByte p))
   unfolding plus
-  tally-full e = rw (e, full-counts, add-zero (t .area), add-zero (t .edge), add-zero (t .corners))
+  tally-full e = rw (e, full-counts, add-zero (t .area), add-zero (t .edge), add-zero (t .inner), add-zero (t .corners))

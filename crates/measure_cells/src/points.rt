@@ -272,6 +272,7 @@ pub fn count_field(field: u16, edge: u16, grid: u16, coords: &[u16], work: &[u32
         volume: 0,
         area: 0,
         edge: 0,
+        inner: 0,
         corners: 0,
     };
     count_planes(field, edge, grid, coords, work, 0, field + 1, none)

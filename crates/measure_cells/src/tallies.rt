@@ -5,6 +5,7 @@ ghost use Rattle.measure_cells.specs.Points.{atPattern, plus, AtMost, di
 use lattice_sums::edges::UnitEdge;
 use lattice_sums::edges::is_corner;
 use lattice_sums::edges::unit_edge;
+use lattice_sums::edges::unit_inner;
 use lattice_sums::sums::Totals;
 
 // A unit square counts if one of its two cells is covered: 1 where the two bits differ.
@@ -31,13 +32,22 @@ fn wide(count: u8) -> u64
     count as u64
 }
 
-// The three unit edges above a point of pattern p.
+// The three unit edges above a point of pattern p, as outer ones.
 fn edges(p: u8) -> u64
     ensures { λ r. ⌜ r ≡ atPattern (ofByte p) .edge ⌝ }
 {
     wide(unit_edge(p, UnitEdge::AboveX))
         + wide(unit_edge(p, UnitEdge::AboveY))
         + wide(unit_edge(p, UnitEdge::AboveZ))
+}
+
+// The same as inner ones.
+fn inners(p: u8) -> u64
+    ensures { λ r. ⌜ r ≡ atPattern (ofByte p) .inner ⌝ }
+{
+    wide(unit_inner(p, UnitEdge::AboveX))
+        + wide(unit_inner(p, UnitEdge::AboveY))
+        + wide(unit_inner(p, UnitEdge::AboveZ))
 }
 
 fn corners(p: u8) -> usize
@@ -58,6 +68,7 @@ fn tally_each(t: Totals, p: u8) -> Totals
         volume: t.volume + wide(p / 128),
         area: t.area + squares(p),
         edge: t.edge + edges(p),
+        inner: t.inner + inners(p),
         corners: t.corners + corners(p),
     }
 }
@@ -75,6 +86,7 @@ pub fn tally(t: Totals, p: u8) -> Totals
             volume: t.volume + 1,
             area: t.area,
             edge: t.edge,
+            inner: t.inner,
             corners: t.corners,
         };
     }

@@ -40,7 +40,7 @@ quoteNumbers t = record { number = 0; detail = 0; totals = t }
 
 -- a refusal has its number and detail, with all others 0
 abbrev pub refusedNumbers : Refusal → MeasuredNumbers
-refusedNumbers r = record { number = numberOf r; detail = detailOf r; totals = record { volume = 0; area = 0; edge = 0; corners = 0 } }
+refusedNumbers r = record { number = numberOf r; detail = detailOf r; totals = record { volume = 0; area = 0; edge = 0; inner = 0; corners = 0 } }
 
 unfoldable pub measuredNumbers : Measured → MeasuredNumbers
 measuredNumbers (Quote t) = quoteNumbers t

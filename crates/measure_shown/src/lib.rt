@@ -87,6 +87,7 @@ fn count_shown(
         volume: 0,
         area: 0,
         edge: 0,
+        inner: 0,
         corners: 0,
     };
     let mut x: u16 = 0;

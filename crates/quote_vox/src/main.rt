@@ -12,7 +12,7 @@ fn say(words: &[u8]) {
 fn print_quote(bytes: &[u8]) {
     let mut coords = [0u16; 12288];
     let mut work = [0u32; 16384];
-    let mut out = [0u8; 128];
+    let mut out = [0u8; 256];
     let n = quoting::quote_vox(bytes, &mut coords, &mut work, &mut out);
     if !io::write_all(STDOUT_FILENO, &out[..n]) {
         say(b"quote_vox: standard output cannot be written\n");

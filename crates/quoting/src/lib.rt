@@ -47,7 +47,7 @@ fn quote_list(
     work: &mut [u32],
     out: &mut [u8],
 ) -> usize
-    requires { ⌜ 128 ≤ length (now out) ⌝ }
+    requires { ⌜ 256 ≤ length (now out) ⌝ }
     ensures { λ r. ⌜ ListQuoted field edge grid (now (coords .entry)) (now (work .entry)) (now (out .entry))
         r (now (work .exit)) (now (out .exit)) ⌝ }
 {
@@ -66,7 +66,7 @@ fn quote_read(
     work: &mut [u32],
     out: &mut [u8],
 ) -> usize
-    requires { ⌜ 128 ≤ length (now out) ⌝ }
+    requires { ⌜ 256 ≤ length (now out) ⌝ }
     requires { ⌜ ShotsThere read (now coords) ⌝ }
     ensures { λ r. ⌜ Quoted (answeredFile read (now (coords .entry))) (now (work .entry)) (now (out .entry))
         r (now (work .exit)) (now (out .exit)) ⌝ }
@@ -93,7 +93,7 @@ fn quote_file(
     work: &mut [u32],
     out: &mut [u8],
 ) -> usize
-    requires { ⌜ 128 ≤ length (now out) ⌝ }
+    requires { ⌜ 256 ≤ length (now out) ⌝ }
     ensures { λ r. ⌜ FileQuoted (now (bytes .entry)) (now (coords .entry)) (now (work .entry)) (now (out .entry))
         r (now (coords .exit)) (now (work .exit)) (now (out .exit)) ⌝ }
 {
@@ -101,10 +101,10 @@ fn quote_file(
     quote_read(again, read, coords, work, out)
 }
 
-// What the quoting program prints for a shot file, put to the front of a slice of at least 128 bytes. The coordinates and the index of
+// What the quoting program prints for a shot file, put to the front of a slice of at least 256 bytes. The coordinates and the index of
 // the list stay in the other slices.
 pub fn quote(bytes: &[u8], coords: &mut [u16], work: &mut [u32], out: &mut [u8]) -> usize
-    requires { ⌜ 128 ≤ length (now out) ⌝ }
+    requires { ⌜ 256 ≤ length (now out) ⌝ }
     ensures { λ r. ⌜ FileQuoted (now (bytes .entry)) (now (coords .entry)) (now (work .entry)) (now (out .entry))
         r (now (coords .exit)) (now (work .exit)) (now (out .exit)) ⌝ }
 {
@@ -113,7 +113,7 @@ pub fn quote(bytes: &[u8], coords: &mut [u16], work: &mut [u32], out: &mut [u8])
 
 // The same text, from totals that are counted again, cell by cell.
 pub fn recount(bytes: &[u8], coords: &mut [u16], work: &mut [u32], out: &mut [u8]) -> usize
-    requires { ⌜ 128 ≤ length (now out) ⌝ }
+    requires { ⌜ 256 ≤ length (now out) ⌝ }
     ensures { λ r. ⌜ FileQuoted (now (bytes .entry)) (now (coords .entry)) (now (work .entry)) (now (out .entry))
         r (now (coords .exit)) (now (work .exit)) (now (out .exit)) ⌝ }
 {
@@ -122,7 +122,7 @@ pub fn recount(bytes: &[u8], coords: &mut [u16], work: &mut [u32], out: &mut [u8
 
 // What is printed for a VOX file, put to the front in the same way.
 pub fn quote_vox(bytes: &[u8], coords: &mut [u16], work: &mut [u32], out: &mut [u8]) -> usize
-    requires { ⌜ 128 ≤ length (now out) ⌝ }
+    requires { ⌜ 256 ≤ length (now out) ⌝ }
     ensures { λ r. ⌜ VoxQuoted (now (bytes .entry)) (now (coords .entry)) (now (work .entry)) (now (out .entry))
         r (now (coords .exit)) (now (work .exit)) (now (out .exit)) ⌝ }
 {

@@ -9,7 +9,7 @@ use libc::STDOUT_FILENO;
 fn print_recount(bytes: &[u8]) {
     let mut coords = [0u16; 12288];
     let mut work = [0u32; 16384];
-    let mut out = [0u8; 128];
+    let mut out = [0u8; 256];
     let n = quoting::recount(bytes, &mut coords, &mut work, &mut out);
     if !io::write_all(STDOUT_FILENO, &out[..n]) {
         io::write_all(

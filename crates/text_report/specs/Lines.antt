@@ -35,6 +35,9 @@ areaWord = text "area"
 abbrev pub edgeWord : List ℕ
 edgeWord = text "edge"
 
+abbrev pub innerWord : List ℕ
+innerWord = text "inner"
+
 abbrev pub cornersWord : List ℕ
 cornersWord = text "corners"
 
@@ -43,7 +46,8 @@ refusedWord = text "refused"
 
 -- one name and decimal value a line
 unfoldable pub quoteLines : Totals → List ℕ
-quoteLines t = line volumeWord (t .volume) ++ (line areaWord (t .area) ++ (line edgeWord (t .edge) ++ line cornersWord (t .corners)))
+quoteLines t =
+    line volumeWord (t .volume) ++ (line areaWord (t .area) ++ (line edgeWord (t .edge) ++ (line innerWord (t .inner) ++ line cornersWord (t .corners))))
 
 -- `refused`, the number and the detail, split by spaces, on one line
 unfoldable pub refusalLine : ℕ → ℕ → List ℕ

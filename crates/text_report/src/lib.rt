@@ -1,4 +1,4 @@
-// What the quoting program prints, put into a lent slice: the four lines of a quote, and the one line of a refusal; and the parts of
+// What the quoting program prints, put into a lent slice: the five lines of a quote, and the one line of a refusal; and the parts of
 // which this and every other text is made: a byte, a word, a decimal number, a line of a word and a number.
 // specs/Text.antt says what a text is, specs/Lines.antt what the lines are. Stands on `buffer` and on the totals of `lattice_sums`.
 ghost use mathlib.Core.List.{[], _∷_};
@@ -65,15 +65,16 @@ pub fn put_line(out: &mut [u8], at: usize, word: &[u8], a: u64) -> usize
     put_byte(out, valued, 10)
 }
 
-// Puts the four lines of a quote at the front, and gives their length.
+// Puts the five lines of a quote at the front, and gives their length.
 pub fn quote_lines(out: &mut [u8], t: Totals) -> usize
-    requires { ⌜ 128 ≤ length (now out) ⌝ }
+    requires { ⌜ 256 ≤ length (now out) ⌝ }
     ensures { λ r. ⌜ Wrote (now (out .entry)) (now (out .exit)) 0 r (quoteLines t) ⌝ }
 {
     let volume = put_line(out, 0, b"volume", t.volume);
     let area = put_line(out, volume, b"area", t.area);
     let edge = put_line(out, area, b"edge", t.edge);
-    put_line(out, edge, b"corners", t.corners as u64)
+    let inner = put_line(out, edge, b"inner", t.inner);
+    put_line(out, inner, b"corners", t.corners as u64)
 }
 
 // Puts the line of a refusal at the front, and gives its length.

@@ -1,7 +1,7 @@
 -- One store after another.
 use native.Mathlib.Omega.{arith}
 use lib.ListN.{length-set}
-use Rattle.capi.proofs.AnsweredLaws.{six-stored}
+use Rattle.capi.proofs.AnsweredLaws.{seven-stored}
 use borrow.Author.Needs.{needs}
 use Rattle.capi.proofs.put_totals.Statement.{statement}
 use Rattle.capi.proofs.put_totals.Tie as tie
@@ -22,13 +22,16 @@ slice-write-answer-5 : tie.Need-slice-write-answer-5
 slice-write-answer-5 c = simp length-set (omega arith)
 
 slice-write-answer-6 : tie.Need-slice-write-answer-6
-slice-write-answer-6 c = search needs
+slice-write-answer-6 c = simp length-set (omega arith)
+
+slice-write-answer-7 : tie.Need-slice-write-answer-7
+slice-write-answer-7 c = search needs
 
 same-length : tie.Need-same-length
 same-length c = search needs
 
 returns : tie.Need-returns
-returns c = six-stored (c .args .answer .now) (c .args .number) (c .args .detail) (c .args .t .volume) (c .args .t .area) (c .args .t .edge) (c .args .t .corners) (c .pre)
+returns c = seven-stored (c .args .answer .now) (c .args .number) (c .args .detail) (c .args .t .volume) (c .args .t .area) (c .args .t .edge) (c .args .t .inner) (c .args .t .corners) (c .pre)
 
 pub put-totals-spec : {M : Type 1} → statement M
 put-totals-spec =
@@ -40,5 +43,6 @@ put-totals-spec =
     slice-write-answer-4
     slice-write-answer-5
     slice-write-answer-6
+    slice-write-answer-7
     same-length
     returns)

@@ -1,7 +1,9 @@
--- Each edge is one call of the unit-edge count.
+-- Each edge is one call of the count of outer unit edges.
 use mathlib.Core.Path.{_∙_}
 use borrow.Author.Needs.{needs}
+use Rattle.lattice.specs.Cells.{edge}
 use Rattle.lattice.specs.Pattern.{ofByte}
+use Rattle.measure_cells.specs.Points.{atPattern}
 use Rattle.measure_cells.proofs.TallyLaws.{edges-are}
 use Rattle.measure_cells.proofs.tallies.edges.Statement.{statement}
 use Rattle.measure_cells.proofs.tallies.edges.Tie as tie
@@ -31,7 +33,8 @@ add-result-2 : tie.Need-add-result-2
 add-result-2 c = search needs
 
 returns : tie.Need-returns
-returns c = edges-are (ofByte (c .before .before .before .before .before .before .args .p)) (c .before .before .before .before .wide .ensures ∙ c .before .before .before .before .before .unit-edge .ensures) (c .before .before .wide2 .ensures ∙ c .before .before .before .unit-edge2 .ensures) (c .wide3 .ensures ∙ c .before .unit-edge3 .ensures)
+unfolding atPattern
+returns c = edges-are edge (ofByte (c .before .before .before .before .before .before .args .p)) (c .before .before .before .before .wide .ensures ∙ c .before .before .before .before .before .unit-edge .ensures) (c .before .before .wide2 .ensures ∙ c .before .before .before .unit-edge2 .ensures) (c .wide3 .ensures ∙ c .before .unit-edge3 .ensures)
 
 pub edges-spec : {M : Type 1} → statement M
 edges-spec =

@@ -26,14 +26,28 @@ edges-requires c κs = search needs
 add-t9 : tie.Need-add-t9
 add-t9 c = omega (arith, pattern-most (ofByte (c .before .before .before .before .before .before .args .p)), c .before .edges .ensures)
 
+inners-requires : tie.Need-inners-requires
+inners-requires c κs = search needs
+
+add-t11 : tie.Need-add-t11
+add-t11 c = omega (arith, pattern-most (ofByte (c .before .before .before .before .before .before .before .before .args .p)), c .before .inners .ensures)
+
 corners-requires : tie.Need-corners-requires
 corners-requires c κs = search needs
 
-add-t11 : tie.Need-add-t11
-add-t11 c = omega (arith, pattern-most (ofByte (c .before .before .before .before .before .before .before .before .args .p)), c .before .corners .ensures)
+add-t13 : tie.Need-add-t13
+add-t13 c = omega (arith, pattern-most (ofByte (c .before .before .before .before .before .before .before .before .before .before .args .p)), c .before .corners .ensures)
 
 returns : tie.Need-returns
-returns c = plus-is (c .before .before .before .before .before .before .before .before .args .t) (atPattern (ofByte (c .before .before .before .before .before .before .before .before .args .p))) (c .before .before .before .before .before .before .before .wide .ensures ∙ cell-is (c .before .before .before .before .before .before .before .before .args .p) (omega arith)) (c .before .before .before .before .before .squares .ensures) (c .before .before .before .edges .ensures) (c .before .corners .ensures)
+returns c =
+    let squared = c .before .before .before .before .before .before .before in
+    let s = squared .before .before .before in
+    plus-is (s .args .t) (atPattern (ofByte (s .args .p)))
+    (squared .before .before .wide .ensures ∙ cell-is (s .args .p) (omega arith))
+    (squared .squares .ensures)
+    (c .before .before .before .before .before .edges .ensures)
+    (c .before .before .before .inners .ensures)
+    (c .before .corners .ensures)
 
 pub tally-each-spec : {M : Type 1} → statement M
 tally-each-spec =
@@ -45,6 +59,8 @@ tally-each-spec =
     add-t7
     edges-requires
     add-t9
-    corners-requires
+    inners-requires
     add-t11
+    corners-requires
+    add-t13
     returns)
