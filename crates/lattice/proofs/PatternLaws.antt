@@ -6,6 +6,8 @@ use Prim.Native.Nat.{ℕ, zero, suc, zero-le, _<_, _≤_}
 use lib.Dec.{T, eqb, eqb→eq, leb, leb→le}
 use lib.IntN.{ℤ, pos, negsuc, natAbs}
 use lib.ListN.{getD}
+use Rattle.lattice.specs.Sums.{total}
+use Rattle.lattice.specs.Cells.{bit}
 use Rattle.lattice.specs.Pattern.{Pattern, byte, ofByte, w, ax, ay, az, ex, ey, ez, ix, iy, iz, weights, isZero, someNonzero, corner}
 use Rattle.lattice.specs.Axes.{Axis, x-axis, y-axis, z-axis}
 use Rattle.lattice.proofs.Cases.{same, same-at, each, each-at, eachPattern-at, eachBelow-at, and-left, and-right}
@@ -86,6 +88,11 @@ unfolding corner someNonzero w ax ay az ex ey ez ix iy iz
 corner-changes p =
     same-at (corner p) (changes x-axis p && (changes y-axis p && changes z-axis p))
     (eachPattern-at (λ p. same (corner p) (changes x-axis p && (changes y-axis p && changes z-axis p))) tt p)
+
+-- they are 218 of the 256
+pub corner-many : total 256 (λ n. bit (corner (ofByte n))) ≡ 218
+unfolding total ofByte corner someNonzero w ax ay az ex ey ez ix iy iz
+corner-many = refl
 
 -- a pattern that does not change across one axis is no corner
 abbrev pub Still : Axis → Pattern → Type 0

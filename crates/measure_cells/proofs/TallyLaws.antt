@@ -62,7 +62,7 @@ bit-most : (b : Bool) → bit b ≤ 1
 bit-most true = omega arith
 bit-most false = omega arith
 
-pub inner-most : (q : Bool → Bool → Bool) → innerEdge q ≤ 1
+inner-most : (q : Bool → Bool → Bool) → innerEdge q ≤ 1
 inner-most q = bit-most (eqb (covered q) 3)
 
 square-most : (q : Bool → Bool) → square q ≤ 1

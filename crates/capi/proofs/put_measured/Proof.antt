@@ -39,7 +39,7 @@ same-length-2 c = search needs
 
 returns-2 : tie.Need-returns-2
 unfolding measuredNumbers
-returns-2 c = let s = c .before .before .before .before .before .before .before .before .before .before in put-as (λ m. measurePlaces (measuredNumbers m)) (s .args .answer .now) (c .before .before .put-totals2 .ensures ∙ ap₂ (λ a b. inFront (a ∷ b ∷ 0 ∷ 0 ∷ 0 ∷ 0 ∷ []) (s .args .answer .now)) (c .before .before .before .before .number .ensures) (c .before .before .before .detail .ensures)) (c .before .before .before .before .before .before .before .measured2 .given .1)
+returns-2 c = let s = c .before .before .before .before .before .before .before .before .before .before in put-as (λ m. measurePlaces (measuredNumbers m)) (s .args .answer .now) (c .before .before .put-totals2 .ensures ∙ ap₂ (λ a b. inFront (a ∷ b ∷ 0 ∷ 0 ∷ 0 ∷ 0 ∷ 0 ∷ []) (s .args .answer .now)) (c .before .before .before .before .number .ensures) (c .before .before .before .detail .ensures)) (c .before .before .before .before .before .before .before .measured2 .given .1)
 
 pub put-measured-spec : {M : Type 1} → statement M
 put-measured-spec =
