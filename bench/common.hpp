@@ -2,7 +2,8 @@
 //
 // A program is called `PROGRAM FILE SECONDS`: it measures the file's list again and again for about SECONDS, at least
 // once, and prints `volume area edge corners WALL CPU PEAK RUNS`: the quickest run's elapsed time and the runs' mean
-// processor time, in seconds, and the program's peak memory in KiB.
+// processor time, in seconds, and the program's peak memory in KiB. One that credits prints the figures of credits in
+// place of the four.
 #ifndef HEQDANU_BENCH_COMMON_HPP
 #define HEQDANU_BENCH_COMMON_HPP
 
@@ -12,6 +13,7 @@
 #include <cstdlib>
 #include <cstring>
 #include <ctime>
+#include <initializer_list>
 #include <vector>
 
 // What an absent field of a shot file's header means: field side, shot edge, grid size.
@@ -24,8 +26,14 @@ struct List {
     size_t shots() const { return coords.size() / 3; }
 };
 
+// The figures of a quote.
 struct Totals {
     uint64_t volume = 0, area = 0, edge = 0, corners = 0;
+};
+
+// The figures of credits: their sum, their sum weighted by place modulo 2^64, the shots with none, and the shots.
+struct CreditFigures {
+    uint64_t sum = 0, weighted = 0, none = 0, shots = 0;
 };
 
 inline std::vector<uint8_t> read_bytes(const char *path) {
@@ -101,16 +109,27 @@ inline void count_plane(const uint8_t *below, const uint8_t *above, int field, T
     totals.corners += corners;
 }
 
-// The figures of credits: their sum, their sum weighted by place modulo 2^64, the shots with none, and the shots.
-inline Totals credit_figures(const std::vector<uint32_t> &credits) {
-    Totals figures;
+inline CreditFigures credit_figures(const std::vector<uint32_t> &credits) {
+    CreditFigures figures;
     for (size_t shot = 0; shot < credits.size(); shot++) {
-        figures.volume += credits[shot];
-        figures.area += (shot + 1) * uint64_t(credits[shot]);
-        figures.edge += credits[shot] == 0;
+        figures.sum += credits[shot];
+        figures.weighted += (shot + 1) * uint64_t(credits[shot]);
+        figures.none += credits[shot] == 0;
     }
-    figures.corners = credits.size();
+    figures.shots = credits.size();
     return figures;
+}
+
+inline void print_numbers(std::initializer_list<uint64_t> numbers) {
+    for (uint64_t number : numbers) printf("%llu ", (unsigned long long)number);
+}
+
+inline void print(const Totals &figures) {
+    print_numbers({figures.volume, figures.area, figures.edge, figures.corners});
+}
+
+inline void print(const CreditFigures &figures) {
+    print_numbers({figures.sum, figures.weighted, figures.none, figures.shots});
 }
 
 inline double seconds(clockid_t clock) {
@@ -134,18 +153,18 @@ inline long peak_memory() {
 template <class Measure> int report(double patience, Measure measure) {
     double best_wall = 1e300;
     double start = seconds(CLOCK_MONOTONIC), cpu = seconds(CLOCK_PROCESS_CPUTIME_ID);
-    Totals totals;
+    decltype(measure()) figures;
     int runs = 0;
     do {
         double wall = seconds(CLOCK_MONOTONIC);
-        totals = measure();
+        figures = measure();
         wall = seconds(CLOCK_MONOTONIC) - wall;
         if (wall < best_wall) best_wall = wall;
         runs++;
     } while (seconds(CLOCK_MONOTONIC) - start < patience);
     cpu = (seconds(CLOCK_PROCESS_CPUTIME_ID) - cpu) / runs;
-    printf("%llu %llu %llu %llu %.9f %.9f %ld %d\n", (unsigned long long)totals.volume, (unsigned long long)totals.area,
-           (unsigned long long)totals.edge, (unsigned long long)totals.corners, best_wall, cpu, peak_memory(), runs);
+    print(figures);
+    printf("%.9f %.9f %ld %d\n", best_wall, cpu, peak_memory(), runs);
     return 0;
 }
 

@@ -26,7 +26,7 @@ static uint32_t paint_row(uint64_t *row, size_t z, size_t end) {
     return fresh;
 }
 
-static Totals by_shots(const List &list) {
+static CreditFigures by_shots(const List &list) {
     size_t field = list.field, edge = list.edge, width = (field + 63) / 64;
     std::vector<uint32_t> credits(list.shots());
     // The system's pages are zero already, and those that no shot reaches are never fetched.
@@ -42,7 +42,7 @@ static Totals by_shots(const List &list) {
     return credit_figures(credits);
 }
 
-static Totals by_planes(const List &list) {
+static CreditFigures by_planes(const List &list) {
     size_t field = list.field, edge = list.edge, width = (field + 63) / 64;
     std::vector<uint32_t> credits(list.shots());
     std::vector<uint64_t> plane(field * width);
