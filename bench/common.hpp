@@ -1,9 +1,9 @@
 // What the benchmark's programs share: reading a workload's shot file, counting over planes of byte cells, timing.
 //
 // A program is called `PROGRAM FILE SECONDS`: it measures the file's list again and again for about SECONDS, at least
-// once, and prints `volume area edge corners WALL CPU PEAK RUNS`: the quickest run's elapsed time and the runs' mean
-// processor time, in seconds, and the program's peak memory in KiB. One that credits prints the figures of credits in
-// place of the four.
+// once, and prints `volume area edge inner corners WALL CPU PEAK RUNS`: the quickest run's elapsed time and the runs'
+// mean processor time, in seconds, and the program's peak memory in KiB. One that credits prints the figures of credits
+// in place of the five.
 #ifndef HEQDANU_BENCH_COMMON_HPP
 #define HEQDANU_BENCH_COMMON_HPP
 
@@ -26,9 +26,9 @@ struct List {
     size_t shots() const { return coords.size() / 3; }
 };
 
-// The figures of a quote.
+// The figures of a quote; edge is the outer length.
 struct Totals {
-    uint64_t volume = 0, area = 0, edge = 0, corners = 0;
+    uint64_t volume = 0, area = 0, edge = 0, inner = 0, corners = 0;
 };
 
 // The figures of credits: their sum, their sum weighted by place modulo 2^64, the shots with none, and the shots.
@@ -73,40 +73,45 @@ inline List read_list(const char *path) {
     return list;
 }
 
+// The kind of a unit edge by the four cells about it, of which p and s share only the edge, and so do q and r: 1 where
+// one is covered, 2 where two are that share only the edge, 3 where three are, else 0. Kinds 1 and 2 are outer lengths.
+inline uint8_t edge_kind(uint8_t p, uint8_t q, uint8_t r, uint8_t s) {
+    return uint8_t((p ^ q ^ r ^ s) + 2 * ((p & s) ^ (q & r)));
+}
+
+// 1 for a corner point: the eight cells about it change across every axis.
+inline uint8_t is_corner(uint8_t a0, uint8_t a1, uint8_t b0, uint8_t b1, uint8_t c0, uint8_t c1, uint8_t d0,
+                         uint8_t d1) {
+    uint8_t x = (a0 ^ c0) | (a1 ^ c1) | (b0 ^ d0) | (b1 ^ d1);
+    uint8_t y = (a0 ^ b0) | (a1 ^ b1) | (c0 ^ d0) | (c1 ^ d1);
+    uint8_t z = (a0 ^ a1) | (b0 ^ b1) | (c0 ^ c1) | (d0 ^ d1);
+    return x & y & z;
+}
+
 // Adds what belongs to the lattice points of one plane across x: the cells above it, the squares and unit edges that
 // start there, and its corner points. A plane of cells has field + 2 rows of field + 2 bytes, 0 or 1, with a margin of
 // zeros; `below` and `above` are the planes of cells about the lattice plane.
 inline void count_plane(const uint8_t *below, const uint8_t *above, int field, Totals &totals) {
     size_t width = size_t(field) + 2;
-    uint64_t volume = 0, area = 0, edge = 0, corners = 0;
     for (int y = 0; y <= field; y++) {
         const uint8_t *a = below + size_t(y) * width, *b = a + width, *c = above + size_t(y) * width, *d = c + width;
-        unsigned row_volume = 0, row_area = 0, row_edge = 0, row_corners = 0;
+        unsigned volume = 0, area = 0, kinds = 0, inner = 0, corners = 0;
         for (int z = 0; z <= field; z++) {
-            uint8_t a0 = a[z], a1 = a[z + 1], b0 = b[z], b1 = b[z + 1], c0 = c[z], c1 = c[z + 1], d0 = d[z], d1 = d[z + 1];
-            auto unit_edge = [](uint8_t p, uint8_t q, uint8_t r, uint8_t s) -> uint8_t {
-                uint8_t odd = p ^ q ^ r ^ s;
-                uint8_t across = uint8_t((p & s & ~(q | r)) | (q & r & ~(p | s)));
-                return uint8_t(odd + 2 * (across & 1));
-            };
-            row_volume += d1;
-            row_area += uint8_t((d1 ^ b1) + (d1 ^ c1) + (d1 ^ d0));
-            row_edge += uint8_t(unit_edge(a1, b1, c1, d1) + unit_edge(b0, b1, d0, d1) + unit_edge(c0, c1, d0, d1));
-            // A point is a corner if the eight cells about it change across every axis.
-            uint8_t x = (a0 ^ c0) | (a1 ^ c1) | (b0 ^ d0) | (b1 ^ d1);
-            uint8_t w = (a0 ^ b0) | (a1 ^ b1) | (c0 ^ d0) | (c1 ^ d1);
-            uint8_t v = (a0 ^ a1) | (b0 ^ b1) | (c0 ^ c1) | (d0 ^ d1);
-            row_corners += x & w & v;
+            uint8_t a0 = a[z], a1 = a[z + 1], b0 = b[z], b1 = b[z + 1];
+            uint8_t c0 = c[z], c1 = c[z + 1], d0 = d[z], d1 = d[z + 1];
+            uint8_t ex = edge_kind(c0, c1, d0, d1), ey = edge_kind(b0, b1, d0, d1), ez = edge_kind(a1, b1, c1, d1);
+            volume += d1;
+            area += uint8_t((d1 ^ b1) + (d1 ^ c1) + (d1 ^ d0));
+            kinds += uint8_t(ex + ey + ez);
+            inner += uint8_t((ex == 3) + (ey == 3) + (ez == 3));
+            corners += is_corner(a0, a1, b0, b1, c0, c1, d0, d1);
         }
-        volume += row_volume;
-        area += row_area;
-        edge += row_edge;
-        corners += row_corners;
+        totals.volume += volume;
+        totals.area += area;
+        totals.edge += kinds - 3 * inner;
+        totals.inner += inner;
+        totals.corners += corners;
     }
-    totals.volume += volume;
-    totals.area += area;
-    totals.edge += edge;
-    totals.corners += corners;
 }
 
 inline CreditFigures credit_figures(const std::vector<uint32_t> &credits) {
@@ -125,7 +130,7 @@ inline void print_numbers(std::initializer_list<uint64_t> numbers) {
 }
 
 inline void print(const Totals &figures) {
-    print_numbers({figures.volume, figures.area, figures.edge, figures.corners});
+    print_numbers({figures.volume, figures.area, figures.edge, figures.inner, figures.corners});
 }
 
 inline void print(const CreditFigures &figures) {

@@ -34,8 +34,15 @@ def ones(cells):
 
 
 def unit_edges(p, q, r, s):
-    across = (p & s & ~(q | r)) | (q & r & ~(p | s))
-    return ones(p ^ q ^ r ^ s) + 2 * ones(across)
+    """The outer and the inner length of unit edges by the four cells about each.
+
+    p and s share only the unit edge, and so do q and r. An odd number of cells is covered where one or three are, and
+    one pair alone where three are or just that pair.
+    """
+    odd = p ^ q ^ r ^ s
+    pair = (p & s) ^ (q & r)
+    inner = ones(odd & pair)
+    return ones(odd) + 2 * ones(pair) - 3 * inner, inner
 
 
 def count_plane(below, above, width):
@@ -49,12 +56,13 @@ def count_plane(below, above, width):
     a0, a1, b0, b1 = below[near], below[far], below[near_y], below[far_y]
     c0, c1, d0, d1 = above[near], above[far], above[near_y], above[far_y]
     area = ones(d1 ^ b1) + ones(d1 ^ c1) + ones(d1 ^ d0)
-    edge = unit_edges(a1, b1, c1, d1) + unit_edges(b0, b1, d0, d1) + unit_edges(c0, c1, d0, d1)
+    lengths = unit_edges(a1, b1, c1, d1), unit_edges(b0, b1, d0, d1), unit_edges(c0, c1, d0, d1)
+    edge, inner = map(sum, zip(*lengths))
     # A point is a corner if the eight cells about it change across every axis.
     x = (a0 ^ c0) | (a1 ^ c1) | (b0 ^ d0) | (b1 ^ d1)
     y = (a0 ^ b0) | (a1 ^ b1) | (c0 ^ d0) | (c1 ^ d1)
     z = (a0 ^ a1) | (b0 ^ b1) | (c0 ^ c1) | (d0 ^ d1)
-    return ones(d1), area, edge, ones(x & y & z)
+    return ones(d1), area, edge, inner, ones(x & y & z)
 
 
 def measure(field, edge, shots):
@@ -63,7 +71,7 @@ def measure(field, edge, shots):
     for x, y, z in shots:
         cells[x + 1 : x + 1 + edge, y + 1 : y + 1 + edge, z + 1 : z + 1 + edge] = 1
     planes = cells.reshape(width, -1)
-    totals = np.zeros(4, dtype=np.int64)
+    totals = np.zeros(5, dtype=np.int64)
     for x in range(field + 1):
         totals += count_plane(planes[x], planes[x + 1], width)
     return totals

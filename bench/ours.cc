@@ -11,19 +11,21 @@ static uint64_t answer[HEQDANU_ANSWER];
 
 // The figures of an answer; the index alone has none, and leaves the zeros of the refusal that told the need.
 static Totals answered(uint8_t written, uint64_t expected = HEQDANU_ACCEPTED) {
-    if (written != 1 || answer[0] != expected) {
-        fprintf(stderr, "refused %llu %llu\n", (unsigned long long)answer[0], (unsigned long long)answer[1]);
+    if (written != 1 || answer[HEQDANU_NUMBER] != expected) {
+        fprintf(stderr, "refused %llu %llu\n", (unsigned long long)answer[HEQDANU_NUMBER],
+                (unsigned long long)answer[HEQDANU_DETAIL]);
         exit(1);
     }
     Totals totals;
-    totals.volume = answer[2];
-    totals.area = answer[3];
-    totals.edge = answer[4];
-    totals.corners = answer[5];
+    totals.volume = answer[HEQDANU_VOLUME];
+    totals.area = answer[HEQDANU_AREA];
+    totals.edge = answer[HEQDANU_EDGE_LENGTH];
+    totals.inner = answer[HEQDANU_INNER_LENGTH];
+    totals.corners = answer[HEQDANU_CORNERS];
     return totals;
 }
 
-// One of the readers, timed; its figures are field, edge, grid and shots.
+// One of the readers, timed; its figures are field, edge, grid, shots and the 0 of a place that it leaves alone.
 static int read_again(decltype(heqdanu_read) *reading, const char *path, double patience) {
     std::vector<uint8_t> file = read_bytes(path);
     std::vector<uint16_t> places(12288);
@@ -45,7 +47,7 @@ int main(int count, char **arguments) {
     };
     uint32_t none = 0;
     answered(measure(&none, 0), HEQDANU_SHORT_WORK);
-    std::vector<uint32_t> work(answer[1]);
+    std::vector<uint32_t> work(answer[HEQDANU_DETAIL]);
     if (call == "need")
         return report(patience, [&] { return answered(measure(&none, 0), HEQDANU_SHORT_WORK); });
     if (call == "measure") return report(patience, [&] { return answered(measure(work.data(), work.size())); });
