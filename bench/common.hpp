@@ -95,7 +95,8 @@ inline void count_plane(const uint8_t *below, const uint8_t *above, int field, T
     size_t width = size_t(field) + 2;
     for (int y = 0; y <= field; y++) {
         const uint8_t *a = below + size_t(y) * width, *b = a + width, *c = above + size_t(y) * width, *d = c + width;
-        unsigned volume = 0, area = 0, kinds = 0, inner = 0, corners = 0;
+        // 16 bits hold what 1,025 points of a row can add, 9 each at most, and let the compiler add in narrow lanes.
+        uint16_t volume = 0, area = 0, kinds = 0, inner = 0, corners = 0;
         for (int z = 0; z <= field; z++) {
             uint8_t a0 = a[z], a1 = a[z + 1], b0 = b[z], b1 = b[z + 1];
             uint8_t c0 = c[z], c1 = c[z + 1], d0 = d[z], d1 = d[z + 1];
@@ -108,7 +109,7 @@ inline void count_plane(const uint8_t *below, const uint8_t *above, int field, T
         }
         totals.volume += volume;
         totals.area += area;
-        totals.edge += kinds - 3 * inner;
+        totals.edge += kinds - 3u * inner;
         totals.inner += inner;
         totals.corners += corners;
     }
