@@ -9,8 +9,9 @@ static Totals sum_up(const List &list) {
     std::vector<uint16_t> cubes(side * side * side);
     for (size_t shot = 0; shot < list.shots(); shot++)
         for (int end = 0; end < 8; end++) {
-            size_t x = list.coords[3 * shot] + (end & 4 ? edge : 0), y = list.coords[3 * shot + 1] + (end & 2 ? edge : 0),
-                   z = list.coords[3 * shot + 2] + (end & 1 ? edge : 0);
+            size_t x = list.coords[3 * shot] + (end & 4 ? edge : 0);
+            size_t y = list.coords[3 * shot + 1] + (end & 2 ? edge : 0);
+            size_t z = list.coords[3 * shot + 2] + (end & 1 ? edge : 0);
             cubes[(x * side + y) * side + z] += __builtin_popcount(unsigned(end)) % 2 ? uint16_t(-1) : uint16_t(1);
         }
     Totals totals;
