@@ -1,18 +1,21 @@
--- The unit edges and the corner test as the pattern byte shows them: tests that are computed at all 256 bytes.
+-- The unit edges, the terms of their lengths and the corner test as the pattern byte shows them: tests that are computed at all 256 bytes.
 use mathlib.Core.Path.{_≡_, refl, sym, _∙_, ap, subst}
-use mathlib.Core.Bool.{Bool, true, false, cond, not}
+use mathlib.Core.Bool.{Bool, true, false, _&&_, cond, not}
 use Prim.Native.Nat.{ℕ, zero, suc, zero-le, _+_, _*_, _/_, _%_, _<_, _≤_}
+use native.Mathlib.Nat.{mul-zero}
 use native.Mathlib.Omega.{arith}
-use lib.Dec.{T, eqb, eqb→eq}
+use lib.Dec.{T, eqb, eqb→eq, ltb}
+use lib.IntN.{ℤ, pos, _+ℤ_, _*ℤ_}
 use lib.Bits.{bitAnd, bitXor}
 use lib.Count.{ones, onesIn}
-use borrow.Author.Tests.{eq-eqb, ne-eqb}
+use borrow.Author.Tests.{eq-eqb, ne-eqb, lt-ltb}
 use Rattle.lattice.specs.Cells.{bit, covered, edge, innerEdge}
-use Rattle.lattice.specs.Pattern.{ofByte, corner, someNonzero, w, ax, ay, az, ex, ey, ez, ix, iy, iz}
+use Rattle.lattice.specs.Pattern.{ofByte, edgeTerm, innerTerm, corner, someNonzero, w, ax, ay, az, ex, ey, ez, ix, iy, iz}
 use Rattle.lattice_sums.specs.UnitEdges.{fourAbout}
 use Rattle.lattice_sums.specs.declared.edges.UnitEdge.{UnitEdge}
 use Rattle.lattice_sums.specs.declared.edges.UnitEdge.the-variants.{BelowX, AboveX, BelowY, AboveY, BelowZ, AboveZ}
-use Rattle.lattice.proofs.Cases.{same, same-at, each, each-at, eachFour-at, eachFrom, eachBelow-at}
+use Rattle.lattice.proofs.Integers.{eqZ, eqZ-at}
+use Rattle.lattice.proofs.Cases.{and-left, and-right, same, same-at, each, each-at, eachFour-at, eachFrom, eachBelow-at}
 
 -- of two tests the one that a third selects
 chosen-true : (a b c : Bool) → T (cond a b c) → a ≡ true → T b
@@ -119,6 +122,50 @@ module _ (q : Bool → Bool → Bool) {n : ℕ} (counts : n ≡ covered q) where
 
   pub inner-none : (n ≡ 3 → ⊥) → 0 ≡ innerEdge q
   inner-none h = ap bit (sym (ne-eqb (covered q) 3 (λ k. h (counts ∙ k))))
+
+-- ---- few covered cells have no inner edge, and many no outer one
+abbrev allZero : ℤ → ℤ → ℤ → Bool
+allZero u v w = eqZ u (pos 0) && (eqZ v (pos 0) && eqZ w (pos 0))
+
+zero-term : (u v w : ℤ) → T (allZero u v w) → (x y z : ℕ) → pos 0 ≡ pos x *ℤ u +ℤ pos y *ℤ v +ℤ pos z *ℤ w
+zero-term u v w t x y z =
+    let rest : Bool = eqZ v (pos 0) && eqZ w (pos 0) in
+    let past : T rest = and-right (eqZ u (pos 0)) rest t in
+    simp (
+      eqZ-at u (pos 0) (and-left (eqZ u (pos 0)) rest t),
+      eqZ-at v (pos 0) (and-left (eqZ v (pos 0)) (eqZ w (pos 0)) past),
+      eqZ-at w (pos 0) (and-right (eqZ v (pos 0)) (eqZ w (pos 0)) past),
+      mul-zero,
+    )
+
+fewInner : ℕ → Bool
+fewInner p = cond (ltb (ones p) 3) (allZero (ix (ofByte p)) (iy (ofByte p)) (iz (ofByte p))) true
+
+manyOuter : ℕ → Bool
+manyOuter p = cond (ltb 6 (ones p)) (allZero (ex (ofByte p)) (ey (ofByte p)) (ez (ofByte p))) true
+
+all-few : T (eachFrom fewInner 0 256)
+unfolding fewInner ones onesIn ofByte ix iy iz
+all-few = tt
+
+all-many : T (eachFrom manyOuter 0 256)
+unfolding manyOuter ones onesIn ofByte ex ey ez
+all-many = tt
+
+module _ (p : ℕ) (h : p < 256) (x y z : ℕ) where
+  pub few-inner : ones p < 3 → pos 0 ≡ innerTerm x y z (ofByte p)
+  unfolding fewInner
+  few-inner l =
+      let weigh : Bool = allZero (ix (ofByte p)) (iy (ofByte p)) (iz (ofByte p)) in
+      zero-term (ix (ofByte p)) (iy (ofByte p)) (iz (ofByte p))
+      (chosen-true (ltb (ones p) 3) weigh true (eachBelow-at fewInner 256 all-few p h) (lt-ltb (ones p) 3 l)) x y z
+
+  pub many-outer : 6 < ones p → pos 0 ≡ edgeTerm x y z (ofByte p)
+  unfolding manyOuter
+  many-outer l =
+      let weigh : Bool = allZero (ex (ofByte p)) (ey (ofByte p)) (ez (ofByte p)) in
+      zero-term (ex (ofByte p)) (ey (ofByte p)) (ez (ofByte p))
+      (chosen-true (ltb 6 (ones p)) weigh true (eachBelow-at manyOuter 256 all-many p h) (lt-ltb 6 (ones p) l)) x y z
 
 -- ---- the corner test, axis after axis
 abbrev steady-y : ℕ → ℕ
