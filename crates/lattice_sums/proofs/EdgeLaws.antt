@@ -10,7 +10,7 @@ use lib.Bits.{bitAnd, bitXor}
 use lib.Count.{ones, onesIn}
 use borrow.Author.Tests.{eq-eqb, ne-eqb, lt-ltb}
 use Rattle.lattice.specs.Cells.{bit, covered, edge, innerEdge}
-use Rattle.lattice.specs.Pattern.{ofByte, edgeTerm, innerTerm, corner, someNonzero, w, ax, ay, az, ex, ey, ez, ix, iy, iz}
+use Rattle.lattice.specs.Pattern.{ofByte, innerTerm, corner, someNonzero, w, ax, ay, az, ex, ey, ez, ix, iy, iz}
 use Rattle.lattice_sums.specs.UnitEdges.{fourAbout}
 use Rattle.lattice_sums.specs.declared.edges.UnitEdge.{UnitEdge}
 use Rattle.lattice_sums.specs.declared.edges.UnitEdge.the-variants.{BelowX, AboveX, BelowY, AboveY, BelowZ, AboveZ}
@@ -123,7 +123,7 @@ module _ (q : Bool → Bool → Bool) {n : ℕ} (counts : n ≡ covered q) where
   pub inner-none : (n ≡ 3 → ⊥) → 0 ≡ innerEdge q
   inner-none h = ap bit (sym (ne-eqb (covered q) 3 (λ k. h (counts ∙ k))))
 
--- ---- few covered cells have no inner edge, and many no outer one
+-- ---- fewer than three covered cells have no inner edge
 abbrev allZero : ℤ → ℤ → ℤ → Bool
 allZero u v w = eqZ u (pos 0) && (eqZ v (pos 0) && eqZ w (pos 0))
 
@@ -141,31 +141,16 @@ zero-term u v w t x y z =
 fewInner : ℕ → Bool
 fewInner p = cond (ltb (ones p) 3) (allZero (ix (ofByte p)) (iy (ofByte p)) (iz (ofByte p))) true
 
-manyOuter : ℕ → Bool
-manyOuter p = cond (ltb 6 (ones p)) (allZero (ex (ofByte p)) (ey (ofByte p)) (ez (ofByte p))) true
-
 all-few : T (eachFrom fewInner 0 256)
 unfolding fewInner ones onesIn ofByte ix iy iz
 all-few = tt
 
-all-many : T (eachFrom manyOuter 0 256)
-unfolding manyOuter ones onesIn ofByte ex ey ez
-all-many = tt
-
-module _ (p : ℕ) (h : p < 256) (x y z : ℕ) where
-  pub few-inner : ones p < 3 → pos 0 ≡ innerTerm x y z (ofByte p)
-  unfolding fewInner
-  few-inner l =
-      let weigh : Bool = allZero (ix (ofByte p)) (iy (ofByte p)) (iz (ofByte p)) in
-      zero-term (ix (ofByte p)) (iy (ofByte p)) (iz (ofByte p))
-      (chosen-true (ltb (ones p) 3) weigh true (eachBelow-at fewInner 256 all-few p h) (lt-ltb (ones p) 3 l)) x y z
-
-  pub many-outer : 6 < ones p → pos 0 ≡ edgeTerm x y z (ofByte p)
-  unfolding manyOuter
-  many-outer l =
-      let weigh : Bool = allZero (ex (ofByte p)) (ey (ofByte p)) (ez (ofByte p)) in
-      zero-term (ex (ofByte p)) (ey (ofByte p)) (ez (ofByte p))
-      (chosen-true (ltb 6 (ones p)) weigh true (eachBelow-at manyOuter 256 all-many p h) (lt-ltb 6 (ones p) l)) x y z
+pub few-inner : (p : ℕ) → p < 256 → (x y z : ℕ) → ones p < 3 → pos 0 ≡ innerTerm x y z (ofByte p)
+unfolding fewInner
+few-inner p h x y z l =
+    zero-term (ix (ofByte p)) (iy (ofByte p)) (iz (ofByte p))
+    (chosen-true (ltb (ones p) 3) (allZero (ix (ofByte p)) (iy (ofByte p)) (iz (ofByte p))) true
+    (eachBelow-at fewInner 256 all-few p h) (lt-ltb (ones p) 3 l)) x y z
 
 -- ---- the corner test, axis after axis
 abbrev steady-y : ℕ → ℕ

@@ -94,14 +94,11 @@ fn area_term(x: u16, y: u16, z: u16, p: u8) -> i64
     )
 }
 
-// What a point adds to the edge length: x·ex + y·ey + z·ez. Nothing where more than six of the eight cells are covered.
+// What a point adds to the edge length: x·ex + y·ey + z·ez.
 fn edge_term(x: u16, y: u16, z: u16, p: u8) -> i64
     requires { ⌜ (x ≤ 1024) × (y ≤ 1024) × (z ≤ 1024) ⌝ }
     ensures { λ r. ⌜ (r ≡ edgeTerm x y z (ofByte p)) × (natAbs r ≤ largestTerm) ⌝ }
 {
-    if 6 < u8::count_ones(p) {
-        return 0;
-    }
     three(
         x as u64,
         weight_ex(p),

@@ -7,19 +7,18 @@ use Rattle.lattice.specs.Pattern.{ofByte, ex, ey, ez, edgeTerm}
 use Rattle.lattice.specs.Figures.{EdgeLength}
 use Rattle.lattice.proofs.PatternLaws.{weight-small}
 use Rattle.lattice.proofs.TermBounds.{term-small}
-use Rattle.lattice_sums.proofs.EdgeLaws.{many-outer}
 use Rattle.lattice_sums.proofs.CornerSumLaws.{told8, told64}
 use borrow.Author.Needs.{needs}
 use Rattle.lattice_sums.proofs.sums.edge_term.Statement.{statement}
 use Rattle.lattice_sums.proofs.sums.edge_term.Tie as tie
 
-weight-x : (c : tie.After-weight-ex) → toZ w8 (ofZ w8 (c .weight-ex .result)) ≡ ex (ofByte (c .before .before .args .p))
+weight-x : (c : tie.After-weight-ex) → toZ w8 (ofZ w8 (c .weight-ex .result)) ≡ ex (ofByte (c .before .args .p))
 weight-x c = told8 (c .weight-ex .ok) (c .weight-ex .ensures)
 
-weight-y : (c : tie.After-weight-ey) → toZ w8 (ofZ w8 (c .weight-ey .result)) ≡ ey (ofByte (c .before .before .before .args .p))
+weight-y : (c : tie.After-weight-ey) → toZ w8 (ofZ w8 (c .weight-ey .result)) ≡ ey (ofByte (c .before .before .args .p))
 weight-y c = told8 (c .weight-ey .ok) (c .weight-ey .ensures)
 
-weight-z : (c : tie.After-weight-ez) → toZ w8 (ofZ w8 (c .weight-ez .result)) ≡ ez (ofByte (c .before .before .before .before .args .p))
+weight-z : (c : tie.After-weight-ez) → toZ w8 (ofZ w8 (c .weight-ez .result)) ≡ ez (ofByte (c .before .before .before .args .p))
 weight-z c = told8 (c .weight-ez .ok) (c .weight-ez .ensures)
 
 weight-ex-requires : tie.Need-weight-ex-requires
@@ -33,7 +32,7 @@ weight-ez-requires c κs = search needs
 
 three-requires : tie.Need-three-requires
 three-requires c κs =
-    let s = c .before .before .before .before in (
+    let s = c .before .before .before in (
       omega (arith, s .pre),
       omega (arith, s .pre),
       omega (arith, s .pre),
@@ -44,12 +43,7 @@ three-requires c κs =
 
 returns : tie.Need-returns
 returns c =
-    let s = c .before in
-    (many-outer (s .args .p) (s .fits .p .fits) (s .args .x) (s .args .y) (s .args .z) (c .if1 .taken), omega arith)
-
-returns-2 : tie.Need-returns-2
-returns-2 c =
-    let s = c .before .before .before .before .before in
+    let s = c .before .before .before .before in
     let e = told64 {v = edgeTerm (s .args .x) (s .args .y) (s .args .z) (ofByte (s .args .p))} (c .three .ok)
     (c .three .ensures .0 ∙ rw (weight-x (c .before .before .before), weight-y (c .before .before), weight-z (c .before))) in
     (e, rw e (term-small EdgeLength (s .args .x) (s .args .y) (s .args .z) (ofByte (s .args .p)) (s .pre .0) (s .pre .1) (s .pre .2)))
@@ -57,4 +51,4 @@ returns-2 c =
 pub edge-term-spec : {M : Type 1} → statement M
 edge-term-spec =
     tie.close
-    (tie.spec returns weight-ex-requires weight-ey-requires weight-ez-requires three-requires returns-2)
+    (tie.spec weight-ex-requires weight-ey-requires weight-ez-requires three-requires returns)

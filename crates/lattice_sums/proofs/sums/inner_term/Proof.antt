@@ -1,4 +1,4 @@
--- The coordinates are at most 1,024, and the weights at most 1.
+-- Fewer than three covered cells weigh nothing; else the coordinates are at most 1,024, and the weights at most 1.
 use mathlib.Core.Path.{_≡_, _∙_}
 use native.Mathlib.Omega.{arith}
 use mir.Syntax.{w8}
