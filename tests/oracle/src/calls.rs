@@ -15,9 +15,10 @@ fn refused<const N: usize>(refusal: Refusal) -> Answer<N> {
     answer
 }
 
-/// An accepted list's numbers: volume, area, edge length and corner count, with the listing beside them.
+/// An accepted list's numbers: volume, area, edge length, inner length and corner count, with the
+/// listing beside them.
 pub struct Measured {
-    pub numbers: [u64; 4],
+    pub numbers: [u64; 5],
     pub listing: Vec<u8>,
 }
 
@@ -28,7 +29,8 @@ pub fn measured(list: &List) -> Measured {
     let corners = corners::corners(&cells);
     let listing = corners::listing(&corners);
     assert_eq!(totals, corners::sums(&listing), "cell counts and corner sums differ for {list:?}");
-    Measured { numbers: [totals.volume, totals.area, totals.edge, corners.len() as u64], listing }
+    let numbers = [totals.volume, totals.area, totals.edge, totals.inner, corners.len() as u64];
+    Measured { numbers, listing }
 }
 
 /// The calls on one list, which is counted once for all of them.
@@ -59,7 +61,7 @@ impl<'a> Calls<'a> {
     }
 
     /// The measuring call; success leaves the index in the work slice.
-    pub fn measure(&self, work: &mut [u32]) -> Answer<6> {
+    pub fn measure(&self, work: &mut [u32]) -> Answer<7> {
         match self.check_with(work) {
             Err(refusal) => refused(refusal),
             Ok(()) => self.accept(work),
@@ -67,7 +69,7 @@ impl<'a> Calls<'a> {
     }
 
     /// The listing call; refusal 11 leaves the index in the work slice and the listing buffer as it was.
-    pub fn list(&self, work: &mut [u32], listing: &mut [u8]) -> Answer<6> {
+    pub fn list(&self, work: &mut [u32], listing: &mut [u8]) -> Answer<7> {
         if let Err(refusal) = self.check_with(work) {
             return refused(refusal);
         }
@@ -120,15 +122,15 @@ impl<'a> Calls<'a> {
         work[..index.len()].copy_from_slice(&index);
     }
 
-    fn accept(&self, work: &mut [u32]) -> Answer<6> {
+    fn accept(&self, work: &mut [u32]) -> Answer<7> {
         self.store_index(work);
-        let [volume, area, edge, corners] = self.measured().numbers;
-        [0, 0, volume, area, edge, corners]
+        let [volume, area, edge, inner, corners] = self.measured().numbers;
+        [0, 0, volume, area, edge, inner, corners]
     }
 }
 
 /// The measuring call on a list.
-pub fn measure(list: &List, work: &mut [u32]) -> Answer<6> {
+pub fn measure(list: &List, work: &mut [u32]) -> Answer<7> {
     Calls::on(list).measure(work)
 }
 
@@ -148,7 +150,7 @@ pub fn covers(list: &List, run: &[u32], cell: [u16; 3]) -> Answer<2> {
 }
 
 /// The listing call on a list.
-pub fn list(list: &List, work: &mut [u32], listing: &mut [u8]) -> Answer<6> {
+pub fn list(list: &List, work: &mut [u32], listing: &mut [u8]) -> Answer<7> {
     Calls::on(list).list(work, listing)
 }
 

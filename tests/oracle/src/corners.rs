@@ -1,14 +1,16 @@
-//! Patterns of lattice points, their seven weights, the listing of corner points, and the sums taken from a listing.
+//! Patterns of lattice points, their ten weights, the listing of corner points, and the sums taken from a listing.
 
 use crate::cells::{Cells, Line};
 use crate::totals::{for_lines, Lines, Totals};
 
-/// The seven weights of a pattern.
+/// The ten weights of a pattern: of the cells, of the squares across each axis, of the outer and of the inner unit edges
+/// along each.
 #[derive(Clone, Copy, Debug, PartialEq, Eq)]
 pub struct Weights {
     pub w: i64,
     pub a: [i64; 3],
     pub e: [i64; 3],
+    pub i: [i64; 3],
 }
 
 impl Weights {
@@ -17,13 +19,14 @@ impl Weights {
         Weights {
             w: cell_weight(pattern),
             a: [0, 1, 2].map(|axis| area_weight(pattern, axis)),
-            e: [0, 1, 2].map(|axis| edge_weight(pattern, axis)),
+            e: [0, 1, 2].map(|axis| length_weight(pattern, axis, outer_count)),
+            i: [0, 1, 2].map(|axis| length_weight(pattern, axis, inner_count)),
         }
     }
 
     /// A point with such a pattern is a corner point if any weight is not zero.
     pub fn corner(&self) -> bool {
-        self.w != 0 || self.a != [0; 3] || self.e != [0; 3]
+        self.w != 0 || self.a != [0; 3] || self.e != [0; 3] || self.i != [0; 3]
     }
 }
 
@@ -68,20 +71,25 @@ fn area_weight(pattern: u8, axis: usize) -> i64 {
     FOUR.iter().filter(|[first, second]| counts(*first, *second)).map(|[f, s]| sign(*f) * sign(*s)).sum()
 }
 
-/// The count of the unit edge below the point on the axis, minus that of the one above.
-fn edge_weight(pattern: u8, axis: usize) -> i64 {
+/// What the unit edge below the point on the axis counts, minus what the one above does.
+fn length_weight(pattern: u8, axis: usize, count: fn([bool; 4]) -> i64) -> i64 {
     let four = |along| FOUR.map(|[first, second]| covered(pattern, sides(axis, along, first, second)));
-    edge_count(four(0)) - edge_count(four(1))
+    count(four(0)) - count(four(1))
 }
 
-/// The count of a unit edge; the cells are in the order of `FOUR`, so the first and the last share only the edge, and
-/// so do the second and the third.
-pub fn edge_count(four: [bool; 4]) -> i64 {
+/// What a unit edge counts as edge length; the cells are in the order of `FOUR`, so the first and the last share only
+/// the edge, and so do the second and the third.
+fn outer_count(four: [bool; 4]) -> i64 {
     match four.iter().filter(|covered| **covered).count() {
-        1 | 3 => 1,
+        1 => 1,
         2 if four[0] == four[3] => 2,
         _ => 0,
     }
+}
+
+/// What a unit edge counts as inner length.
+fn inner_count(four: [bool; 4]) -> i64 {
+    i64::from(four.iter().filter(|covered| **covered).count() == 3)
 }
 
 /// One record of a listing.
@@ -148,7 +156,7 @@ pub fn listing(corners: &[Corner]) -> Vec<u8> {
 
 /// The corner sums, from a listing's bytes and nothing else.
 pub fn sums(listing: &[u8]) -> Totals {
-    let mut sums = [0i64; 3];
+    let mut sums = [0i64; 4];
     for record in listing.chunks_exact(7) {
         let corner = Corner::from_bytes(record);
         let [x, y, z] = corner.at.map(i64::from);
@@ -156,7 +164,8 @@ pub fn sums(listing: &[u8]) -> Totals {
         sums[0] += x * y * z * weights.w;
         sums[1] += y * z * weights.a[0] + x * z * weights.a[1] + x * y * weights.a[2];
         sums[2] += x * weights.e[0] + y * weights.e[1] + z * weights.e[2];
+        sums[3] += x * weights.i[0] + y * weights.i[1] + z * weights.i[2];
     }
-    let [volume, area, edge] = sums.map(|sum| u64::try_from(sum).expect("a corner sum is negative"));
-    Totals { volume, area, edge }
+    let [volume, area, edge, inner] = sums.map(|sum| u64::try_from(sum).expect("a corner sum is negative"));
+    Totals { volume, area, edge, inner }
 }

@@ -5,8 +5,8 @@
 //!
 //! - [`list`]: a list of shots and the refusals that depend on it alone
 //! - [`cells`]: the covered cells as a bit set
-//! - [`totals`]: volume, area and edge length counted over cells
-//! - [`corners`]: patterns, the seven weights, the listing, the corner sums
+//! - [`totals`]: volume, area, edge length and inner length counted over cells
+//! - [`corners`]: patterns, the ten weights, the listing, the corner sums
 //! - [`grid`]: the grid index and the cover test
 //! - [`credits`]: cells credited to the shots that are the first to cover them
 //! - [`shotfile`]: the reader and the writer

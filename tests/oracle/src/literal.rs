@@ -71,31 +71,37 @@ fn points(list: &List, mut look: impl FnMut(i64, i64, i64)) {
     }
 }
 
-/// Volume, area and edge length.
-pub fn totals(list: &List) -> [u64; 3] {
+/// Volume, area, edge length and inner length.
+pub fn totals(list: &List) -> [u64; 4] {
     let room = Room::of(list);
-    let mut totals = [0; 3];
+    let mut totals = [0; 4];
     points(list, |x, y, z| {
         let cell = room.at(x, y, z);
         totals[0] += u64::from(cell);
         for below in [room.at(x - 1, y, z), room.at(x, y - 1, z), room.at(x, y, z - 1)] {
             totals[1] += u64::from(cell != below);
         }
-        totals[2] += unit_edge(|p, q| room.at(x, y + p, z + q));
-        totals[2] += unit_edge(|p, q| room.at(x + p, y, z + q));
-        totals[2] += unit_edge(|p, q| room.at(x + p, y + q, z));
+        let along_x = unit_edge(|p, q| room.at(x, y + p, z + q));
+        let along_y = unit_edge(|p, q| room.at(x + p, y, z + q));
+        let along_z = unit_edge(|p, q| room.at(x + p, y + q, z));
+        for (edge, inner) in [along_x, along_y, along_z] {
+            totals[2] += edge;
+            totals[3] += inner;
+        }
     });
     totals
 }
 
-/// The count of a unit edge: one or three covered cells about it count 1, two that share only the edge count 2.
-fn unit_edge(cell: impl Fn(i64, i64) -> bool) -> u64 {
+/// What a unit edge counts as edge and as inner length: one covered cell about it is edge 1, two that share only the
+/// edge are edge 2, three are inner 1.
+fn unit_edge(cell: impl Fn(i64, i64) -> bool) -> (u64, u64) {
     let (a, b, c, d) = (cell(-1, -1), cell(-1, 0), cell(0, -1), cell(0, 0));
     match u8::from(a) + u8::from(b) + u8::from(c) + u8::from(d) {
-        1 | 3 => 1,
-        2 if a && d => 2,
-        2 if b && c => 2,
-        _ => 0,
+        1 => (1, 0),
+        2 if a && d => (2, 0),
+        2 if b && c => (2, 0),
+        3 => (0, 1),
+        _ => (0, 0),
     }
 }
 

@@ -1,4 +1,4 @@
-//! The programs that answer a shot file, or a VOX file, from standard input with lines on standard output: the four
+//! The programs that answer a shot file, or a VOX file, from standard input with lines on standard output: the five
 //! lines of a quote, a line of credit for each shot, or a refusal.
 
 use crate::calls;
@@ -55,11 +55,11 @@ fn quote_read(answer: [u64; 6], coords: Vec<u16>) -> String {
         Err(told) => return told,
         Ok(list) => list,
     };
-    let [number, detail, volume, area, edge, corners] = calls::measure(&list, &mut vec![0; ENTRIES]);
+    let [number, detail, volume, area, edge, inner, corners] = calls::measure(&list, &mut vec![0; ENTRIES]);
     if number != 0 {
         return refused(number, detail);
     }
-    format!("volume {volume}\narea {area}\nedge {edge}\ncorners {corners}\n")
+    format!("volume {volume}\narea {area}\nedge {edge}\ninner {inner}\ncorners {corners}\n")
 }
 
 /// The list that a reader answered and stored, or the line of its refusal.

@@ -1,18 +1,20 @@
-//! Volume, area and edge length, counted over the cells.
+//! Volume, area, edge length and inner length, counted over the cells.
 //!
 //! Lines of cells along z are taken 64 cells to a word.
 
 use crate::cells::{Cells, Line, LINE};
 
-/// The three totals, by the cells.
+/// The four totals, by the cells.
 #[derive(Clone, Copy, Debug, PartialEq, Eq, Default)]
 pub struct Totals {
     pub volume: u64,
     pub area: u64,
     pub edge: u64,
+    pub inner: u64,
 }
 
-/// Counts the cells, the unit squares with one of their two cells covered, and the unit edges.
+/// Counts the cells, the unit squares with one of their two cells covered, and the unit edges,
+/// outer and inner.
 pub fn count(cells: &Cells) -> Totals {
     let mut totals = Totals::default();
     for_lines(cells, |_, _, lines| count_at(lines, &mut totals));
@@ -89,15 +91,23 @@ fn count_at(lines: &Lines, totals: &mut Totals) {
         // Across x, across y, across z.
         totals.area += ones(d_up ^ b_up) + ones(d_up ^ c_up) + ones(d ^ d_up);
         // Along z, along y, along x.
-        totals.edge += edges(a, b, c, d) + edges(b, b_up, d, d_up) + edges(c, c_up, d, d_up);
+        for four in [[a, b, c, d], [b, b_up, d, d_up], [c, c_up, d, d_up]] {
+            totals.edge += outer(four);
+            totals.inner += inner(four);
+        }
     }
 }
 
-/// The counts of 64 unit edges; a and d lie across the edge from each other, and so do b and c.
-fn edges(a: u64, b: u64, c: u64, d: u64) -> u64 {
-    let one_or_three = a ^ b ^ c ^ d;
+/// What 64 unit edges count as edge length; a and d lie across the edge from each other, and so do b and c.
+fn outer([a, b, c, d]: [u64; 4]) -> u64 {
+    let one = (a ^ b ^ c ^ d) & !(a & d | b & c);
     let only_the_edge_shared = (a & d & !b & !c) | (b & c & !a & !d);
-    ones(one_or_three) + 2 * ones(only_the_edge_shared)
+    ones(one) + 2 * ones(only_the_edge_shared)
+}
+
+/// How many of 64 unit edges have three covered cells: of an odd number, and two of them across the edge.
+fn inner([a, b, c, d]: [u64; 4]) -> u64 {
+    ones((a ^ b ^ c ^ d) & (a & d | b & c))
 }
 
 fn ones(word: u64) -> u64 {

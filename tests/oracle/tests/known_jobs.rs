@@ -8,11 +8,11 @@ fn job(field: u16, edge: u16, grid: u16, shots: &[[u16; 3]]) -> List {
     List { field, edge, grid, coords: shots.concat() }
 }
 
-/// A job's edge, its shots, and its volume, area, edge length and corners.
-type Known<'a> = (u16, &'a [[u16; 3]], [u64; 4]);
+/// A job's edge, its shots, and its volume, area, edge length, inner length and corners.
+type Known<'a> = (u16, &'a [[u16; 3]], [u64; 5]);
 
 /// The measuring call's answer with plenty of room; the listing call must give the same.
-fn measure(list: &List) -> [u64; 6] {
+fn measure(list: &List) -> [u64; 7] {
     let calls = Calls::on(list);
     let answer = calls.measure(&mut vec![0; 2_000_000]);
     assert_eq!(answer, calls.list(&mut vec![0; 2_000_000], &mut vec![0; 70_000]));
@@ -33,17 +33,18 @@ fn the_table_of_known_totals() {
     }
     for grid in [1, 2, 4, 8] {
         let known: [Known; 8] = [
-            (2, &[], [0, 0, 0, 0]),
-            (2, &[[1, 1, 1]], [8, 24, 24, 8]),
-            (2, &[[1, 1, 1], [1, 1, 1]], [8, 24, 24, 8]),
-            (2, &[[0, 0, 0], [2, 0, 0]], [16, 40, 32, 8]),
-            (2, &[[0, 0, 0], [2, 2, 0]], [16, 48, 48, 14]),
-            (2, &[[0, 0, 0], [2, 2, 2]], [16, 48, 48, 15]),
-            (2, &[[0, 0, 0], [1, 1, 1]], [15, 42, 48, 20]),
-            (1, &about, [26, 60, 48, 16]),
+            (2, &[], [0, 0, 0, 0, 0]),
+            (2, &[[1, 1, 1]], [8, 24, 24, 0, 8]),
+            (2, &[[1, 1, 1], [1, 1, 1]], [8, 24, 24, 0, 8]),
+            (2, &[[0, 0, 0], [2, 0, 0]], [16, 40, 32, 0, 8]),
+            (2, &[[0, 0, 0], [2, 2, 0]], [16, 48, 48, 0, 14]),
+            (2, &[[0, 0, 0], [2, 2, 2]], [16, 48, 48, 0, 15]),
+            (2, &[[0, 0, 0], [1, 1, 1]], [15, 42, 42, 6, 20]),
+            (1, &about, [26, 60, 36, 12, 16]),
         ];
-        for (edge, shots, [volume, area, length, corners]) in known {
-            assert_eq!(measure(&job(8, edge, grid, shots)), [0, 0, volume, area, length, corners], "{shots:?}");
+        for (edge, shots, figures) in known {
+            let answer = measure(&job(8, edge, grid, shots));
+            assert_eq!((&answer[..2], &answer[2..]), (&[0, 0][..], &figures[..]), "{shots:?}");
         }
     }
 }
@@ -52,7 +53,7 @@ fn the_table_of_known_totals() {
 fn the_whole_field_as_one_shot() {
     for shots in [1, 2, 4096] {
         let list = job(1024, 1024, 1, &vec![[0; 3]; shots]);
-        assert_eq!(measure(&list), [0, 0, 1_073_741_824, 6_291_456, 12_288, 8]);
+        assert_eq!(measure(&list), [0, 0, 1_073_741_824, 6_291_456, 12_288, 0, 8]);
     }
 }
 
@@ -96,7 +97,7 @@ fn the_entries_that_an_index_needs() {
     for (shot, need) in [([1; 3], 10), ([2; 3], 17), ([3; 3], 17)] {
         let list = job(8, 2, 2, &[shot]);
         let mut work = vec![77; need - 1];
-        assert_eq!(calls::measure(&list, &mut work), [10, need as u64, 0, 0, 0, 0]);
+        assert_eq!(calls::measure(&list, &mut work), [10, need as u64, 0, 0, 0, 0, 0]);
         assert_eq!(work, vec![77; need - 1]);
         let mut work = vec![77; need + 1];
         assert_eq!(calls::measure(&list, &mut work)[0], 0);
@@ -107,11 +108,11 @@ fn the_entries_that_an_index_needs() {
 #[test]
 fn the_quoting_program_s_example() {
     let file = [7, 8, 0, 2, 0, 2, 0, 0, 7, 1, 0, 1, 0, 1, 0];
-    assert_eq!(quote(&file), "volume 15\narea 42\nedge 48\ncorners 20\n");
+    assert_eq!(quote(&file), "volume 15\narea 42\nedge 42\ninner 6\ncorners 20\n");
     assert_eq!(quote(&[]), "refused 5 0\n");
     assert_eq!(quote(b"VOX "), "refused 4 0\n");
-    assert_eq!(quote(&[0]), "volume 0\narea 0\nedge 0\ncorners 0\n");
-    assert_eq!(quote(&[0, 0]), "volume 4096\narea 1536\nedge 192\ncorners 8\n");
+    assert_eq!(quote(&[0]), "volume 0\narea 0\nedge 0\ninner 0\ncorners 0\n");
+    assert_eq!(quote(&[0, 0]), "volume 4096\narea 1536\nedge 192\ninner 0\ncorners 8\n");
     assert_eq!(quote(&[1, 8, 0]), "refused 7 0\n");
     assert_eq!(quote(&[4, 64, 0]), "refused 10 262145\n");
 }
@@ -134,12 +135,12 @@ fn what_credits_prints() {
 fn files_that_leave_out_the_grid() {
     // 16 does not divide the field side; 8, named, does.
     assert_eq!(quote(&[3, 8, 0, 2, 0, 0]), "refused 8 0\n");
-    assert_eq!(quote(&[7, 8, 0, 2, 0, 8, 0, 0]), "volume 8\narea 24\nedge 24\ncorners 8\n");
+    assert_eq!(quote(&[7, 8, 0, 2, 0, 8, 0, 0]), "volume 8\narea 24\nedge 24\ninner 0\ncorners 8\n");
     // A shot of edge 16 at the origin needs 4,098 entries with 16, and 514 with 8.
     let one = |grid| job(1024, 16, grid, &[[0; 3]]);
-    assert_eq!(calls::measure(&one(16), &mut vec![0; 514]), [10, 4098, 0, 0, 0, 0]);
+    assert_eq!(calls::measure(&one(16), &mut vec![0; 514]), [10, 4098, 0, 0, 0, 0, 0]);
     for (grid, need) in [(8, 514), (16, 4098)] {
-        assert_eq!(calls::measure(&one(grid), &mut vec![0; need]), [0, 0, 4096, 1536, 192, 8]);
+        assert_eq!(calls::measure(&one(grid), &mut vec![0; need]), [0, 0, 4096, 1536, 192, 0, 8]);
     }
 }
 
@@ -153,7 +154,7 @@ fn how_many_large_shots_the_quoting_program_has_entries_for() {
         (&[6, 0, 2, 8, 0], 1, 126, 513 + 127 * 125),
     ] {
         let file = |shots: usize| [header, &[7, place, 0, place, 0, place, 0], &vec![0; shots - 1]].concat();
-        assert_eq!(quote(&file(most)), "volume 134217728\narea 1572864\nedge 6144\ncorners 8\n");
+        assert_eq!(quote(&file(most)), "volume 134217728\narea 1572864\nedge 6144\ninner 0\ncorners 8\n");
         assert_eq!(quote(&file(most + 1)), format!("refused 10 {refused}\n"));
     }
 }

@@ -2,7 +2,7 @@
 
 use oracle::calls::{self, measured, Calls};
 use oracle::cells::Cells;
-use oracle::corners::{listing, Weights};
+use oracle::corners::listing;
 use oracle::credits::credits;
 use oracle::inputs::{accepted, accepted_with, Random, Size};
 use oracle::list::List;
@@ -15,7 +15,7 @@ fn totals_corners_and_index() {
         let size = if turn % 10 == 0 { Size { field: 12, shots: 40 } } else { Size { field: 6, shots: 8 } };
         let list = accepted(&mut random, size);
         let measured = measured(&list);
-        assert_eq!(measured.numbers[..3], literal::totals(&list), "{list:?}");
+        assert_eq!(measured.numbers[..4], literal::totals(&list), "{list:?}");
         assert_eq!(measured.listing, listing(&literal::corners(&list)), "{list:?}");
         let index = grid::index(&list);
         assert_eq!(index, literal::index(&list), "{list:?}");
@@ -101,7 +101,7 @@ fn rows_of_more_than_one_word() {
             let mut list = accepted_with(&mut random, field, edge, 3);
             list.coords.extend([0, 0, 0, (field - edge) as u16, 0, (field - edge) as u16]);
             let measured = measured(&list);
-            assert_eq!(measured.numbers[..3], literal::totals(&list), "{list:?}");
+            assert_eq!(measured.numbers[..4], literal::totals(&list), "{list:?}");
             assert_eq!(measured.listing, listing(&literal::corners(&list)), "{list:?}");
             assert_eq!(credits(&list), literal::credits(&list), "{list:?}");
         }
@@ -123,30 +123,6 @@ fn painting_and_growing_cover_the_same_cells() {
                 assert_eq!(painted.row(i, j), grown.row(i, j), "{list:?}");
             }
         }
-    }
-}
-
-#[test]
-fn a_pattern_without_weights_stays_the_same_across_an_axis() {
-    let same = |pattern: u8| {
-        let low = [0x0f, 0x33, 0x55];
-        (0..3).any(|axis| pattern & low[axis] == pattern >> (4 >> axis) & low[axis])
-    };
-    let flat: Vec<u8> = (0..=255).filter(|pattern| !Weights::of(*pattern).corner()).collect();
-    assert_eq!(flat.len(), 38);
-    assert!(flat.iter().all(|pattern| same(*pattern)));
-    assert_eq!((0..=255).filter(|pattern| same(*pattern)).count(), 38);
-}
-
-#[test]
-fn the_weights_ranges() {
-    let all: Vec<Weights> = (0..=255).map(Weights::of).collect();
-    assert_eq!((all.iter().map(|t| t.w).min(), all.iter().map(|t| t.w).max()), (Some(-4), Some(4)));
-    for axis in 0..3 {
-        assert_eq!(all.iter().map(|t| t.a[axis]).min(), Some(-2));
-        assert_eq!(all.iter().map(|t| t.a[axis]).max(), Some(2));
-        assert_eq!(all.iter().map(|t| t.e[axis]).min(), Some(-2));
-        assert_eq!(all.iter().map(|t| t.e[axis]).max(), Some(2));
     }
 }
 

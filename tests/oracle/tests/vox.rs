@@ -341,14 +341,14 @@ fn a_second_size_or_xyzi_is_skipped_whole() {
 #[test]
 fn no_voxel_is_fine() {
     assert_eq!(read_with(&model(SIDES, &[], &[]), 0), (0, 0));
-    assert_eq!(quote_vox(&model(SIDES, &[], &[])), "volume 0\narea 0\nedge 0\ncorners 0\n");
+    assert_eq!(quote_vox(&model(SIDES, &[], &[])), "volume 0\narea 0\nedge 0\ninner 0\ncorners 0\n");
 }
 
 #[test]
 fn the_cells_are_quoted() {
     let around: Vec<Voxel> = (0..27u8).filter(|n| *n != 13).map(|n| [n / 9, n / 3 % 3, n % 3, n + 1]).collect();
-    assert_eq!(quote_vox(&model([3, 3, 3], &around, &[])), "volume 26\narea 60\nedge 48\ncorners 16\n");
-    assert_eq!(quote_vox(&model([9, 3, 40], &around, &[])), "volume 26\narea 60\nedge 48\ncorners 16\n");
+    assert_eq!(quote_vox(&model([3, 3, 3], &around, &[])), "volume 26\narea 60\nedge 36\ninner 12\ncorners 16\n");
+    assert_eq!(quote_vox(&model([9, 3, 40], &around, &[])), "volume 26\narea 60\nedge 36\ninner 12\ncorners 16\n");
     assert_eq!(quote_vox(&[]), "refused 13 0\n");
     assert_eq!(quote_vox(&[7, 8, 0, 2, 0, 2, 0, 0, 7, 1, 0, 1, 0, 1, 0]), "refused 13 0\n");
     assert_eq!(quote(&small()), "refused 4 0\n");
