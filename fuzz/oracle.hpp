@@ -143,15 +143,17 @@ inline std::vector<uint32_t> credits(const List &list) {
     return result;
 }
 
-// The count of a unit edge; a and d share only the edge, and so do b and c.
-inline int edge_count(int a, int b, int c, int d) {
-    int ones = a + b + c + d;
-    if (ones == 1 || ones == 3) return 1;
-    return ones == 2 && a == d ? 2 : 0;
-}
+// The four cells about a unit edge, 1 where covered, and what it counts as edge and as inner length. a and d share only
+// the edge, and so do b and c.
+struct Four {
+    int a, b, c, d;
+
+    int outer() const { return a + b + c + d == 1 ? 1 : a == d && b == c && a != b ? 2 : 0; }
+    int inner() const { return a + b + c + d == 3; }
+};
 
 struct Weights {
-    int w = 0, a[3] = {0, 0, 0}, e[3] = {0, 0, 0};
+    int w = 0, a[3] = {0, 0, 0}, e[3] = {0, 0, 0}, i[3] = {0, 0, 0};
 
     explicit Weights(uint8_t pattern) {
         int shift[3] = {2, 1, 0};
@@ -165,16 +167,22 @@ struct Weights {
             for (int b = 0; b < 2; b++)
                 for (int c = 0; c < 2; c++)
                     if (cell(0, b, c) != cell(1, b, c)) a[axis] += b == c ? 1 : -1;
-            e[axis] = edge_count(cell(0, 0, 0), cell(0, 0, 1), cell(0, 1, 0), cell(0, 1, 1)) -
-                      edge_count(cell(1, 0, 0), cell(1, 0, 1), cell(1, 1, 0), cell(1, 1, 1));
+            Four ending = {cell(0, 0, 0), cell(0, 0, 1), cell(0, 1, 0), cell(0, 1, 1)};
+            Four beginning = {cell(1, 0, 0), cell(1, 0, 1), cell(1, 1, 0), cell(1, 1, 1)};
+            e[axis] = ending.outer() - beginning.outer();
+            i[axis] = ending.inner() - beginning.inner();
         }
     }
 
-    bool corner() const { return w || a[0] || a[1] || a[2] || e[0] || e[1] || e[2]; }
+    bool corner() const {
+        bool any = w != 0;
+        for (int axis = 0; axis < 3; axis++) any = any || a[axis] != 0 || e[axis] != 0 || i[axis] != 0;
+        return any;
+    }
 };
 
 struct Measured {
-    uint64_t volume = 0, area = 0, edge = 0, corners = 0;
+    uint64_t volume = 0, area = 0, edge = 0, inner = 0, corners = 0;
     std::vector<uint8_t> listing;
 };
 
@@ -194,8 +202,13 @@ inline void count_point(const int *point, uint8_t pattern, Measured &result) {
     auto cell = [&](int bit) { return pattern >> bit & 1; };
     result.volume += uint64_t(cell(7));
     result.area += uint64_t((cell(7) != cell(3)) + (cell(7) != cell(5)) + (cell(7) != cell(6)));
-    result.edge += uint64_t(edge_count(cell(1), cell(3), cell(5), cell(7)) + edge_count(cell(2), cell(3), cell(6), cell(7)) +
-                            edge_count(cell(4), cell(5), cell(6), cell(7)));
+    const Four edges[3] = {{cell(4), cell(5), cell(6), cell(7)},
+                           {cell(2), cell(3), cell(6), cell(7)},
+                           {cell(1), cell(3), cell(5), cell(7)}};
+    for (const Four &four : edges) {
+        result.edge += uint64_t(four.outer());
+        result.inner += uint64_t(four.inner());
+    }
     if (!corner_table()[pattern]) return;
     result.corners++;
     for (int axis = 0; axis < 3; axis++) {
@@ -226,7 +239,7 @@ inline Measured measured(const List &list) {
 
 // The totals of a listing's bytes.
 inline Measured sums(const uint8_t *listing, size_t corners) {
-    int64_t volume = 0, area = 0, edge = 0;
+    int64_t volume = 0, area = 0, edge = 0, inner = 0;
     for (size_t record = 0; record < corners; record++) {
         const uint8_t *bytes = listing + 7 * record;
         int64_t x = bytes[0] | bytes[1] << 8, y = bytes[2] | bytes[3] << 8, z = bytes[4] | bytes[5] << 8;
@@ -234,11 +247,13 @@ inline Measured sums(const uint8_t *listing, size_t corners) {
         volume += x * y * z * weights.w;
         area += y * z * weights.a[0] + x * z * weights.a[1] + x * y * weights.a[2];
         edge += x * weights.e[0] + y * weights.e[1] + z * weights.e[2];
+        inner += x * weights.i[0] + y * weights.i[1] + z * weights.i[2];
     }
     Measured result;
     result.volume = uint64_t(volume);
     result.area = uint64_t(area);
     result.edge = uint64_t(edge);
+    result.inner = uint64_t(inner);
     result.corners = corners;
     return result;
 }

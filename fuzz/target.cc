@@ -107,7 +107,7 @@ size_t about(uint64_t need, uint8_t choice) {
 }
 
 // Stores the expected answer where it has room, and says whether it has.
-bool expect_answer(size_t places, oracle::Refusal refusal, std::initializer_list<uint64_t> numbers) {
+bool expect_answer(size_t places, oracle::Refusal refusal, const std::vector<uint64_t> &numbers) {
     std::vector<uint64_t> &answer = buffers().answer.expected;
     if (answer.size() < places) return false;
     std::fill(answer.begin(), answer.begin() + long(places), 0);
@@ -117,7 +117,15 @@ bool expect_answer(size_t places, oracle::Refusal refusal, std::initializer_list
     return true;
 }
 
-size_t answer_places(uint8_t choice) { return choice < 200 ? 6 : choice % 10; }
+// The five figures in the order of an answer.
+std::vector<uint64_t> figures(const oracle::Measured &totals) {
+    return {totals.volume, totals.area, totals.edge, totals.inner, totals.corners};
+}
+
+// As many places as a call needs, as every call and two to spare, or any few.
+size_t answer_places(size_t need, uint8_t choice) {
+    return choice < 100 ? need : choice < 200 ? HEQDANU_ANSWER + 2 : choice % 10;
+}
 
 typedef uint8_t (*Read)(const uint8_t *, size_t, uint16_t *, size_t, uint64_t *, size_t);
 typedef oracle::File (*Reading)(const uint8_t *, size_t, size_t);
@@ -131,11 +139,12 @@ oracle::File read(const char *call, Read library, Reading reading, const std::ve
     std::copy(file.begin(), file.begin() + long(lent.bytes.length), lent.bytes.places);
     lent.bytes.expected.assign(lent.bytes.places, lent.bytes.places + lent.bytes.length);
     lent.coords.lend(places, choice[5]);
-    lent.answer.lend(answer_places(choice[4]), choice[5]);
+    lent.answer.lend(answer_places(HEQDANU_READ_ANSWER, choice[4]), choice[5]);
     uint8_t written = library(lent.bytes.places, lent.bytes.length, lent.coords.places, lent.coords.length,
                               lent.answer.places, lent.answer.length);
     oracle::File held = reading(lent.bytes.places, lent.bytes.length, lent.coords.length);
-    bool room = expect_answer(6, held.refusal, {held.header[0], held.header[1], held.header[2], held.coords.size() / 3});
+    bool room = expect_answer(HEQDANU_READ_ANSWER, held.refusal,
+                              {held.header[0], held.header[1], held.header[2], held.coords.size() / 3});
     if (room && held.refusal.number == 0) lent.coords.store(held.coords);
     expect(written == room, call, "says wrongly whether it answered");
     lent.answer.check(call, "the answer differs");
@@ -213,23 +222,24 @@ oracle::Refusal with_work(const Expected &expected, size_t nwork) {
 // Takes the totals of a list that is too large to count here from the measuring call's answer.
 void take_uncounted(Expected &expected) {
     const Lent<uint64_t> &answer = buffers().answer;
-    if (expected.counted || answer.length < 6 || answer.places[0] != 0) return;
+    if (expected.counted || answer.length < HEQDANU_MEASURE_ANSWER || answer.places[HEQDANU_NUMBER] != 0) return;
     expected.measured.volume = answer.places[2];
     expected.measured.area = answer.places[3];
     expected.measured.edge = answer.places[4];
-    expected.measured.corners = answer.places[5];
+    expected.measured.inner = answer.places[5];
+    expected.measured.corners = answer.places[6];
 }
 
 void measure(const char *call, Measure library, const oracle::List &list, Expected &expected, const uint8_t *choice) {
     Buffers &lent = buffers();
     lent.work.lend(about(expected.need, choice[1]), choice[5]);
-    lent.answer.lend(answer_places(choice[4]), choice[5]);
+    lent.answer.lend(answer_places(HEQDANU_MEASURE_ANSWER, choice[4]), choice[5]);
     uint8_t written = library(list.field, list.edge, list.grid, list.coords, list.ncoords, lent.work.places,
                               lent.work.length, lent.answer.places, lent.answer.length);
     take_uncounted(expected);
     oracle::Refusal refusal = with_work(expected, lent.work.length);
     const oracle::Measured &totals = expected.measured;
-    bool room = expect_answer(6, refusal, {totals.volume, totals.area, totals.edge, totals.corners});
+    bool room = expect_answer(HEQDANU_MEASURE_ANSWER, refusal, figures(totals));
     if (room && refusal.number == 0) lent.work.store(oracle::index(list));
     expect(written == room, call, "says wrongly whether it answered");
     lent.answer.check(call, "the answer differs");
@@ -239,7 +249,7 @@ void measure(const char *call, Measure library, const oracle::List &list, Expect
 void index_alone(const oracle::List &list, const Expected &expected, const uint8_t *choice) {
     Buffers &lent = buffers();
     lent.work.lend(about(expected.need, choice[1]), choice[5]);
-    lent.answer.lend(answer_places(choice[4]), choice[5]);
+    lent.answer.lend(answer_places(HEQDANU_INDEX_ANSWER, choice[4]), choice[5]);
     uint8_t written = heqdanu_index(list.field, list.edge, list.grid, list.coords, list.ncoords, lent.work.places,
                                     lent.work.length, lent.answer.places, lent.answer.length);
     oracle::Refusal refusal = with_work(expected, lent.work.length);
@@ -254,7 +264,7 @@ void list_corners(const oracle::List &list, Expected &expected, const uint8_t *c
     Buffers &lent = buffers();
     lent.work.lend(about(expected.need, choice[1]), choice[5]);
     lent.listing.lend(about(7 * expected.measured.corners, choice[2]), choice[5]);
-    lent.answer.lend(answer_places(choice[4]), choice[5]);
+    lent.answer.lend(answer_places(HEQDANU_MEASURE_ANSWER, choice[4]), choice[5]);
     uint8_t written = heqdanu_list(list.field, list.edge, list.grid, list.coords, list.ncoords, lent.work.places,
                                    lent.work.length, lent.listing.places, lent.listing.length, lent.answer.places,
                                    lent.answer.length);
@@ -262,12 +272,13 @@ void list_corners(const oracle::List &list, Expected &expected, const uint8_t *c
     oracle::Refusal refusal = with_work(expected, lent.work.length);
     bool indexed = refusal.number == 0;
     if (indexed && lent.listing.length < 7 * totals.corners) refusal = {11, totals.corners};
-    bool room = expect_answer(6, refusal, {totals.volume, totals.area, totals.edge, totals.corners});
+    bool room = expect_answer(HEQDANU_MEASURE_ANSWER, refusal, figures(totals));
     if (room && indexed) lent.work.store(oracle::index(list));
     if (room && refusal.number == 0 && !expected.counted) {
         oracle::Measured sums = oracle::sums(lent.listing.places, totals.corners);
-        expect(sums.volume == totals.volume && sums.area == totals.area && sums.edge == totals.edge, "list",
-               "the listing's sums are not the totals");
+        expect(sums.volume == totals.volume && sums.area == totals.area && sums.edge == totals.edge &&
+                   sums.inner == totals.inner,
+               "list", "the listing's sums are not the totals");
         lent.listing.store({lent.listing.places, lent.listing.places + 7 * totals.corners});
     }
     if (room && refusal.number == 0 && expected.counted) lent.listing.store(totals.listing);
@@ -281,7 +292,7 @@ void credit(const oracle::List &list, const Expected &expected, const uint8_t *c
     Buffers &lent = buffers();
     lent.work.lend(about(expected.need, choice[1]), choice[5]);
     lent.credits.lend(about(list.shots(), choice[2]), choice[5]);
-    lent.answer.lend(answer_places(choice[4]), choice[5]);
+    lent.answer.lend(answer_places(HEQDANU_CREDIT_ANSWER, choice[4]), choice[5]);
     oracle::Refusal refusal = with_work(expected, lent.work.length);
     bool indexed = refusal.number == 0;
     if (indexed && lent.credits.length < list.shots()) refusal = {HEQDANU_SHORT_CREDITS, list.shots()};
@@ -304,11 +315,11 @@ void write(const oracle::List &list, const uint8_t *choice) {
     oracle::Refusal refusal = oracle::check(list);
     std::vector<uint8_t> file = refusal.number == 0 ? oracle::write(list) : std::vector<uint8_t>(9);
     lent.bytes.lend(about(file.size(), choice[3]), choice[5]);
-    lent.answer.lend(answer_places(choice[4]), choice[5]);
+    lent.answer.lend(answer_places(HEQDANU_WRITE_ANSWER, choice[4]), choice[5]);
     uint8_t written = heqdanu_write(list.field, list.edge, list.grid, list.coords, list.ncoords, lent.bytes.places,
                                     lent.bytes.length, lent.answer.places, lent.answer.length);
     if (refusal.number == 0 && lent.bytes.length < file.size()) refusal = {12, file.size()};
-    bool room = expect_answer(3, refusal, {file.size()});
+    bool room = expect_answer(HEQDANU_WRITE_ANSWER, refusal, {file.size()});
     if (room && refusal.number == 0) lent.bytes.store(file);
     expect(written == room, "write", "says wrongly whether it answered");
     lent.answer.check("write", "the answer differs");
@@ -338,7 +349,7 @@ void cover(const oracle::List &list, const uint8_t *bytes, size_t nbytes, const 
         lent.run.lend(run.size(), 0);
         std::copy(run.begin(), run.end(), lent.run.places);
         lent.run.expected = run;
-        lent.answer.lend(choice[4] < 200 ? HEQDANU_COVERS_ANSWER : choice[4] % 10, choice[5]);
+        lent.answer.lend(answer_places(HEQDANU_COVERS_ANSWER, choice[4]), choice[5]);
         uint8_t written = heqdanu_covers(held.edge, lent.coords.places, lent.coords.length, lent.run.places,
                                          lent.run.length, cell[0], cell[1], cell[2], lent.answer.places,
                                          lent.answer.length);
