@@ -18,9 +18,11 @@ uint8_t answered(uint64_t *answer, std::initializer_list<uint64_t> numbers) {
     return 1;
 }
 
-uint8_t refused(uint64_t *answer, oracle::Refusal refusal, bool write) {
-    if (write) return answered(answer, {refusal.number, refusal.detail, 0});
-    return answered(answer, {refusal.number, refusal.detail, 0, 0, 0, 0});
+// A refusal's answer has as many places as the call's own.
+uint8_t refused(uint64_t *answer, size_t places, oracle::Refusal refusal) {
+    answered(answer, {refusal.number, refusal.detail});
+    std::fill(answer + 2, answer + places, 0);
+    return 1;
 }
 
 // Refusals of the calls that take a work slice.
@@ -40,20 +42,94 @@ void put_index(const oracle::List &list, uint32_t *work, size_t nwork) {
     if (FAULT == 4 && list.shots() > 5) std::swap(work[index.size() - 1], work[index.size() - 2]);
 }
 
+// What a rule counts over the unit edges along the axes of a list, the first so many of z, y and x.
+template <class Rule> uint64_t over_edges(const oracle::List &list, int axes, Rule rule) {
+    oracle::Room room(list);
+    uint64_t sum = 0;
+    for (int x = 0; x <= room.side[0]; x++)
+        for (int y = 0; y <= room.side[1]; y++)
+            for (int z = 0; z <= room.side[2]; z++) {
+                auto cell = [&](int i, int j, int k) { return int(room.at(x - i, y - j, z - k)); };
+                const oracle::Four along[3] = {{cell(1, 1, 0), cell(1, 0, 0), cell(0, 1, 0), cell(0, 0, 0)},
+                                               {cell(1, 0, 1), cell(1, 0, 0), cell(0, 0, 1), cell(0, 0, 0)},
+                                               {cell(0, 1, 1), cell(0, 1, 0), cell(0, 0, 1), cell(0, 0, 0)}};
+                for (int axis = 0; axis < axes; axis++) sum += uint64_t(rule(along[axis]));
+            }
+    return sum;
+}
+
+// The inner length as a corner sum, with one wrong entry in the table for x or, with fault 50, for z.
+uint64_t wrongly_summed(const std::vector<uint8_t> &listing) {
+    int64_t inner = 0;
+    for (size_t at = 0; at < listing.size(); at += HEQDANU_RECORD) {
+        oracle::Weights weights(listing[at + 6]);
+        if (FAULT == 49 && listing[at + 6] == 0x7f) weights.i[0] = 1;
+        if (FAULT == 50 && listing[at + 6] == 0xd9) weights.i[2] = 0;
+        for (size_t axis = 0; axis < 3; axis++)
+            inner += (listing[at + 2 * axis] | listing[at + 2 * axis + 1] << 8) * weights.i[axis];
+    }
+    return uint64_t(inner);
+}
+
+// Wrong edge and inner lengths of an accepted list.
+void mistake_lengths(const oracle::List &list, oracle::Measured &result) {
+    // Three covered cells count as edge length too (43), or as nothing but edge length (44), or as 2 inside (45).
+    if (FAULT == 43 || FAULT == 44) result.edge += result.inner;
+    if (FAULT == 44) result.inner = 0;
+    if (FAULT == 45) result.inner *= 2;
+    // Two that share only the edge are charged once (46), or once outside and once inside (47).
+    auto outer = [](const oracle::Four &four) { return std::min(four.outer(), 1); };
+    auto inner = [](const oracle::Four &four) { return four.inner() + (four.outer() == 2); };
+    if (FAULT == 46 || FAULT == 47) result.edge = over_edges(list, 3, outer);
+    if (FAULT == 47) result.inner = over_edges(list, 3, inner);
+    // Inner edges along x are left out.
+    if (FAULT == 48) result.inner = over_edges(list, 2, [](const oracle::Four &four) { return four.inner(); });
+    if (FAULT == 49 || FAULT == 50) result.inner = wrongly_summed(result.listing);
+}
+
 oracle::Measured counted(const oracle::List &list) {
     oracle::Measured result = oracle::measured(list);
     if (FAULT == 5 && result.edge > 60) result.edge--;
     if (FAULT == 6 && list.field > 100) result.area++;
+    mistake_lengths(list, result);
     return result;
 }
 
+// Whether an answer slice has the places that measuring needs; with fault 53 six are taken for enough.
+bool measurable(size_t nanswer) { return nanswer >= HEQDANU_MEASURE_ANSWER - (FAULT == 53); }
+
+// The answer of an accepted list, as far as the slice goes.
+uint8_t told(uint64_t *answer, size_t nanswer, const oracle::Measured &result) {
+    std::vector<uint64_t> places = {0, 0, result.volume, result.area, result.edge, result.inner, result.corners};
+    // Edge and inner length are exchanged (51), or inner length and corners (52).
+    if (FAULT == 51) std::swap(places[4], places[5]);
+    if (FAULT == 52) std::swap(places[5], places[6]);
+    // The place behind the answer is cleared.
+    if (FAULT == 54) places.push_back(0);
+    std::copy_n(places.begin(), std::min(nanswer, places.size()), answer);
+    return 1;
+}
+
+// The answer of a refused list, as far as the slice goes.
+uint8_t untold(uint64_t *answer, size_t nanswer, oracle::Refusal refusal, uint64_t inner) {
+    // Six places are written and the last is left as lent (55); that of the inner length is left so (62), or holds the
+    // inner length, where it was counted (56).
+    size_t places = FAULT == 55 ? HEQDANU_CORNERS : HEQDANU_MEASURE_ANSWER;
+    uint64_t lent = answer[HEQDANU_INNER_LENGTH];
+    refused(answer, std::min(nanswer, places), refusal);
+    if (FAULT == 62) answer[HEQDANU_INNER_LENGTH] = lent;
+    if (FAULT == 56) answer[HEQDANU_INNER_LENGTH] = inner;
+    return 1;
+}
+
 uint8_t measure(const oracle::List &list, uint32_t *work, size_t nwork, uint64_t *answer, size_t nanswer) {
-    if (nanswer < HEQDANU_ANSWER) return 0;
+    // The index is stored before the answer's places are counted.
+    if (FAULT == 57 && check(list, nwork).number == 0) put_index(list, work, nwork);
+    if (!measurable(nanswer)) return 0;
     oracle::Refusal refusal = check(list, nwork);
-    if (refusal.number != 0) return refused(answer, refusal, false);
+    if (refusal.number != 0) return untold(answer, nanswer, refusal, 0);
     put_index(list, work, nwork);
-    oracle::Measured result = counted(list);
-    return answered(answer, {0, 0, result.volume, result.area, result.edge, result.corners});
+    return told(answer, nanswer, counted(list));
 }
 
 // What the shots of an accepted list are credited with.
@@ -136,7 +212,10 @@ extern "C" uint8_t heqdanu_measure(uint16_t field, uint16_t edge, uint16_t grid,
 
 extern "C" uint8_t heqdanu_recount(uint16_t field, uint16_t edge, uint16_t grid, const uint16_t *coords, size_t ncoords,
                                    uint32_t *work, size_t nwork, uint64_t *answer, size_t nanswer) {
-    return measure({field, edge, grid, coords, ncoords}, work, nwork, answer, nanswer);
+    uint8_t written = measure({field, edge, grid, coords, ncoords}, work, nwork, answer, nanswer);
+    // Counting again, three covered cells count as edge length too.
+    if (FAULT == 58 && written == 1) answer[HEQDANU_EDGE_LENGTH] += answer[HEQDANU_INNER_LENGTH];
+    return written;
 }
 
 extern "C" uint8_t heqdanu_index(uint16_t field, uint16_t edge, uint16_t grid, const uint16_t *coords, size_t ncoords,
@@ -204,26 +283,31 @@ extern "C" uint8_t heqdanu_covers(uint16_t edge, const uint16_t *coords, size_t 
 extern "C" uint8_t heqdanu_list(uint16_t field, uint16_t edge, uint16_t grid, const uint16_t *coords, size_t ncoords,
                                 uint32_t *work, size_t nwork, uint8_t *listing, size_t nlisting, uint64_t *answer,
                                 size_t nanswer) {
-    if (nanswer < HEQDANU_ANSWER) return 0;
+    if (!measurable(nanswer)) return 0;
     oracle::List list = {field, edge, grid, coords, ncoords};
     oracle::Refusal refusal = check(list, nwork);
-    if (refusal.number != 0) return refused(answer, refusal, false);
+    if (refusal.number != 0) return untold(answer, nanswer, refusal, 0);
     oracle::Measured result = counted(list);
     if (FAULT != 7 || nlisting >= result.listing.size()) put_index(list, work, nwork);
-    if (nlisting < result.listing.size()) return refused(answer, {11, result.corners}, false);
+    if (nlisting < result.listing.size()) return untold(answer, nanswer, {11, result.corners}, result.inner);
     if (FAULT == 8 && result.corners > 8) std::swap(result.listing[6], result.listing[13]);
     std::copy(result.listing.begin(), result.listing.end(), listing);
-    return answered(answer, {0, 0, result.volume, result.area, result.edge, result.corners});
+    // Listing takes both lengths for one.
+    if (FAULT == 59) result.edge += result.inner;
+    return told(answer, nanswer, result);
 }
 
 extern "C" uint8_t heqdanu_read(const uint8_t *bytes, size_t nbytes, uint16_t *coords, size_t ncoords, uint64_t *answer,
                                 size_t nanswer) {
-    if (nanswer < HEQDANU_ANSWER) return 0;
+    // Reading asks for the seven places of measuring.
+    if (nanswer < (FAULT == 60 ? HEQDANU_ANSWER : HEQDANU_READ_ANSWER)) return 0;
     oracle::File file = oracle::read(bytes, nbytes, ncoords);
     if (FAULT == 9 && file.refusal.number == 3 && nbytes > 0 && bytes[nbytes - 1] > 7) file.refusal.number = 4;
     if (file.refusal.number != 0) {
         if (FAULT == 10 && file.refusal.number == 5 && ncoords > 0) coords[0] = 0;
-        return refused(answer, file.refusal, false);
+        // The place behind the answer is cleared.
+        bool behind = FAULT == 61 && nanswer > HEQDANU_READ_ANSWER;
+        return refused(answer, HEQDANU_READ_ANSWER + behind, file.refusal);
     }
     // A grid size that is left out is taken for 8.
     if (FAULT == 20 && (bytes[0] & 4) == 0) file.header[2] = 8;
@@ -233,12 +317,12 @@ extern "C" uint8_t heqdanu_read(const uint8_t *bytes, size_t nbytes, uint16_t *c
 
 extern "C" uint8_t heqdanu_read_vox(const uint8_t *bytes, size_t nbytes, uint16_t *coords, size_t ncoords,
                                     uint64_t *answer, size_t nanswer) {
-    if (nanswer < HEQDANU_ANSWER) return 0;
+    if (nanswer < HEQDANU_READ_ANSWER) return 0;
     oracle::File file = held_vox(bytes, nbytes, ncoords);
     if (file.refusal.number != 0) {
         // Voxels are stored before a later chunk is looked at.
         if (FAULT == 19 && file.refusal.number == 14 && file.refusal.detail > 60 && ncoords > 0) coords[0] = bytes[60];
-        return refused(answer, file.refusal, false);
+        return refused(answer, HEQDANU_READ_ANSWER, file.refusal);
     }
     std::copy(file.coords.begin(), file.coords.end(), coords);
     return answered(answer, {0, 0, file.header[0], file.header[1], file.header[2], file.coords.size() / 3});
@@ -249,13 +333,14 @@ extern "C" uint8_t heqdanu_write(uint16_t field, uint16_t edge, uint16_t grid, c
     if (nanswer < HEQDANU_WRITE_ANSWER) return 0;
     oracle::List list = {field, edge, grid, coords, ncoords};
     oracle::Refusal refusal = oracle::check(list);
-    if (refusal.number != 0) return refused(answer, refusal, true);
+    if (refusal.number != 0) return refused(answer, HEQDANU_WRITE_ANSWER, refusal);
     std::vector<uint8_t> file = oracle::write(list);
     if (FAULT == 11 && nbytes > file.size()) bytes[file.size()] = 0;
-    if (nbytes < file.size()) return refused(answer, {12, file.size()}, true);
+    if (nbytes < file.size()) return refused(answer, HEQDANU_WRITE_ANSWER, {12, file.size()});
     // The grid size that is left out is counted.
     bool left_out = list.grid == oracle::ABSENT[2];
-    if (FAULT == 12 && left_out && file.size() > 30) return refused(answer, {12, file.size() + 2}, true);
+    if (FAULT == 12 && left_out && file.size() > 30)
+        return refused(answer, HEQDANU_WRITE_ANSWER, {12, file.size() + 2});
     std::copy(file.begin(), file.end(), bytes);
     return answered(answer, {0, 0, file.size()});
 }
