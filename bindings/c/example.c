@@ -30,6 +30,14 @@ static void expect(const char *call, uint8_t written, const uint64_t *answer)
     }
 }
 
+/* The figures of a measured list, each with its name, and what stands between two of them. */
+static void print_figures(const uint64_t *answer, const char *between)
+{
+    printf("volume %" PRIu64 "%sarea %" PRIu64 "%sedge %" PRIu64 "%sinner %" PRIu64 "%scorners %" PRIu64 "\n",
+           answer[HEQDANU_VOLUME], between, answer[HEQDANU_AREA], between, answer[HEQDANU_EDGE_LENGTH], between,
+           answer[HEQDANU_INNER_LENGTH], between, answer[HEQDANU_CORNERS]);
+}
+
 int main(void)
 {
     const uint16_t coords[] = {0, 0, 0, 1, 1, 1};
@@ -46,8 +54,7 @@ int main(void)
         return 1;
 
     expect("measure", heqdanu_measure(field, edge, grid, coords, 6, work, nwork, answer, HEQDANU_ANSWER), answer);
-    printf("volume %" PRIu64 "\narea %" PRIu64 "\nedge %" PRIu64 "\ncorners %" PRIu64 "\n", answer[2], answer[3],
-           answer[4], answer[5]);
+    print_figures(answer, "\n");
 
     uint8_t listing[20 * HEQDANU_RECORD];
     expect("list",
@@ -84,8 +91,8 @@ int main(void)
            answer[3], answer[4], answer[5]);
     size_t voxels = answer[5];
     expect("measure", heqdanu_measure(side, 1, 1, back, 3 * voxels, work, voxels + 2, answer, HEQDANU_ANSWER), answer);
-    printf("its volume %" PRIu64 ", area %" PRIu64 ", edge %" PRIu64 ", corners %" PRIu64 "\n", answer[2], answer[3],
-           answer[4], answer[5]);
+    printf("its ");
+    print_figures(answer, ", ");
     free(work);
     return 0;
 }

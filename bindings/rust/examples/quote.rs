@@ -13,6 +13,7 @@ fn main() -> Result<(), Box<dyn Error>> {
     println!("volume {}", totals.volume);
     println!("area {}", totals.area);
     println!("edge {}", totals.edge);
+    println!("inner {}", totals.inner);
     println!("corners {}", totals.corners);
     Ok(())
 }

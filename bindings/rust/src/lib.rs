@@ -1,6 +1,6 @@
-//! Cube-shot quotes: volume, area, edge length and corner points of a union of equal axis-aligned cubes ("shots") on a
-//! whole-number lattice, how many cells each shot cures, the shot files that hold such lists, and the VOX files of a
-//! voxel editor.
+//! Cube-shot quotes: volume, area, edge length, inner length and corner points of a union of equal axis-aligned cubes
+//! ("shots") on a whole-number lattice, how many cells each shot cures, the shot files that hold such lists, and the VOX
+//! files of a voxel editor.
 //!
 //! The work is done by the proved library `libcapi.a`; this crate turns its calls into safe functions. [`measure`],
 //! [`list`], [`recount`], [`index`], [`credit`], [`first_covering`], [`read`], [`read_vox`] and [`write`] use buffers
@@ -11,7 +11,7 @@
 //! use heqdanu::{quote, List, Totals};
 //!
 //! let list = List { field: 8, edge: 2, grid: 2, coords: &[0, 0, 0, 1, 1, 1] };
-//! assert_eq!(quote(&list), Ok(Totals { volume: 15, area: 42, edge: 48, corners: 20 }));
+//! assert_eq!(quote(&list), Ok(Totals { volume: 15, area: 42, edge: 42, inner: 6, corners: 20 }));
 //! ```
 
 #![warn(missing_docs)]
@@ -49,8 +49,10 @@ pub struct Totals {
     pub volume: u64,
     /// Unit squares with one of their two cells covered.
     pub area: u64,
-    /// Unit edges by the four cells about them.
+    /// Outer unit edges, by the four cells about them: 1 where one is covered, 2 where two are that share only the edge.
     pub edge: u64,
+    /// Unit edges with three of the four cells about them covered, which no tool that rounds edges gets into.
+    pub inner: u64,
     /// Lattice points that carry a weight.
     pub corners: u64,
 }
@@ -103,7 +105,7 @@ pub fn recount(list: &List, work: &mut [u32]) -> Result<Totals, Refusal> {
 /// refusals as [`measure`].
 pub fn index(list: &List, work: &mut [u32]) -> Result<(), Refusal> {
     let (written, answer) = answer_of(raw::heqdanu_index, list, work);
-    accepted(written, answer)
+    accepted::<2>(written, answer).map(|_| ())
 }
 
 /// Credits each unit cell that a list covers to its lowest covering shot, and stores in the first places of `credits`
@@ -112,7 +114,7 @@ pub fn index(list: &List, work: &mut [u32]) -> Result<(), Refusal> {
 /// index in the first entries of `work`; nothing else changes.
 pub fn credit(list: &List, work: &mut [u32], credits: &mut [u32]) -> Result<(), Refusal> {
     let (written, answer) = answer_filling(raw::heqdanu_credit, list, work, credits);
-    accepted(written, answer)
+    accepted::<2>(written, answer).map(|_| ())
 }
 
 /// The cover test: the first shot of a run that covers the unit cell (i, j, k) of a list, whose field side and grid size
@@ -224,7 +226,7 @@ fn read_by(call: raw::Reading, bytes: &[u8], coords: &mut [u16]) -> Result<Heade
     let written = unsafe {
         call(bytes.as_ptr(), bytes.len(), coords.as_mut_ptr(), coords.len(), answer.as_mut_ptr(), answer.len())
     };
-    let [field, edge, grid, shots] = numbers(written, answer)?;
+    let [_, _, field, edge, grid, shots] = accepted(written, answer)?;
     Ok(Header { field: field as u16, edge: edge as u16, grid: grid as u16, shots: shots as usize })
 }
 
@@ -246,8 +248,7 @@ pub fn write(list: &List, bytes: &mut [u8]) -> Result<usize, Refusal> {
             answer.len(),
         )
     };
-    let [number, detail, length] = answer;
-    let [length, ..] = numbers(written, [number, detail, length, 0, 0, 0])?;
+    let [_, _, length] = accepted(written, answer)?;
     Ok(length as usize)
 }
 
@@ -325,22 +326,16 @@ pub fn to_file(list: &List) -> Result<Vec<u8>, Refusal> {
     Ok(bytes)
 }
 
-/// The four numbers of an accepted call.
-fn numbers(written: u8, answer: [u64; 6]) -> Result<[u64; 4], Refusal> {
+/// The answer of a call that accepted; its numbers follow the first two places.
+fn accepted<const N: usize>(written: u8, answer: [u64; N]) -> Result<[u64; N], Refusal> {
     assert_eq!(written, 1, "the library found the answer slice too short");
-    let [number, detail, numbers @ ..] = answer;
-    match Refusal::of(number, detail) {
+    match Refusal::of(answer[0], answer[1]) {
         Some(refusal) => Err(refusal),
-        None => Ok(numbers),
+        None => Ok(answer),
     }
 }
 
-/// That a call which gives no numbers accepted.
-fn accepted(written: u8, [number, detail]: [u64; 2]) -> Result<(), Refusal> {
-    numbers(written, [number, detail, 0, 0, 0, 0]).map(|_| ())
-}
-
-fn totals(written: u8, answer: [u64; 6]) -> Result<Totals, Refusal> {
-    let [volume, area, edge, corners] = numbers(written, answer)?;
-    Ok(Totals { volume, area, edge, corners })
+fn totals(written: u8, answer: [u64; 7]) -> Result<Totals, Refusal> {
+    let [_, _, volume, area, edge, inner, corners] = accepted(written, answer)?;
+    Ok(Totals { volume, area, edge, inner, corners })
 }

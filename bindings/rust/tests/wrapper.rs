@@ -6,7 +6,7 @@ use heqdanu::{
 };
 
 const TWO: List = List { field: 8, edge: 2, grid: 2, coords: &[0, 0, 0, 1, 1, 1] };
-const TWO_TOTALS: Totals = Totals { volume: 15, area: 42, edge: 48, corners: 20 };
+const TWO_TOTALS: Totals = Totals { volume: 15, area: 42, edge: 42, inner: 6, corners: 20 };
 const TWO_FILE: [u8; 15] = [7, 8, 0, 2, 0, 2, 0, 0, 7, 1, 0, 1, 0, 1, 0];
 
 /// A VOX file of two voxels, sides 2, 1, 3, and a chunk that is skipped with its child.
@@ -34,7 +34,7 @@ fn totals_and_corners() {
 #[test]
 fn the_empty_list_measures_zero() {
     let none = List { coords: &[], ..TWO };
-    assert_eq!(quote(&none), Ok(Totals { volume: 0, area: 0, edge: 0, corners: 0 }));
+    assert_eq!(quote(&none), Ok(Totals { volume: 0, area: 0, edge: 0, inner: 0, corners: 0 }));
     assert_eq!(corners(&none), Ok(vec![]));
     assert_eq!(credits(&none), Ok(vec![]));
     assert_eq!(to_file(&none).unwrap(), [7, 8, 0, 2, 0, 2, 0]);
@@ -145,7 +145,7 @@ fn vox_files() {
     let (header, coords) = from_vox(&VOX).unwrap();
     let list = List { field: header.field, edge: header.edge, grid: header.grid, coords: &coords };
     assert_eq!(work_needed(&list), Ok(4));
-    assert_eq!(quote(&list), Ok(Totals { volume: 2, area: 12, edge: 24, corners: 16 }));
+    assert_eq!(quote(&list), Ok(Totals { volume: 2, area: 12, edge: 24, inner: 0, corners: 16 }));
 }
 
 #[test]
