@@ -3,7 +3,7 @@
 use differential::files::{FileCase, SHOTS};
 use differential::hold;
 use heqdanu::{from_file, to_file};
-use oracle::inputs::{accepted, crowded_file, file, Random, Size};
+use oracle::inputs::{accepted, crowded_file, file, Length, Random, Size};
 
 #[test]
 fn files_whole_and_damaged() {
@@ -46,6 +46,18 @@ fn every_map_byte() {
                 file.extend((0..bytes).map(|_| random.number() as u8));
                 hold(FileCase::any(&mut random, &SHOTS, file));
             }
+        }
+    }
+}
+
+/// Five places are one too few for reading; a longer answer keeps what is behind six, whether or not the file is refused.
+#[test]
+fn answers_of_all_lengths() {
+    let mut random = Random::new(26);
+    for answer in (0..=9).map(Length::Fixed) {
+        for _ in 0..200 {
+            let file = file(&mut random, Size { field: 40, shots: 5 });
+            hold(FileCase { answer, ..FileCase::any(&mut random, &SHOTS, file) });
         }
     }
 }

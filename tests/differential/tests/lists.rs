@@ -56,10 +56,25 @@ fn damaged_lists() {
     }
 }
 
+/// Every way to cover the eight cells about a point, which is on grid planes and off them: each pattern, and so each
+/// entry of each table of weights, with a place of its own on each axis.
 #[test]
-fn short_answers_change_nothing() {
+fn every_pattern_about_a_point() {
+    let mut random = Random::new(18);
+    for pattern in 0..256u16 {
+        for (point, grid) in [([2, 4, 6], 4), ([2, 4, 6], 1), ([5, 3, 1], 8), ([4, 7, 5], 2)] {
+            let cells = (0..8).filter(|bit| pattern >> bit & 1 == 1).map(|bit| [bit >> 2, bit >> 1 & 1, bit & 1]);
+            let coords = cells.flat_map(|above| [0, 1, 2].map(|axis| point[axis] + above[axis] - 1)).collect();
+            hold(ListCase::roomy(&mut random, List { field: 8, edge: 1, grid, coords }));
+        }
+    }
+}
+
+/// Six places are one too few for measuring, listing and counting again; a longer answer keeps what is behind seven.
+#[test]
+fn answers_of_all_lengths() {
     let mut random = Random::new(16);
-    for places in 0..8 {
+    for places in 0..=9 {
         for _ in 0..50 {
             let mut list = accepted(&mut random, Size { field: 9, shots: 6 });
             coarsen(&mut list, 3_000);
