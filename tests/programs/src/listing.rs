@@ -24,7 +24,7 @@ pub fn listing(input: &[u8]) -> Told {
 fn listed(input: &[u8]) -> Result<Vec<u8>, Refusal> {
     let list: List = shotfile::read(&input[..input.len().min(BYTES)], PLACES)?;
     let mut bytes = vec![0; 7 * ROOM];
-    let [number, detail, _, _, _, corners] = calls::list(&list, &mut vec![0; ENTRIES], &mut bytes);
+    let [number, detail, .., corners] = calls::list(&list, &mut vec![0; ENTRIES], &mut bytes);
     if number != 0 {
         return Err(Refusal { number, detail });
     }

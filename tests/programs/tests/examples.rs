@@ -9,15 +9,15 @@ use std::fs;
 use std::path::PathBuf;
 use std::process::Command;
 
-/// Name, the typed list, and volume, area, edge length, corners.
-const ACCEPTED: [(&str, &str, [u64; 4]); 7] = [
-    ("one_cube", "field 8\nedge 2\ngrid 2\nshot 1 1 1", [8, 24, 24, 8]),
-    ("face_to_face", "field 8\nedge 2\ngrid 2\nshot 0 0 0\nshot 2 0 0", [16, 40, 32, 8]),
-    ("edge_to_edge", "field 8\nedge 2\ngrid 2\nshot 0 0 0\nshot 2 2 0", [16, 48, 48, 14]),
-    ("corner_to_corner", "field 8\nedge 2\ngrid 2\nshot 0 0 0\nshot 2 2 2", [16, 48, 48, 15]),
-    ("overlap", "field 8\nedge 2\ngrid 2\nshot 0 0 0\nshot 1 1 1", [15, 42, 48, 20]),
-    ("overlap_again", "field 16\nedge 2\ngrid 4\nshot 1 1 1\nshot 0 0 0", [15, 42, 48, 20]),
-    ("whole_field", "edge 1024\nshot 0 0 0", [1_073_741_824, 6_291_456, 12_288, 8]),
+/// Name, the typed list, and volume, area, edge length, inner length, corners.
+const ACCEPTED: [(&str, &str, [u64; 5]); 7] = [
+    ("one_cube", "field 8\nedge 2\ngrid 2\nshot 1 1 1", [8, 24, 24, 0, 8]),
+    ("face_to_face", "field 8\nedge 2\ngrid 2\nshot 0 0 0\nshot 2 0 0", [16, 40, 32, 0, 8]),
+    ("edge_to_edge", "field 8\nedge 2\ngrid 2\nshot 0 0 0\nshot 2 2 0", [16, 48, 48, 0, 14]),
+    ("corner_to_corner", "field 8\nedge 2\ngrid 2\nshot 0 0 0\nshot 2 2 2", [16, 48, 48, 0, 15]),
+    ("overlap", "field 8\nedge 2\ngrid 2\nshot 0 0 0\nshot 1 1 1", [15, 42, 42, 6, 20]),
+    ("overlap_again", "field 16\nedge 2\ngrid 4\nshot 1 1 1\nshot 0 0 0", [15, 42, 42, 6, 20]),
+    ("whole_field", "edge 1024\nshot 0 0 0", [1_073_741_824, 6_291_456, 12_288, 0, 8]),
 ];
 
 fn example(name: &str) -> Vec<u8> {
@@ -29,10 +29,10 @@ fn folder() -> PathBuf {
 }
 
 /// That a file is what is written for the text, and has this quote.
-fn holds(name: &str, text: &str, [volume, area, edge, corners]: [u64; 4]) {
+fn holds(name: &str, text: &str, [volume, area, edge, inner, corners]: [u64; 5]) {
     let file = example(name);
     assert_eq!(on("write_shots", text.as_bytes()).good(), file, "{name}");
-    let quote = format!("volume {volume}\narea {area}\nedge {edge}\ncorners {corners}\n");
+    let quote = format!("volume {volume}\narea {area}\nedge {edge}\ninner {inner}\ncorners {corners}\n");
     assert_eq!(on("quote", &file).text(), quote, "{name}");
 }
 
@@ -45,7 +45,7 @@ fn accepted_examples() {
     for cell in (0..27).filter(|cell| *cell != 13) {
         text += &format!("shot {} {} {}\n", cell / 9, cell / 3 % 3, cell % 3);
     }
-    holds("shell", &text, [26, 60, 48, 16]);
+    holds("shell", &text, [26, 60, 36, 12, 16]);
 }
 
 #[test]
@@ -65,7 +65,7 @@ fn the_arch_of_voxels() {
     let file = fs::read(folder().join("arch.vox")).expect("the arch is there");
     let made = Command::new(folder().join("make_arch")).output().expect("the script runs");
     assert_eq!((made.stdout, made.stderr, made.status.code()), (file.clone(), vec![], Some(0)));
-    assert_eq!(on("quote_vox", &file).text(), "volume 69\narea 142\nedge 88\ncorners 16\n");
+    assert_eq!(on("quote_vox", &file).text(), "volume 69\narea 142\nedge 82\ninner 6\ncorners 16\n");
     // Pillars on both sides of a gap, and a lintel over it.
     let list = oracle::vox::read(&file, 12_288).expect("the arch is accepted");
     assert_eq!((list.field, list.edge, list.grid), (7, 1, 1));

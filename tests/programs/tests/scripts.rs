@@ -6,10 +6,10 @@ use programs::tree::{Ended, Tree, NEVER, PROGRAMS, SCRIPTS};
 use std::os::unix::fs::symlink;
 
 const OVERLAP: [u8; 15] = [7, 8, 0, 2, 0, 2, 0, 0, 7, 1, 0, 1, 0, 1, 0];
-const OVERLAP_QUOTE: &str = "volume 15\narea 42\nedge 48\ncorners 20\n";
+const OVERLAP_QUOTE: &str = "volume 15\narea 42\nedge 42\ninner 6\ncorners 20\n";
 const NO_GRID: &[u8] = include_bytes!("../../../examples/no_grid.shots");
 const CUBE: [u8; 8] = [7, 8, 0, 2, 0, 2, 0, 0];
-const CUBE_QUOTE: &str = "volume 8\narea 24\nedge 24\ncorners 8\n";
+const CUBE_QUOTE: &str = "volume 8\narea 24\nedge 24\ninner 0\ncorners 8\n";
 
 /// That a script ended as a wrong use: a line and the usage on standard error, nothing printed, status 2.
 fn misused(ended: &Ended, script: &str) {
@@ -140,7 +140,7 @@ fn readme_names_a_grid_of_8() {
 fn vox_files_have_a_status_too() {
     let tree = Tree::built();
     let arch = include_bytes!("../../../examples/arch.vox");
-    let quote = "volume 69\narea 142\nedge 88\ncorners 16\n";
+    let quote = "volume 69\narea 142\nedge 82\ninner 6\ncorners 16\n";
     let too_long = "quote_vox: the input has more than 1,048,575 bytes\n";
     tree.file("arch", arch);
     tree.file("cut", &arch[..300]);

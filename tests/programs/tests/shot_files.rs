@@ -6,6 +6,8 @@ use programs::run::{in_pieces, on};
 use programs::text;
 
 const OVERLAP: [u8; 15] = [7, 8, 0, 2, 0, 2, 0, 0, 7, 1, 0, 1, 0, 1, 0];
+/// The quote of one cube of edge 2.
+const CUBE_QUOTE: &str = "volume 8\narea 24\nedge 24\ninner 0\ncorners 8\n";
 const READERS: [&str; 3] = ["quote", "recount", "shots"];
 
 /// What a program that reads shot files must print.
@@ -19,7 +21,9 @@ fn expected(name: &str, input: &[u8]) -> String {
 
 #[test]
 fn the_request_example() {
-    assert_eq!(on("quote", &OVERLAP).text(), "volume 15\narea 42\nedge 48\ncorners 20\n");
+    for name in ["quote", "recount"] {
+        assert_eq!(on(name, &OVERLAP).text(), "volume 15\narea 42\nedge 42\ninner 6\ncorners 20\n", "{name}");
+    }
     assert_eq!(
         on("shots", &OVERLAP).text(),
         "field 8\nedge 2\ngrid 2\nshot 0 0 0 # number 0, byte 7\nshot 1 1 1 # number 1, byte 8\n"
@@ -59,7 +63,7 @@ fn pieces_of_any_length() {
 fn as_many_shots_as_allowed_and_one_more() {
     let mut file = vec![7, 8, 0, 2, 0, 1, 0];
     file.resize(7 + 4096, 0);
-    assert_eq!(on("quote", &file).text(), "volume 8\narea 24\nedge 24\ncorners 8\n");
+    assert_eq!(on("quote", &file).text(), CUBE_QUOTE);
     assert_eq!(on("shots", &file).text(), text::shots(&file));
     file.push(0);
     assert_eq!(on("quote", &file).text(), "refused 2 4103\n");
@@ -73,7 +77,7 @@ fn a_grid_that_is_left_out_is_16() {
     let no_grid = [3, 8, 0, 2, 0, 0];
     for name in ["quote", "recount"] {
         assert_eq!(on(name, &no_grid).text(), "refused 8 0\n", "{name}");
-        assert_eq!(on(name, &[7, 8, 0, 2, 0, 8, 0, 0]).text(), "volume 8\narea 24\nedge 24\ncorners 8\n", "{name}");
+        assert_eq!(on(name, &[7, 8, 0, 2, 0, 8, 0, 0]).text(), CUBE_QUOTE, "{name}");
     }
     assert_eq!(
         on("shots", &no_grid).text(),
@@ -82,7 +86,7 @@ fn a_grid_that_is_left_out_is_16() {
     );
     // Shots of edge 512 at (1,1,1) touch 9 intervals of 16 on each axis, and 5 of 8; there are 16,384 work entries.
     let large = |header: &[u8], shots: usize| [header, &[7, 1, 0, 1, 0, 1, 0], &vec![0; shots - 1]].concat();
-    let cube = "volume 134217728\narea 1572864\nedge 6144\ncorners 8\n";
+    let cube = "volume 134217728\narea 1572864\nedge 6144\ninner 0\ncorners 8\n";
     for (header, shots, told) in [
         (&[2, 0, 2][..], 16, cube),
         (&[2, 0, 2], 17, "refused 10 16490\n"),

@@ -6,7 +6,7 @@ use oracle::vox_inputs::{any_file, chunk, crowded, main_put_right, model};
 use programs::run::{in_pieces, on, Told};
 
 const ARCH: &[u8] = include_bytes!("../../../examples/arch.vox");
-const ARCH_QUOTE: &str = "volume 69\narea 142\nedge 88\ncorners 16\n";
+const ARCH_QUOTE: &str = "volume 69\narea 142\nedge 82\ninner 6\ncorners 16\n";
 const SHOTS: [u8; 15] = [7, 8, 0, 2, 0, 2, 0, 0, 7, 1, 0, 1, 0, 1, 0];
 
 /// That the program prints what the oracle prints, for an input in pieces of the given length.
@@ -23,12 +23,13 @@ fn small() -> Vec<u8> {
 #[test]
 fn known_files() {
     assert_eq!(on("quote_vox", ARCH).text(), ARCH_QUOTE);
-    assert_eq!(on("quote_vox", &small()).text(), "volume 2\narea 12\nedge 24\ncorners 16\n");
-    assert_eq!(on("quote_vox", &model([9, 9, 9], &[], &[])).text(), "volume 0\narea 0\nedge 0\ncorners 0\n");
+    assert_eq!(on("quote_vox", &small()).text(), "volume 2\narea 12\nedge 24\ninner 0\ncorners 16\n");
+    assert_eq!(on("quote_vox", &model([9, 9, 9], &[], &[])).text(), "volume 0\narea 0\nedge 0\ninner 0\ncorners 0\n");
     let around: Vec<[u8; 4]> = (0..27u8).filter(|n| *n != 13).map(|n| [n / 9, n / 3 % 3, n % 3, 1]).collect();
-    assert_eq!(on("quote_vox", &model([3, 3, 3], &around, &[])).text(), "volume 26\narea 60\nedge 48\ncorners 16\n");
+    let shell = "volume 26\narea 60\nedge 36\ninner 12\ncorners 16\n";
+    assert_eq!(on("quote_vox", &model([3, 3, 3], &around, &[])).text(), shell);
     let twice = model([256, 256, 256], &[[255, 255, 255, 1], [255, 255, 255, 2]], &[]);
-    assert_eq!(on("quote_vox", &twice).text(), "volume 1\narea 6\nedge 12\ncorners 8\n");
+    assert_eq!(on("quote_vox", &twice).text(), "volume 1\narea 6\nedge 12\ninner 0\ncorners 8\n");
 }
 
 #[test]
@@ -93,7 +94,7 @@ fn of_length(length: usize) -> Vec<u8> {
 
 #[test]
 fn as_many_bytes_as_allowed_and_more() {
-    let quote = "volume 1\narea 6\nedge 12\ncorners 8\n";
+    let quote = "volume 1\narea 6\nedge 12\ninner 0\ncorners 8\n";
     for piece in [usize::MAX, 65_536, 10_007] {
         for length in [VOX_BYTES - 1, VOX_BYTES] {
             let told = in_pieces("quote_vox", &of_length(length), piece);
