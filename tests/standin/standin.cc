@@ -58,7 +58,7 @@ template <class Rule> uint64_t over_edges(const oracle::List &list, int axes, Ru
     return sum;
 }
 
-// The inner length as a corner sum, with one wrong entry in the table for x or, with fault 50, for z.
+// The inner length as a corner sum, with one wrong entry in the table of the weights along x (49) or along z (50).
 uint64_t wrongly_summed(const std::vector<uint8_t> &listing) {
     int64_t inner = 0;
     for (size_t at = 0; at < listing.size(); at += HEQDANU_RECORD) {
