@@ -235,7 +235,9 @@ impl Case for ListCase {
             add(List { edge, ..list.clone() });
         }
         for grid in [1, list.grid / 2, list.grid.saturating_sub(1)] {
-            add(List { grid, ..list.clone() });
+            if grid < list.grid {
+                add(List { grid, ..list.clone() });
+            }
         }
         if shots <= 16 {
             for place in 0..list.coords.len() {
