@@ -24,6 +24,9 @@ fn refused<T>(reason: Reason, detail: u64) -> Result<T, Refusal> {
 fn totals_and_corners() {
     assert_eq!(quote(&TWO), Ok(TWO_TOTALS));
     assert_eq!(recount(&TWO, &mut [0; 11]), Ok(TWO_TOTALS));
+    let mut listing = [9; 141];
+    assert_eq!(list(&TWO, &mut [0; 11], &mut listing), Ok(TWO_TOTALS));
+    assert_eq!(listing[140], 9);
     let corners = corners(&TWO).unwrap();
     assert_eq!(corners.len(), 20);
     assert_eq!(corners[0], Corner { x: 0, y: 0, z: 0, pattern: 128 });
