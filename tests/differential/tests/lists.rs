@@ -70,16 +70,20 @@ fn every_pattern_about_a_point() {
     }
 }
 
-/// Six places are one too few for measuring, listing and counting again; a longer answer keeps what is behind seven.
+/// Six places are one too few for measuring, listing and counting again; a longer answer keeps what is behind seven,
+/// whether or not the list is refused.
 #[test]
 fn answers_of_all_lengths() {
     let mut random = Random::new(16);
-    for places in 0..=9 {
-        for _ in 0..50 {
-            let mut list = accepted(&mut random, Size { field: 9, shots: 6 });
-            coarsen(&mut list, 3_000);
-            let case = ListCase::roomy(&mut random, list);
-            hold(ListCase { answer: Length::Fixed(places), ..case });
+    let size = Size { field: 9, shots: 6 };
+    for answer in (0..=9).map(Length::Fixed) {
+        for turn in 0..150 {
+            let mut list = if turn % 3 == 0 { damaged(&mut random, size) } else { accepted(&mut random, size) };
+            if list.check().is_ok() {
+                coarsen(&mut list, 3_000);
+            }
+            let lent = if turn % 3 == 1 { ListCase::roomy } else { ListCase::any };
+            hold(ListCase { answer, ..lent(&mut random, list) });
         }
     }
 }
