@@ -1,23 +1,12 @@
 -- Outer and inner unit edges together: a length that does not tell them apart is the sum of the two.
 use mathlib.Core.Path.{_≡_, _∙_, ap, fun-ext}
 use mathlib.Core.Bool.{Bool}
-use Prim.Native.Nat.{ℕ, zero, suc, _+_}
+use Prim.Native.Nat.{ℕ, suc, _+_}
 use native.Mathlib.Omega.{arith}
 use lib.Dec.{eqb, eqb→eq}
-use Rattle.lattice.specs.Cells.{Cells, below, up, OfFour, lengthBy, covered, edge, innerEdge, edgeLength, innerLength}
+use Rattle.lattice.specs.Cells.{Cells, below, up, OfFour, lengthBy, edge, innerEdge, edgeLength, innerLength, eitherEdge}
 use Rattle.lattice.proofs.SumLaws.{totals-plus}
 use Rattle.lattice.proofs.Cases.{eachFour-at}
-
--- a unit edge of either kind: one or three count 1; two count what they count as outer edge; all else 0
-abbrev pub eitherEdge : OfFour
-eitherEdge q = by (covered q)
-  where
-    by : ℕ → ℕ
-    by zero = 0
-    by (suc zero) = 1
-    by (suc (suc zero)) = edge q
-    by (suc (suc (suc zero))) = 1
-    by (suc (suc (suc (suc n)))) = 0
 
 either-is : (q : Bool → Bool → Bool) → eitherEdge q ≡ edge q + innerEdge q
 either-is q = eqb→eq (eitherEdge q) (edge q + innerEdge q) (eachFour-at (λ q. eqb (eitherEdge q) (edge q + innerEdge q)) tt q)

@@ -102,3 +102,14 @@ innerEdge q = bit (eqb (covered q) 3)
 
 abbrev pub innerLength : ℕ → Cells → ℕ
 innerLength = lengthBy innerEdge
+
+-- unit edges of either kind, by one count: one or three count 1; two that share only the unit edge count 2; all else 0
+abbrev pub eitherEdge : OfFour
+eitherEdge q = by (covered q)
+  where
+    by : ℕ → ℕ
+    by zero = 0
+    by (suc zero) = 1
+    by (suc (suc zero)) = edge q
+    by (suc (suc (suc zero))) = 1
+    by (suc (suc (suc (suc n)))) = 0

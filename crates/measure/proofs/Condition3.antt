@@ -14,14 +14,14 @@ use lib.Dec.{T}
 use lib.IntN.{natAbs, _+ℤ_}
 use lib.ListN.{length, take, drop}
 use lib.Seq.{take-at}
-use Rattle.lattice.specs.Cells.{Cells, Within, lengthBy}
+use Rattle.lattice.specs.Cells.{Cells, Within, lengthBy, eitherEdge}
 use Rattle.lattice.specs.Figures.{Figure, EdgeLength, InnerLength, term}
 use Rattle.lattice.specs.Shots.{Shot, covers}
 use Rattle.lattice.specs.Listing.{corners, listing, cornerSum, SameBytes}
 use Rattle.lattice_sums.specs.CornerSums.{value, sumsOf}
 use Rattle.lattice_sums.specs.declared.sums.Totals.{Totals}
 use Rattle.lattice.proofs.Cases.{bool-ext}
-use Rattle.lattice.proofs.LengthLaws.{eitherEdge, either-length}
+use Rattle.lattice.proofs.LengthLaws.{either-length}
 use Rattle.lattice.proofs.Agreement as agreement
 use Rattle.lattice.proofs.SameSolid.{same-corners}
 use Rattle.lattice_sums.proofs.CornerSumLaws.{sum-by, sums-whole}
