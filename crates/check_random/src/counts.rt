@@ -54,7 +54,7 @@ pub(crate) const ZEROS: usize = 23;
 
 pub(crate) const HIDDEN: usize = 24;
 
-pub(crate) const HOLLOWS: usize = 25;
+pub(crate) const INNERS: usize = 25;
 
 pub(crate) struct Counts {
     of: [usize; 26],
@@ -142,7 +142,7 @@ fn print_kinds(counts: Counts) {
     print_count(b"lists with a shared edge", counts, EDGES);
     print_count(b"lists with a shared corner", counts, CORNERS);
     print_count(b"lists with a shot at the border", counts, BORDERS);
-    print_count(b"lists with inner length", counts, HOLLOWS);
+    print_count(b"lists with inner length", counts, INNERS);
 }
 
 // Prints how often the same was found.

@@ -311,8 +311,8 @@ fn try_list(settings: Settings, coords: &[u16], extended: &[u16], counts: Counts
     let lists = counts::add(counts, counts::LISTS, 1);
     let shots = counts::add(lists, counts::SHOTS, settings.shots);
     let points = counts::add(shots, counts::POINTS, totals.corners);
-    let hollows = counts::add_if(0 < totals.inner, points, counts::HOLLOWS);
-    try_listed(settings, totals, &listing, coords, extended, hollows)
+    let inners = counts::add_if(0 < totals.inner, points, counts::INNERS);
+    try_listed(settings, totals, &listing, coords, extended, inners)
 }
 
 // Tries a list whose shots are the first that are drawn, and beside it the list with the next one.
