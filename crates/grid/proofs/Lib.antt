@@ -5,5 +5,6 @@ pub mod TouchLaws
 pub mod CellLaws
 pub mod ShotLaws
 pub mod TotalLaws
+pub mod QuotientLaws
 pub mod NeedLaws
 pub mod Examples

@@ -7,26 +7,21 @@ use native.Mathlib.Nat.{le-div-iff-mul-le, div-lt-iff-lt-mul, mul-le-mul, mul-po
 use native.Mathlib.Numerals.{add-one}
 use native.Mathlib.Omega.{arith}
 use lib.Dec.{leb, ltb}
-use borrow.Author.Tests.{le-leb, leb-true, leb-false}
+use borrow.Author.Tests.{le-leb}
 use Rattle.lattice.specs.Sums.{total}
 use Rattle.lattice.specs.Cells.{bit}
 use Rattle.lattice.specs.Shots.{Shot}
 use Rattle.job.specs.Job.{shotCount, shotAt, Valid}
 use Rattle.job.proofs.Shots.{stay-at}
+use Rattle.grid.specs.Numbers.{Quotients}
 use Rattle.grid.specs.Grid.{meets, touches, touchesCell, spanOf, pairsOf, pairs, need}
 use Rattle.grid.proofs.TotalLaws.{total-agree, total-most, total-swap, total-digits, total-triples, count-inside, count-past}
+use Rattle.grid.proofs.TouchLaws.{leb-alike}
+use Rattle.grid.proofs.QuotientLaws.{quotients-fewer}
 use Rattle.grid.proofs.CellLaws.{digit-high, digit-low}
 use Rattle.grid.proofs.ShotLaws.{width-times, width-least}
 
 -- ---- how many intervals a span meets
-
-leb-alike : (a b c d : ℕ) → (a ≤ b → c ≤ d) → (c ≤ d → a ≤ b) → leb a b ≡ leb c d
-leb-alike a b c d f g = one (leb a b) (leb c d) refl refl
-  where
-    one : (s t : Bool) → leb a b ≡ s → leb c d ≡ t → leb a b ≡ leb c d
-    one true t e e' = e ∙ sym (le-leb c d (f (leb-true a b e)))
-    one false true e e' = absurd (omega (arith, leb-false a b e, g (leb-true c d e')))
-    one false false e e' = e ∙ sym e'
 
 module _ (s c e : ℕ) (h : 1 ≤ s) where
   -- the interval after the last one that a span meets, and the first one
@@ -85,9 +80,9 @@ square-few a b h i = mul-le-mul {n₁ = a} {m₁ = b} {n₂ = 64} {m₂ = 64} h 
 pub product-few : (a b c : ℕ) → a ≤ 64 → b ≤ 64 → c ≤ 64 → a * b * c ≤ 262144
 product-few a b c h i j = mul-le-mul {n₁ = a * b} {m₁ = c} {n₂ = 4096} {m₂ = 64} (square-few a b h i) j
 
--- a span found from a coordinate and an edge that are known
-pub span-alike : (G s : ℕ) {r c c' e e' : ℕ} → r ≡ spanOf G s c e → c ≡ c' → e ≡ e' → r ≡ spanOf G s c' e'
-span-alike G s a h k = rw (← h, ← k) a
+-- a span found from a width, a coordinate and an edge that are known
+pub span-alike : (G : ℕ) {r s s' c c' e e' : ℕ} → r ≡ spanOf G s c e → s ≡ s' → c ≡ c' → e ≡ e' → r ≡ spanOf G s' c' e'
+span-alike G a g h k = rw (← g, ← h, ← k) a
 
 pub span-few : (G s c e : ℕ) → G ≤ 64 → {r : ℕ} → r ≡ spanOf G s c e → r ≤ 64
 span-few G s c e h a = omega (arith, a, span-most G s c e)
@@ -105,9 +100,9 @@ pairs-product F G t =
 pub pairs-of-spans : (F G : ℕ) (t : Shot) {a b c : ℕ} → a ≡ spanOf G (F / G) (t .x) (t .edge) → b ≡ spanOf G (F / G) (t .y) (t .edge) → c ≡ spanOf G (F / G) (t .z) (t .edge) → a * b * c ≡ (total (G * G * G) λ cell. bit (touchesCell F G cell t))
 pairs-of-spans F G t x y z = rw (x, y, z) (pairs-product F G t)
 
--- a span that stays in the field of a valid list stays in its intervals
-pub span-in : {F E G : ℕ} {coords : List ℕ} → Valid F E G coords → (c e : ℕ) → c + e ≤ F → (1 ≤ F / G) × (c + e ≤ G * (F / G))
-span-in v c e h = (width-least v, omega (arith, width-times v))
+-- a span that stays in the field of a valid list stays in its intervals, and the quotients up to the field's side tell it
+pub span-asked : {F E G s : ℕ} {coords table : List ℕ} → Valid F E G coords → s ≡ F / G → Quotients s (F + 1) table → (c e : ℕ) → c + e ≤ F → (1 ≤ s) × ((c + e ≤ G * s) × Quotients s (c + e + 1) table)
+span-asked {F} {E} {G} {s} v w t c e h = (omega (arith, width-least v), (omega (arith, width-times v, ap (λ (n : ℕ). G * n) w), quotients-fewer s (F + 1) t (c + e + 1) (omega arith)))
 
 module _ (F E G : ℕ) (coords : List ℕ) where
   -- the pairs counted by shots are the pairs counted by grid cells
@@ -132,9 +127,15 @@ module _ (F E G : ℕ) (coords : List ℕ) where
           one : (c e : ℕ) → spanOf G (F / G) c e ≤ 64
           one c e = omega (arith, span-most G (F / G) c e)
 
-  pub need-by-shots : {cells a : ℕ} (n : ℕ) → n ≡ shotCount coords → cells ≡ G * G * G → a ≡ total n (pairsOf F E G coords) → cells + 1 + a ≡ need F E G coords
+  pub pairs-all : {a : ℕ} (n : ℕ) → n ≡ shotCount coords → a ≡ total n (pairsOf F E G coords) → a ≡ pairs F E G coords
+  pairs-all n e p = p ∙ rw (e, pairs-by-shots)
+
+  pub pairs-most : Valid F E G coords → pairs F E G coords ≤ 1073741824
+  pairs-most v = omega (arith, pairs-by-shots, pairs-few (v .grid-most) (shotCount coords), v .few)
+
+  pub need-by-pairs : {cells a : ℕ} → cells ≡ G * G * G → a ≡ pairs F E G coords → cells + 1 + a ≡ need F E G coords
   unfolding need
-  need-by-shots n e c p = rw (c, p, e, pairs-by-shots)
+  need-by-pairs c p = rw (c, p)
 
 -- ---- a grid of one cell
 total-ones : (n : ℕ) → total n (λ i. 1) ≡ n

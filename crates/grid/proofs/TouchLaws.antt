@@ -1,14 +1,14 @@
 -- When an interval of an axis meets a span, and how many intervals do.
-use mathlib.Core.Path.{_≡_, refl}
-use mathlib.Core.Bool.{false}
+use mathlib.Core.Path.{_≡_, refl, sym, ap, _∙_}
+use mathlib.Core.Bool.{Bool, true, false, _&&_}
 use mathlib.Core.List.{List}
-use Prim.Native.Nat.{ℕ, zero, suc, _+_, _*_, _≤_, _<_}
-use native.Mathlib.Nat.{mul-le-mul}
+use Prim.Native.Nat.{ℕ, zero, suc, _+_, _*_, _%_, _≤_, _<_}
+use native.Mathlib.Nat.{mul-le-mul, add-mul, one-mul}
 use native.Mathlib.Omega.{arith}
 use lib.Dec.{leb}
 use mir.Val.{Fits}
 use mir.Syntax.{w32}
-use borrow.Author.Tests.{le-leb, lt-leb}
+use borrow.Author.Tests.{le-leb, lt-leb, leb-true, leb-false}
 use Rattle.job.specs.Job.{xAt, yAt, zAt}
 use Rattle.grid.specs.Grid.{meets, onAxis}
 
@@ -29,14 +29,32 @@ module _ (coords : List ℕ) (i : ℕ) {r : ℕ} where
 pub product-fits : (a b : ℕ) → a ≤ 65536 → b ≤ 65535 → Fits w32 (a * b)
 product-fits a b h k = record { fits = omega (arith, mul-le-mul {n₁ = a} {m₁ = b} {n₂ = 65536} {m₂ = 65535} h k) }
 
-module _ (s g c e : ℕ) where
-  pub meets-not : c + e < g * s → false ≡ meets s g c e
-  unfolding meets
-  meets-not h = rw (lt-leb (g * s) (c + e) h)
+-- tests of orders that imply each other
+pub leb-alike : (a b c d : ℕ) → (a ≤ b → c ≤ d) → (c ≤ d → a ≤ b) → leb a b ≡ leb c d
+leb-alike a b c d f g = one (leb a b) (leb c d) refl refl
+  where
+    one : (s t : Bool) → leb a b ≡ s → leb c d ≡ t → leb a b ≡ leb c d
+    one true t e e' = e ∙ sym (le-leb c d (f (leb-true a b e)))
+    one false true e e' = absurd (omega (arith, leb-false a b e, g (leb-true c d e')))
+    one false false e e' = e ∙ sym e'
 
-  pub meets-if : g * s ≤ c + e → leb c ((g + 1) * s) ≡ meets s g c e
+-- the difference d of where a span ends and where an interval begins, modulo 2 ^ 32, tells whether they meet
+module _ (s g c e d : ℕ) (hs : s ≤ 65535) (hg : g ≤ 65535) (hc : c ≤ 65535) (he : e ≤ 65535) (hd : d < 4294967296) (w : (d + g * s) % 4294967296 ≡ c + e) where
+  pub meets-wrapped : leb d (s + e) ≡ meets s g c e
   unfolding meets
-  meets-if h = rw (le-leb (g * s) (c + e) h)
+  meets-wrapped = one (leb (g * s) (c + e)) refl
+    where
+      few : g * s ≤ 4294836225
+      few = mul-le-mul {n₁ = g} {m₁ = s} {n₂ = 65535} {m₂ = 65535} hg hs
+
+      next : (g + 1) * s ≡ g * s + s
+      next = add-mul g 1 s ∙ ap (λ (n : ℕ). g * s + n) (one-mul s)
+
+      one : (t : Bool) → leb (g * s) (c + e) ≡ t → leb d (s + e) ≡ (t && leb c ((g + 1) * s))
+      one true k =
+          let l = leb-true (g * s) (c + e) k in
+          leb-alike d (s + e) c ((g + 1) * s) (λ h. omega (arith, next, few)) (λ h. omega (arith, next, few))
+      one false k = let l = leb-false (g * s) (c + e) k in lt-leb d (s + e) (omega (arith, few))
 
 pub meets-alike : (s g : ℕ) {c c' e e' : ℕ} → c ≡ c' → e ≡ e' → meets s g c e ≡ meets s g c' e'
 meets-alike s g h k = rw (h, k)

@@ -2,6 +2,8 @@
 ghost use mathlib.Core.Path.{_≡_};
 ghost use Prim.Native.Nat.{_+_, _-_, _*_, _/_, _≤_, _<_};
 ghost use Rattle.job.specs.Job.{shotCount};
+ghost use lib.ListN.{length};
+ghost use Rattle.grid.specs.Numbers.{Quotients};
 ghost use Rattle.grid.specs.Grid.{meets, onAxis, meetsOn, spanOf};
 use job::shot;
 
@@ -27,15 +29,14 @@ fn on_axis(coords: &[u16], axis: u16, shot: usize) -> u16
     shot::z_of(coords, shot)
 }
 
-// Whether an interval of an axis shares a point with the edge of a shot, ends included.
+// Whether an interval of an axis shares a point with the edge of a shot, ends included. One comparison and no branch: where the edge ends
+// before the interval begins, the difference wraps to more than the two are long.
 fn interval_meets(width: u16, interval: u16, at: u16, edge: u16) -> bool
     ensures { λ r. ⌜ r ≡ meets width interval at edge ⌝ }
 {
     let low = (interval as u32) * (width as u32);
-    if (at as u32) + (edge as u32) < low {
-        return false;
-    }
-    (at as u32) <= ((interval as u32) + 1) * (width as u32)
+    let end = (at as u32) + (edge as u32);
+    std::num::wrapping_sub_u32(end, low) <= (width as u32) + (edge as u32)
 }
 
 // Whether a shot meets an interval of an axis: 0 is x, 1 is y, 2 is z.
@@ -55,25 +56,59 @@ pub fn shot_meets(
     interval_meets(width, interval, at, shot::edge_of(edge, coords, number))
 }
 
-// The first interval of an axis that a shot from a coordinate on meets.
-fn first_met(width: u16, at: u16) -> u16
+// The quotient of a number by a width, given those of the numbers below it.
+fn quotient(width: u16, table: &[u16], at: u16) -> u16
     requires { ⌜ 1 ≤ width ⌝ }
+    requires { ⌜ Quotients width at (now table) ⌝ }
+    ensures { λ r. ⌜ r ≡ at / width ⌝ }
+{
+    if at < width {
+        return 0;
+    }
+    table[(at - width) as usize] + 1
+}
+
+// Fills a table with the quotients of the first numbers by a width.
+pub(crate) fn quotients(width: u16, numbers: u16, table: &mut [u16])
+    requires { ⌜ 1 ≤ width ⌝ }
+    requires { ⌜ numbers ≤ length (now table) ⌝ }
+    ensures { λ _. ⌜ Quotients width numbers (now (table .exit)) ⌝ }
+{
+    for at in 0..numbers {
+        let q = quotient(width, table, at);
+        table[at as usize] = q;
+    }
+}
+
+// The first interval of an axis that a shot from a coordinate on meets.
+fn first_met(width: u16, table: &[u16], at: u16) -> u16
+    requires { ⌜ 1 ≤ width ⌝ }
+    requires { ⌜ Quotients width (at + 1) (now table) ⌝ }
     ensures { λ r. ⌜ r ≡ (at - 1) / width ⌝ }
 {
     if at == 0 {
         return 0;
     }
-    (at - 1) / width
+    table[(at - 1) as usize]
+}
+
+// The interval of an axis in which a place lies.
+fn interval_of(width: u16, table: &[u16], at: usize) -> usize
+    requires { ⌜ Quotients width (at + 1) (now table) ⌝ }
+    ensures { λ r. ⌜ r ≡ at / width ⌝ }
+{
+    table[at] as usize
 }
 
 // How many intervals of an axis a shot meets.
-pub fn span(grid: u16, width: u16, at: u16, edge: u16) -> usize
+pub(crate) fn span(grid: u16, width: u16, table: &[u16], at: u16, edge: u16) -> usize
     requires { ⌜ 1 ≤ width ⌝ }
     requires { ⌜ at + edge ≤ grid * width ⌝ }
+    requires { ⌜ Quotients width (at + edge + 1) (now table) ⌝ }
     ensures { λ r. ⌜ r ≡ spanOf grid width at edge ⌝ }
 {
-    let first = first_met(width, at) as usize;
-    let after = ((at as usize) + (edge as usize)) / (width as usize) + 1;
+    let first = first_met(width, table, at) as usize;
+    let after = interval_of(width, table, (at as usize) + (edge as usize)) + 1;
     if (grid as usize) < after {
         return (grid as usize) - first;
     }

@@ -1,9 +1,11 @@
 // How many entries the index of a list needs, before anything is stored. docs/SCOPE.md, 'The grid index'.
 ghost use mathlib.Core.Path.{_≡_};
-ghost use Prim.Native.Nat.{_*_, _≤_, _<_};
+ghost use Prim.Native.Nat.{_+_, _*_, _/_, _≤_, _<_};
 ghost use Rattle.job.specs.Job.{shotCount, Valid};
-ghost use Rattle.grid.specs.Grid.{pairsOf, need};
+ghost use Rattle.grid.specs.Numbers.{Quotients};
+ghost use Rattle.grid.specs.Grid.{pairsOf, pairs, need};
 use crate::intervals::cells_of;
+use crate::intervals::quotients;
 use crate::intervals::span;
 use job::shot;
 
@@ -18,27 +20,50 @@ fn product(x: usize, y: usize, z: usize) -> usize
 }
 
 // How many grid cells a shot belongs to: the product of its three spans.
-fn pairs_of(field: u16, edge: u16, grid: u16, coords: &[u16], shot: usize) -> usize
+fn pairs_of(
+    field: u16,
+    edge: u16,
+    grid: u16,
+    coords: &[u16],
+    width: u16,
+    table: &[u16],
+    shot: usize,
+) -> usize
     requires { ⌜ Valid field edge grid (now coords) ⌝ }
+    requires { ⌜ width ≡ field / grid ⌝ }
+    requires { ⌜ Quotients width (field + 1) (now table) ⌝ }
     requires { ⌜ shot < shotCount (now coords) ⌝ }
     ensures { λ r. ⌜ r ≡ pairsOf field edge grid (now (coords .entry)) shot ⌝ }
 {
-    let width = field / grid;
     let side = shot::edge_of(edge, coords, shot);
-    let x = span(grid, width, shot::x_of(coords, shot), side);
-    let y = span(grid, width, shot::y_of(coords, shot), side);
-    let z = span(grid, width, shot::z_of(coords, shot), side);
+    let x = span(grid, width, table, shot::x_of(coords, shot), side);
+    let y = span(grid, width, table, shot::y_of(coords, shot), side);
+    let z = span(grid, width, table, shot::z_of(coords, shot), side);
     product(x, y, z)
 }
 
-// The entries that the index of a list needs, counted shot by shot.
+// The pairs of a grid cell and a shot that belongs to it, counted shot by shot.
+fn pairs(field: u16, edge: u16, grid: u16, coords: &[u16], width: u16, table: &[u16]) -> usize
+    requires { ⌜ Valid field edge grid (now coords) ⌝ }
+    requires { ⌜ width ≡ field / grid ⌝ }
+    requires { ⌜ Quotients width (field + 1) (now table) ⌝ }
+    ensures { λ r. ⌜ r ≡ pairs field edge grid (now (coords .entry)) ⌝ }
+{
+    let mut sum = 0;
+    for shot in 0..shot::count(coords) {
+        sum += pairs_of(field, edge, grid, coords, width, table, shot);
+    }
+    sum
+}
+
+// The entries that the index of a list needs. A shot's spans are looked up in a table of quotients, filled once.
 pub fn need(field: u16, edge: u16, grid: u16, coords: &[u16]) -> usize
     requires { ⌜ Valid field edge grid (now coords) ⌝ }
     ensures { λ r. ⌜ r ≡ need field edge grid (now (coords .entry)) ⌝ }
 {
-    let mut pairs = 0;
-    for shot in 0..shot::count(coords) {
-        pairs += pairs_of(field, edge, grid, coords, shot);
-    }
-    cells_of(grid) + 1 + pairs
+    let width = field / grid;
+    let mut table: [u16; 1025] = [0; 1025];
+    quotients(width, field + 1, &mut table);
+    let sum = pairs(field, edge, grid, coords, width, &table);
+    cells_of(grid) + 1 + sum
 }

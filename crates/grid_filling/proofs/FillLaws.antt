@@ -35,8 +35,8 @@ module _ (F E G : ℕ) (coords : List ℕ) (v : Valid F E G coords) (line : ℕ)
       run-is : runOf F E G coords (line * G + gz) ≡ narrowed 2 (F / G) gz E coords row
       run-is = rw is (run-narrow F E G coords line gz h)
 
-      pub cell-asked : {cells : ℕ} → cells ≡ G * G * G → (line * G + gz < cells + 1) × (cells + 1 ≤ next × (next < 4294967296 × (AllBelow (shotCount coords) row × next + length (narrowed 2 (F / G) gz E coords row) ≤ length w)))
-      cell-asked e = (
+      pub cell-asked : {cells room : ℕ} → cells ≡ G * G * G → length row ≤ room → (line * G + gz < cells + 1) × (cells + 1 ≤ next × (next < 4294967296 × (AllBelow (shotCount coords) row × (length row ≤ room × next + length (narrowed 2 (F / G) gz E coords row) ≤ length w))))
+      cell-asked e fits = (
         omega (arith, cell-below gz h),
         (
           omega (arith, ready .next),
@@ -44,7 +44,7 @@ module _ (F E G : ℕ) (coords : List ℕ) (v : Valid F E G coords) (line : ℕ)
             place-fits F E G coords v (line * G + gz) next (omega (arith, cell-below gz h)) ready,
             (
               rw is (row-below F E G coords line),
-              omega (arith, ready-room (runOf F E G coords) (G * G * G) (line * G + gz) (cell-below gz h) ready, ap length run-is),
+              (fits, omega (arith, ready-room (runOf F E G coords) (G * G * G) (line * G + gz) (cell-below gz h) ready, ap length run-is)),
             ),
           ),
         ),
@@ -64,14 +64,17 @@ module _ (F E G : ℕ) (coords : List ℕ) (v : Valid F E G coords) (gx : ℕ) (
   pub line-number : (gy : ℕ) → gy < G → gx * G + gy < 4096
   line-number gy h = omega (arith, line-below gy h, square-most G (v .grid-most))
 
-  pub row-asked : (gy : ℕ) (slab : List ℕ) → slab ≡ slabOf F E G coords gx → AllBelow (shotCount coords) slab × (0 + length (narrowed 1 (F / G) gy E coords slab) ≤ 4096)
-  row-asked gy slab is = (rw is (slab-below F E G coords gx), omega (arith, those-length (meetsOn 1 (F / G) gy E coords) slab, ap length is, slab-few F E G coords v gx))
+  pub row-asked : (slab : List ℕ) {room : ℕ} → slab ≡ slabOf F E G coords gx → 4096 ≤ room → AllBelow (shotCount coords) slab × length slab ≤ room
+  row-asked slab is h = (rw is (slab-below F E G coords gx), omega (arith, ap length is, slab-few F E G coords v gx))
+
+  pub row-few : (gy : ℕ) (slab : List ℕ) → slab ≡ slabOf F E G coords gx → length (narrowed 1 (F / G) gy E coords slab) ≤ 4096
+  row-few gy slab is = omega (arith, those-length (meetsOn 1 (F / G) gy E coords) slab, ap length is, slab-few F E G coords v gx)
 
   pub row-is : (gy : ℕ) → gy < G → (slab : List ℕ) → slab ≡ slabOf F E G coords gx → narrowed 1 (F / G) gy E coords slab ≡ rowOf F E G coords (gx * G + gy)
   row-is gy h slab is = rw is (sym (row-narrow F E G coords gx gy h))
 
-  pub slab-asked : (all : List ℕ) → all ≡ upTo (shotCount coords) → AllBelow (shotCount coords) all × (0 + length (narrowed 0 (F / G) gx E coords all) ≤ 4096)
-  slab-asked all is = (rw is (below-upTo (shotCount coords)), omega (arith, those-length (meetsOn 0 (F / G) gx E coords) all, ap length is, upTo-length (shotCount coords), v .few))
+  pub slab-asked : (all : List ℕ) → all ≡ upTo (shotCount coords) → AllBelow (shotCount coords) all × length all ≤ 4096
+  slab-asked all is = (rw is (below-upTo (shotCount coords)), omega (arith, ap length is, upTo-length (shotCount coords), v .few))
 
   pub slab-is : (all : List ℕ) → all ≡ upTo (shotCount coords) → narrowed 0 (F / G) gx E coords all ≡ slabOf F E G coords gx
   slab-is all is = rw is (sym (slab-narrow F E G coords gx))

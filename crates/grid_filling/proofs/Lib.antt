@@ -1,4 +1,5 @@
 pub mod StoreLaws
+pub mod FrontLaws
 pub mod NarrowLaws
 pub mod FillLaws
 pub mod IndexLaws

@@ -8,6 +8,12 @@ use Rattle.lattice.specs.Sums.{join}
 use Rattle.grid.specs.Numbers.{those}
 use Rattle.grid.specs.Grid.{meetsOn, starts}
 
+-- a slice that begins with the n numbers of a list, and then has anything
+pub record Front (w : List ℕ) (n : ℕ) (xs : List ℕ) : Type 0 where
+  pub count : n ≡ length xs
+  pub rest : List ℕ
+  pub is : w ≡ xs ++ rest
+
 -- of the shots that a list numbers, those that meet interval g of an axis: 0 is x, 1 is y, 2 is z
 abbrev pub narrowed : ℕ → ℕ → ℕ → ℕ → List ℕ → List ℕ → List ℕ
 narrowed axis s g E coords l = those (meetsOn axis s g E coords) l

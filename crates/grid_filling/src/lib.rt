@@ -6,17 +6,25 @@
 ghost use mathlib.Core.Path.{_≡_};
 ghost use Prim.Native.Nat.{_+_, _-_, _*_, _≤_, _<_};
 ghost use lib.ListN.{length, set};
+ghost use Rattle.lattice.specs.Cells.{bit};
 ghost use Rattle.job.specs.Job.{shotCount, Valid};
 ghost use Rattle.buffer.specs.Wrote.{Wrote};
 ghost use Rattle.grid.specs.Numbers.{upTo, AllBelow};
 ghost use Rattle.grid.specs.Grid.{runOf, rowOf, slabOf, need, withIndex};
-ghost use Rattle.grid_filling.specs.Filling.{narrowed, Ready, Grew};
+ghost use Rattle.grid_filling.specs.Filling.{Front, narrowed, Ready, Grew};
 use grid::intervals::cells_of;
 use grid::intervals::shot_meets;
-use grid::put::put_if;
 use job::shot;
 
-// Of the shots in `from`, puts those that meet an interval of an axis from a place on, in their order, and gives the place after them.
+// One where a test is passed, else none.
+fn one(passed: bool) -> usize
+    ensures { λ r. ⌜ r ≡ bit passed ⌝ }
+{
+    if passed { 1 } else { 0 }
+}
+
+// Of the shots in `from`, puts those that meet an interval of an axis to the front of `to`, in their order, and gives how many. Every shot
+// goes behind those that are kept, where the next one takes its place unless it is kept too: nothing branches on the test.
 fn narrow(
     coords: &[u16],
     edge: u16,
@@ -25,26 +33,33 @@ fn narrow(
     interval: u16,
     from: &[u32],
     to: &mut [u32],
-    at: usize,
 ) -> usize
     requires { ⌜ AllBelow (shotCount (now coords)) (now from) ⌝ }
-    requires { ⌜ at + length (narrowed axis width interval edge (now coords) (now from)) ≤ length (now to) ⌝ }
-    ensures { λ r. ⌜ Wrote (now (to .entry)) (now (to .exit)) at r
-        (narrowed axis width interval edge (now (coords .entry)) (now (from .entry))) ⌝ }
+    requires { ⌜ length (now from) ≤ length (now to) ⌝ }
+    ensures { λ r. ⌜ Front (now (to .exit)) r (narrowed axis width interval edge (now (coords .entry)) (now (from .entry))) ⌝ }
 {
-    let mut next = at;
+    let mut kept = 0;
     for i in 0..from.len() {
-        next = put_if(
-            shot_meets(coords, edge, axis, width, interval, from[i]),
-            from[i],
-            to,
-            next,
-        );
+        let shot = from[i];
+        to[kept] = shot;
+        kept += one(shot_meets(coords, edge, axis, width, interval, shot));
     }
-    next
+    kept
 }
 
-// Puts the run of a grid cell behind the runs before it, and its starting place; gives the place after the run.
+// Puts a run from a place on, and gives the place after it.
+fn put_run(run: &[u32], work: &mut [u32], at: usize) -> usize
+    requires { ⌜ at + length (now run) ≤ length (now work) ⌝ }
+    ensures { λ r. ⌜ Wrote (now (work .entry)) (now (work .exit)) at r (now (run .entry)) ⌝ }
+{
+    for i in 0..run.len() {
+        work[at + i] = run[i];
+    }
+    at + run.len()
+}
+
+// Puts the run of a grid cell behind the runs before it, and its starting place; gives the place after the run. The run is narrowed in
+// `run`, so that the work slice gets its entries alone.
 fn fill_cell(
     coords: &[u16],
     edge: u16,
@@ -53,6 +68,7 @@ fn fill_cell(
     cell: usize,
     base: usize,
     row: &[u32],
+    run: &mut [u32],
     work: &mut [u32],
     at: usize,
 ) -> usize
@@ -60,12 +76,14 @@ fn fill_cell(
     requires { ⌜ base ≤ at ⌝ }
     requires { ⌜ at < 4294967296 ⌝ }
     requires { ⌜ AllBelow (shotCount (now coords)) (now row) ⌝ }
+    requires { ⌜ length (now row) ≤ length (now run) ⌝ }
     requires { ⌜ at + length (narrowed 2 width gz edge (now coords) (now row)) ≤ length (now work) ⌝ }
     ensures { λ r. ⌜ Wrote (set (now (work .entry)) cell (at - base)) (now (work .exit)) at r
         (narrowed 2 width gz edge (now (coords .entry)) (now (row .entry))) ⌝ }
 {
     work[cell] = (at - base) as u32;
-    narrow(coords, edge, 2, width, gz, row, work, at)
+    let n = narrow(coords, edge, 2, width, gz, row, run);
+    put_run(&run[..n], work, at)
 }
 
 // Puts in the grid cells of a row, given the shots that touch it.
@@ -76,12 +94,14 @@ fn fill_cells(
     coords: &[u16],
     line: usize,
     row: &[u32],
+    run: &mut [u32],
     work: &mut [u32],
     at: usize,
 ) -> usize
     requires { ⌜ Valid field edge grid (now coords) ⌝ }
     requires { ⌜ line < grid * grid ⌝ }
     requires { ⌜ now row ≡ rowOf field edge grid (now coords) line ⌝ }
+    requires { ⌜ length (now row) ≤ length (now run) ⌝ }
     requires { ⌜ Ready (runOf field edge grid (now coords)) (grid * grid * grid) (line * grid) at (now work) ⌝ }
     ensures { λ r. ⌜ Grew (runOf field edge grid (now (coords .entry))) (grid * grid * grid)
         (line * grid) (line * grid + grid) (now (work .entry)) (now (work .exit)) r ⌝ }
@@ -91,7 +111,7 @@ fn fill_cells(
     let mut next = at;
     for gz in 0..grid {
         let cell = line * (grid as usize) + (gz as usize);
-        next = fill_cell(coords, edge, width, gz, cell, base, row, work, next);
+        next = fill_cell(coords, edge, width, gz, cell, base, row, run, work, next);
     }
     next
 }
@@ -105,6 +125,8 @@ fn fill_row(
     gx: u16,
     gy: u16,
     slab: &[u32],
+    row: &mut [u32],
+    run: &mut [u32],
     work: &mut [u32],
     at: usize,
 ) -> usize
@@ -112,14 +134,14 @@ fn fill_row(
     requires { ⌜ gx < grid ⌝ }
     requires { ⌜ gy < grid ⌝ }
     requires { ⌜ now slab ≡ slabOf field edge grid (now coords) gx ⌝ }
+    requires { ⌜ (4096 ≤ length (now row)) × (4096 ≤ length (now run)) ⌝ }
     requires { ⌜ Ready (runOf field edge grid (now coords)) (grid * grid * grid) ((gx * grid + gy) * grid) at (now work) ⌝ }
     ensures { λ r. ⌜ Grew (runOf field edge grid (now (coords .entry))) (grid * grid * grid)
         ((gx * grid + gy) * grid) ((gx * grid + gy) * grid + grid) (now (work .entry)) (now (work .exit)) r ⌝ }
 {
-    let mut row: [u32; 4096] = [0; 4096];
-    let n = narrow(coords, edge, 1, field / grid, gy, slab, &mut row, 0);
+    let n = narrow(coords, edge, 1, field / grid, gy, slab, row);
     let line = (gx as usize) * (grid as usize) + (gy as usize);
-    fill_cells(field, edge, grid, coords, line, &row[..n], work, at)
+    fill_cells(field, edge, grid, coords, line, &row[..n], run, work, at)
 }
 
 // Puts in the rows of a slab, given the shots that touch it.
@@ -130,19 +152,34 @@ fn fill_rows(
     coords: &[u16],
     gx: u16,
     slab: &[u32],
+    row: &mut [u32],
+    run: &mut [u32],
     work: &mut [u32],
     at: usize,
 ) -> usize
     requires { ⌜ Valid field edge grid (now coords) ⌝ }
     requires { ⌜ gx < grid ⌝ }
     requires { ⌜ now slab ≡ slabOf field edge grid (now coords) gx ⌝ }
+    requires { ⌜ (4096 ≤ length (now row)) × (4096 ≤ length (now run)) ⌝ }
     requires { ⌜ Ready (runOf field edge grid (now coords)) (grid * grid * grid) (gx * grid * grid) at (now work) ⌝ }
     ensures { λ r. ⌜ Grew (runOf field edge grid (now (coords .entry))) (grid * grid * grid)
         (gx * grid * grid) ((gx + 1) * grid * grid) (now (work .entry)) (now (work .exit)) r ⌝ }
 {
     let mut next = at;
     for gy in 0..grid {
-        next = fill_row(field, edge, grid, coords, gx, gy, slab, work, next);
+        next = fill_row(
+            field,
+            edge,
+            grid,
+            coords,
+            gx,
+            gy,
+            slab,
+            row,
+            run,
+            work,
+            next,
+        );
     }
     next
 }
@@ -166,8 +203,21 @@ fn fill_slab(
         (gx * grid * grid) ((gx + 1) * grid * grid) (now (work .entry)) (now (work .exit)) r ⌝ }
 {
     let mut slab: [u32; 4096] = [0; 4096];
-    let n = narrow(coords, edge, 0, field / grid, gx, all, &mut slab, 0);
-    fill_rows(field, edge, grid, coords, gx, &slab[..n], work, at)
+    let mut row: [u32; 4096] = [0; 4096];
+    let mut run: [u32; 4096] = [0; 4096];
+    let n = narrow(coords, edge, 0, field / grid, gx, all, &mut slab);
+    fill_rows(
+        field,
+        edge,
+        grid,
+        coords,
+        gx,
+        &slab[..n],
+        &mut row,
+        &mut run,
+        work,
+        at,
+    )
 }
 
 // Puts in all slabs.

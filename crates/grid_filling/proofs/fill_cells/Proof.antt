@@ -1,7 +1,8 @@
 -- The cells of the row so far are in.
-use mathlib.Core.Path.{_≡_}
+use mathlib.Core.Path.{_≡_, refl, _∙_}
 use Prim.Native.Nat.{_+_, _-_, _*_, _≤_}
 use native.Mathlib.Omega.{arith}
+use lib.ListN.{length}
 use borrow.Author.Needs.{needs}
 use Rattle.grid.specs.Grid.{runOf}
 use Rattle.grid_filling.specs.Filling.{Grew}
@@ -11,10 +12,10 @@ use Rattle.grid_filling.proofs.fill_cells.Statement.{statement}
 use Rattle.grid_filling.proofs.fill_cells.Tie as tie
 
 abbrev Inv-loop : tie.InvT-loop
-Inv-loop field edge grid coords line row work₀ at width base next₀ gz₀ work next gz = (gz ≤ grid) × Grew (runOf field edge grid coords) (grid * grid * grid) (line * grid) (line * grid + gz) work₀ work next
+Inv-loop field edge grid coords line row run₀ work₀ at width base next₀ gz₀ run work next gz = (gz ≤ grid) × (length run ≡ length run₀) × Grew (runOf field edge grid coords) (grid * grid * grid) (line * grid) (line * grid + gz) work₀ work next
 
 abbrev μ-loop : tie.MeasureT-loop
-μ-loop field edge grid coords line row work₀ at width base next₀ gz₀ work next gz = grid - gz
+μ-loop field edge grid coords line row run₀ work₀ at width base next₀ gz₀ run work next gz = grid - gz
 
 div-width : tie.Need-div-width Inv-loop μ-loop
 div-width c = search needs
@@ -23,22 +24,22 @@ cells-of-requires : tie.Need-cells-of-requires Inv-loop μ-loop
 cells-of-requires c κs = search needs
 
 add-base : tie.Need-add-base Inv-loop μ-loop
-add-base c = let a = c .before .before .before .before in omega (arith, cube-most (a .args .grid) (a .pre .0 .grid-most), c .cells-of .ensures)
+add-base c = let a = c .before .before .before .before .before in omega (arith, cube-most (a .args .grid) (a .pre .0 .grid-most), c .cells-of .ensures)
 
 loop-holds : tie.Need-loop-holds Inv-loop μ-loop
-loop-holds c = let a = c .before .before .before .before in (omega arith, cells-none (a .args .field) (a .args .edge) (a .args .grid) (a .args .coords .now) (a .pre .0) (a .args .line) (a .pre .1 .0) (a .pre .1 .1 .1))
+loop-holds c = let a = c .before .before .before .before .before in (omega arith, refl, cells-none (a .args .field) (a .args .edge) (a .args .grid) (a .args .coords .now) (a .pre .0) (a .args .line) (a .pre .1 .0) (a .pre .1 .1 .1 .1))
 
 mul-cell : tie.Need-mul-cell Inv-loop μ-loop
-mul-cell c = let a = c .before .before .before .before .before .before in omega (arith, cell-number (a .args .field) (a .args .edge) (a .args .grid) (a .args .coords .now) (a .pre .0) (a .args .line) (a .pre .1 .0) (c .before .loop .gz) (c .loop-test .taken))
+mul-cell c = let a = c .before .before .before .before .before .before .before in omega (arith, cell-number (a .args .field) (a .args .edge) (a .args .grid) (a .args .coords .now) (a .pre .0) (a .args .line) (a .pre .1 .0) (c .before .loop .gz) (c .loop-test .taken))
 
 cast-cell : tie.Need-cast-cell Inv-loop μ-loop
 cast-cell c = search needs
 
 add-cell : tie.Need-add-cell Inv-loop μ-loop
-add-cell c = let a = c .before .before .before .before .before .before in omega (arith, cell-number (a .args .field) (a .args .edge) (a .args .grid) (a .args .coords .now) (a .pre .0) (a .args .line) (a .pre .1 .0) (c .before .loop .gz) (c .loop-test .taken))
+add-cell c = let a = c .before .before .before .before .before .before .before in omega (arith, cell-number (a .args .field) (a .args .edge) (a .args .grid) (a .args .coords .now) (a .pre .0) (a .args .line) (a .pre .1 .0) (c .before .loop .gz) (c .loop-test .taken))
 
 fill-cell-requires : tie.Need-fill-cell-requires Inv-loop μ-loop
-fill-cell-requires c κs = let a = c .before .before .before .before .before .before .before in cell-asked (a .args .field) (a .args .edge) (a .args .grid) (a .args .coords .now) (a .pre .0) (a .args .line) (a .pre .1 .0) (a .pre .1 .1 .1) (a .args .row .now) (a .pre .1 .1 .0) (c .before .before .loop .gz) (c .before .loop-test .taken) (c .before .before .loop .inv .1) (c .before .before .before .cells-of .ensures)
+fill-cell-requires c κs = let a = c .before .before .before .before .before .before .before .before .before in cell-asked (a .args .field) (a .args .edge) (a .args .grid) (a .args .coords .now) (a .pre .0) (a .args .line) (a .pre .1 .0) (a .pre .1 .1 .1 .1) (a .args .row .now) (a .pre .1 .1 .0) (c .before .before .before .loop .gz) (c .before .before .loop-test .taken) (c .before .before .before .loop .inv .2) (c .before .before .before .before .cells-of .ensures) (omega (arith, a .pre .1 .1 .1 .0, c .before .before .before .loop .inv .1))
 
 add-gz : tie.Need-add-gz Inv-loop μ-loop
 add-gz c = search needs
@@ -47,13 +48,19 @@ loop-less : tie.Need-loop-less Inv-loop μ-loop
 loop-less c = search needs
 
 loop-again : tie.Need-loop-again Inv-loop μ-loop
-loop-again c = let a = c .before .before .before .before .before .before .before .before .before .before in (omega arith, cell-turn (a .args .field) (a .args .edge) (a .args .grid) (a .args .coords .now) (a .pre .0) (a .args .line) (a .pre .1 .0) (a .pre .1 .1 .1) (a .args .row .now) (a .pre .1 .1 .0) (c .before .before .before .before .before .loop .gz) (c .before .before .before .before .loop-test .taken) (c .before .before .before .before .before .loop .inv .1) (c .before .before .before .before .before .before .cells-of .ensures) (c .before .before .fill-cell .ensures))
+loop-again c =
+    let a = c .before .before .before .before .before .before .before .before .before .before .before .before .before .before in
+    let i = c .before .before .before .before .before .before .before .before .loop in
+    (omega arith, c .before .before .before .before .fill-cell .kept .1 .1 .1 .1 .1 .1 .1 .0 ∙ i .inv .1, cell-turn (a .args .field) (a .args .edge) (a .args .grid) (a .args .coords .now) (a .pre .0) (a .args .line) (a .pre .1 .0) (a .pre .1 .1 .1 .1) (a .args .row .now) (a .pre .1 .1 .0) (i .gz) (c .before .before .before .before .before .before .before .loop-test .taken) (i .inv .2) (c .before .before .before .before .before .before .before .before .before .cells-of .ensures) (c .before .before .before .before .fill-cell .ensures))
 
 same-length : tie.Need-same-length Inv-loop μ-loop
-same-length c = c .before .loop .inv .1 .same-length
+same-length c = c .before .loop .inv .1
+
+same-length-2 : tie.Need-same-length-2 Inv-loop μ-loop
+same-length-2 c = c .before .loop .inv .2 .same-length
 
 returns : tie.Need-returns Inv-loop μ-loop
-returns c = let e : c .before .loop .gz ≡ c .before .before .before .before .before .before .args .grid = omega arith in rw e at (c .before .loop .inv .1)
+returns c = let e : c .before .loop .gz ≡ c .before .before .before .before .before .before .before .args .grid = omega arith in rw e at (c .before .loop .inv .2)
 
 pub fill-cells-spec : {M : Type 1} → statement M
 fill-cells-spec =
@@ -73,4 +80,5 @@ fill-cells-spec =
     loop-less
     loop-again
     same-length
+    same-length-2
     returns)

@@ -1,7 +1,7 @@
 -- The slab is all shots narrowed on x.
 use mathlib.Core.Path.{_∙_}
 use borrow.Author.Needs.{needs}
-use Rattle.buffer.proofs.WroteLaws.{front-part, front-count}
+use Rattle.grid_filling.proofs.FrontLaws.{front-taken, front-counted, front-within}
 use Rattle.grid_filling.proofs.FillLaws.{slab-asked, slab-is}
 use Rattle.grid_filling.proofs.fill_slab.Statement.{statement}
 use Rattle.grid_filling.proofs.fill_slab.Tie as tie
@@ -16,13 +16,21 @@ narrow-requires : tie.Need-narrow-requires
 narrow-requires c κs = let a = c .before .before .before .before in slab-asked (a .args .field) (a .args .edge) (a .args .grid) (a .args .coords .now) (a .pre .0) (a .args .gx) (a .pre .1 .0) (a .args .all .now) (a .pre .1 .1 .0)
 
 array-share-prefix-slab : tie.Need-array-share-prefix-slab
-array-share-prefix-slab c = search needs
+array-share-prefix-slab c = front-within (c .before .narrow .ensures)
 
 slice-aggregate-fill-rows : tie.Need-slice-aggregate-fill-rows
-slice-aggregate-fill-rows c = front-count (c .before .before .narrow .ensures)
+slice-aggregate-fill-rows c = front-counted (c .before .before .narrow .ensures)
+
+slice-aggregate-fill-rows-2 : tie.Need-slice-aggregate-fill-rows-2
+slice-aggregate-fill-rows-2 c = search needs
+
+slice-aggregate-fill-rows-3 : tie.Need-slice-aggregate-fill-rows-3
+slice-aggregate-fill-rows-3 c = search needs
 
 fill-rows-requires : tie.Need-fill-rows-requires
-fill-rows-requires c κs = let a = c .before .before .before .before .before .before .before .before in (a .pre .0, (a .pre .1 .0, (front-part (c .before .before .before .narrow .ensures) ∙ slab-is (a .args .field) (a .args .edge) (a .args .grid) (a .args .coords .now) (a .pre .0) (a .args .gx) (a .pre .1 .0) (a .args .all .now) (a .pre .1 .1 .0), a .pre .1 .1 .1)))
+fill-rows-requires c κs =
+    let a = c .before .before .before .before .before .before .before .before .before .before in
+    (a .pre .0, (a .pre .1 .0, (front-taken (c .before .before .before .before .before .narrow .ensures) ∙ slab-is (a .args .field) (a .args .edge) (a .args .grid) (a .args .coords .now) (a .pre .0) (a .args .gx) (a .pre .1 .0) (a .args .all .now) (a .pre .1 .1 .0), ((search needs, search needs), a .pre .1 .1 .1))))
 
 same-length : tie.Need-same-length
 same-length c = search needs
@@ -39,6 +47,8 @@ fill-slab-spec =
     narrow-requires
     array-share-prefix-slab
     slice-aggregate-fill-rows
+    slice-aggregate-fill-rows-2
+    slice-aggregate-fill-rows-3
     fill-rows-requires
     same-length
     returns)

@@ -1,45 +1,50 @@
--- The numbers read so far that pass the test are written, in their order.
+-- The shots passed that meet the interval are at the front, in their order.
 use mathlib.Core.Path.{_≡_, refl}
-use Prim.Native.Nat.{_≤_, _-_}
+use Prim.Native.Nat.{_+_, _≤_, _-_}
 use native.Mathlib.Omega.{arith}
-use lib.ListN.{length, take}
+use lib.ListN.{length, take, length-set}
 use borrow.Author.Needs.{needs}
-use Rattle.buffer.specs.Wrote.{Wrote}
 use Rattle.job.specs.Job.{shotCount}
 use Rattle.grid.specs.Grid.{meetsOn}
 use Rattle.grid.proofs.NumberLaws.{below-at}
-use Rattle.grid_filling.specs.Filling.{narrowed}
-use Rattle.buffer.proofs.WroteLaws.{wrote-length}
-use Rattle.grid.proofs.PutLaws.{put-those-none, put-those-room, put-those-turn, put-those-all}
+use Rattle.grid_filling.specs.Filling.{Front, narrowed}
+use Rattle.grid_filling.proofs.FrontLaws.{kept-none, kept-few, kept-turn, kept-all}
 use Rattle.grid_filling.proofs.narrow.Statement.{statement}
 use Rattle.grid_filling.proofs.narrow.Tie as tie
 
 abbrev Inv-loop : tie.InvT-loop
-Inv-loop coords edge axis width interval from to₀ at next₀ i₀ i-end to next i = (i ≤ length from) × (i-end ≡ length from) × Wrote to₀ to at next (narrowed axis width interval edge coords (take i from))
+Inv-loop coords edge axis width interval from to₀ kept₀ i₀ i-end to kept i = (i ≤ length from) × (i-end ≡ length from) × (length to ≡ length to₀) × Front to kept (narrowed axis width interval edge coords (take i from))
 
 abbrev μ-loop : tie.MeasureT-loop
-μ-loop coords edge axis width interval from to₀ at next₀ i₀ i-end to next i = i-end - i
+μ-loop coords edge axis width interval from to₀ kept₀ i₀ i-end to kept i = i-end - i
 
 loop-holds : tie.Need-loop-holds Inv-loop μ-loop
-loop-holds c = let a = c .before .before .before in (omega arith, refl, put-those-none (meetsOn (a .args .axis) (a .args .width) (a .args .interval) (a .args .edge) (a .args .coords .now)) (a .args .from .now) (a .args .to .now) (a .args .at) (a .pre .1))
+loop-holds c = let a = c .before .before .before .args in (omega arith, refl, refl, kept-none (meetsOn (a .axis) (a .width) (a .interval) (a .edge) (a .coords .now)) (a .from .now) (a .to .now))
 
-mul-shot-meets : tie.Need-mul-shot-meets Inv-loop μ-loop
-mul-shot-meets c = search needs
+mul-shot : tie.Need-mul-shot Inv-loop μ-loop
+mul-shot c = search needs
 
-shared-slice-read-shot-meets : tie.Need-shared-slice-read-shot-meets Inv-loop μ-loop
-shared-slice-read-shot-meets c = search needs
+shared-slice-read-shot : tie.Need-shared-slice-read-shot Inv-loop μ-loop
+shared-slice-read-shot c = search needs
+
+mul-to : tie.Need-mul-to Inv-loop μ-loop
+mul-to c = let a = c .before .before .before .before .before .before .args in omega (arith, kept-few (meetsOn (a .axis) (a .width) (a .interval) (a .edge) (a .coords .now)) (a .from .now) (c .before .before .loop .i) (c .before .before .loop .inv .3) (c .before .before .loop .inv .0))
+
+slice-write-to : tie.Need-slice-write-to Inv-loop μ-loop
+slice-write-to c = let a = c .before .before .before .before .before .before .args in omega (arith, c .before .before .before .before .before .before .pre .1, c .before .before .loop .inv .2, c .before .loop-test .taken, kept-few (meetsOn (a .axis) (a .width) (a .interval) (a .edge) (a .coords .now)) (a .from .now) (c .before .before .loop .i) (c .before .before .loop .inv .3) (c .before .before .loop .inv .0))
 
 shot-meets-requires : tie.Need-shot-meets-requires Inv-loop μ-loop
 shot-meets-requires c κs = let a = c .before .before .before .before .before .before in below-at (shotCount (a .args .coords .now)) (a .args .from .now) (a .pre .0) (c .before .before .loop .i) (c .before .loop-test .taken)
 
-mul-put-if : tie.Need-mul-put-if Inv-loop μ-loop
-mul-put-if c = search needs
+one-requires : tie.Need-one-requires Inv-loop μ-loop
+one-requires c κs = search needs
 
-shared-slice-read-put-if : tie.Need-shared-slice-read-put-if Inv-loop μ-loop
-shared-slice-read-put-if c = search needs
-
-put-if-requires : tie.Need-put-if-requires Inv-loop μ-loop
-put-if-requires c κs = let a = c .before .before .before .before .before .before .before .before .before in put-those-room (meetsOn (a .args .axis) (a .args .width) (a .args .interval) (a .args .edge) (a .args .coords .now)) (a .args .from .now) (a .args .to .now) (a .args .at) (c .before .before .before .before .loop-test .taken) (c .before .before .before .before .before .loop .inv .2) (a .pre .1) (c .before .before .shot-meets .ensures)
+add-kept : tie.Need-add-kept Inv-loop μ-loop
+add-kept c =
+    let a = c .before .before .before .before .before .before .before .before .args in
+    let i = c .before .before .before .before .loop in
+    let k = kept-turn (meetsOn (a .axis) (a .width) (a .interval) (a .edge) (a .coords .now)) (a .from .now) (i .i) (i .inv .3) (c .before .before .before .loop-test .taken) (omega arith) (c .before .shot-meets .ensures) (c .one .ensures) in
+    omega (arith, kept-few (meetsOn (a .axis) (a .width) (a .interval) (a .edge) (a .coords .now)) (a .from .now) (i .i + 1) k (omega arith))
 
 add-i : tie.Need-add-i Inv-loop μ-loop
 add-i c = search needs
@@ -48,13 +53,17 @@ loop-less : tie.Need-loop-less Inv-loop μ-loop
 loop-less c = search needs
 
 loop-again : tie.Need-loop-again Inv-loop μ-loop
-loop-again c = let a = c .before .before .before .before .before .before .before .before .before .before .before .before in (omega arith, refl, put-those-turn (meetsOn (a .args .axis) (a .args .width) (a .args .interval) (a .args .edge) (a .args .coords .now)) (a .args .from .now) (a .args .to .now) (a .args .at) (c .before .before .before .before .before .before .before .loop-test .taken) (c .before .before .before .before .before .before .before .before .loop .inv .2) (c .before .before .before .before .before .shot-meets .ensures) (c .before .before .put-if .ensures))
+loop-again c =
+    let a = c .before .before .before .before .before .before .before .before .args in
+    let i = c .before .before .before .before .loop in
+    let k = kept-turn (meetsOn (a .axis) (a .width) (a .interval) (a .edge) (a .coords .now)) (a .from .now) (i .i) (i .inv .3) (c .before .before .before .loop-test .taken) (omega arith) (c .before .shot-meets .ensures) (c .one .ensures) in
+    (omega arith, refl, simp length-set (i .inv .2), k)
 
 same-length : tie.Need-same-length Inv-loop μ-loop
-same-length c = wrote-length (c .before .loop .inv .2)
+same-length c = c .before .loop .inv .2
 
 returns : tie.Need-returns Inv-loop μ-loop
-returns c = let a = c .before .before .before .before .before in put-those-all (meetsOn (a .args .axis) (a .args .width) (a .args .interval) (a .args .edge) (a .args .coords .now)) (a .args .from .now) (a .args .to .now) (a .args .at) (c .before .loop .i) (omega arith) (c .before .loop .inv .2)
+returns c = let a = c .before .before .before .before .before .args in kept-all (meetsOn (a .axis) (a .width) (a .interval) (a .edge) (a .coords .now)) (a .from .now) (c .before .loop .i) (c .before .loop .inv .3) (omega arith)
 
 pub narrow-spec : {M : Type 1} → statement M
 narrow-spec =
@@ -63,12 +72,13 @@ narrow-spec =
     Inv-loop
     μ-loop
     loop-holds
-    mul-shot-meets
-    shared-slice-read-shot-meets
+    mul-shot
+    shared-slice-read-shot
+    mul-to
+    slice-write-to
     shot-meets-requires
-    mul-put-if
-    shared-slice-read-put-if
-    put-if-requires
+    one-requires
+    add-kept
     add-i
     loop-less
     loop-again

@@ -1,28 +1,25 @@
--- The two tests are those of the definition.
-use Prim.Native.Nat.{_+_}
+-- The wrapped difference decides.
 use native.Mathlib.Omega.{arith}
 use borrow.Author.Needs.{needs}
-use Rattle.grid.proofs.TouchLaws.{product-fits, meets-not, meets-if}
+use Rattle.grid.proofs.TouchLaws.{product-fits, meets-wrapped}
 use Rattle.grid.proofs.intervals.interval_meets.Statement.{statement}
 use Rattle.grid.proofs.intervals.interval_meets.Tie as tie
 
 mul-low : tie.Need-mul-low
 mul-low c = product-fits (c .args .interval) (c .args .width) (omega arith) (omega arith)
 
-add-if1 : tie.Need-add-if1
-add-if1 c = search needs
+add-end : tie.Need-add-end
+add-end c = search needs
 
-returns : tie.Need-returns
-returns c = meets-not _ _ _ _ (c .if1 .taken)
+wrapping-sub-u32-requires : tie.Need-wrapping-sub-u32-requires
+wrapping-sub-u32-requires c κs = search needs
 
 add-result : tie.Need-add-result
 add-result c = search needs
 
-mul-result : tie.Need-mul-result
-mul-result c = product-fits (c .before .args .interval + 1) (c .before .args .width) (omega arith) (omega arith)
-
-returns-2 : tie.Need-returns-2
-returns-2 c = meets-if _ _ _ _ (c .if1 .left)
+returns : tie.Need-returns
+returns c = let a = c .before .args in meets-wrapped (a .width) (a .interval) (a .at) (a .edge) (c .wrapping-sub-u32 .result) (omega arith) (omega arith) (omega arith) (omega arith) (omega arith) (c .wrapping-sub-u32 .ensures)
 
 pub interval-meets-spec : {M : Type 1} → statement M
-interval-meets-spec = tie.close (tie.spec mul-low add-if1 returns add-result mul-result returns-2)
+interval-meets-spec =
+    tie.close (tie.spec mul-low add-end wrapping-sub-u32-requires add-result returns)
