@@ -2,6 +2,8 @@
 ghost use Prim.Native.Nat.{_+_, _*_, _≤_, _<_};
 ghost use lib.ListN.{length};
 ghost use Rattle.lattice_sums.specs.CornerSums.{Room};
+ghost use Rattle.lattice_sums.specs.Packed.{Packed};
+use lattice_sums::packed::pack;
 use lattice_sums::sums::CornerSums;
 use lattice_sums::sums::Totals;
 use measure_intake::Measured;
@@ -77,8 +79,16 @@ fn wide(low: u8, high: u8) -> u16 {
 }
 
 // The sums with one corner more; a coordinate outside the largest field adds none, so that the count tells.
-fn add_corner(sums: CornerSums, place: usize, x: u16, y: u16, z: u16, pattern: u8) -> CornerSums
-    requires { ⌜ (place < 1000000) × Room sums place ⌝ }
+fn add_corner(
+    sums: CornerSums,
+    weights: &[i8],
+    place: usize,
+    x: u16,
+    y: u16,
+    z: u16,
+    pattern: u8,
+) -> CornerSums
+    requires { ⌜ (place < 1000000) × Room sums place × Packed (now weights) ⌝ }
     ensures { λ r. ⌜ Room r (place + 1) ⌝ }
 {
     if 1024 < x {
@@ -90,23 +100,25 @@ fn add_corner(sums: CornerSums, place: usize, x: u16, y: u16, z: u16, pattern: u
     if 1024 < z {
         return sums;
     }
-    sums.add(x, y, z, pattern)
+    sums.add(weights, x, y, z, pattern)
 }
 
 // The sums with the corner of one record more.
-fn add_record(sums: CornerSums, listing: &[u8], place: usize) -> CornerSums
-    requires { ⌜ (place < 1000000) × (7 * place + 7 ≤ length (now listing)) × Room sums place ⌝ }
+fn add_record(sums: CornerSums, weights: &[i8], listing: &[u8], place: usize) -> CornerSums
+    requires { ⌜ (place < 1000000) × (7 * place + 7 ≤ length (now listing)) × Room sums place × Packed (now weights) ⌝ }
     ensures { λ r. ⌜ Room r (place + 1) ⌝ }
 {
     let at = 7 * place;
     let x = wide(listing[at], listing[at + 1]);
     let y = wide(listing[at + 2], listing[at + 3]);
     let z = wide(listing[at + 4], listing[at + 5]);
-    add_corner(sums, place, x, y, z, listing[at + 6])
+    add_corner(sums, weights, place, x, y, z, listing[at + 6])
 }
 
 // The corner sums of the first records of a listing, as many as there are and no more than a million.
-fn sums_of(listing: &[u8], records: usize) -> CornerSums {
+fn sums_of(weights: &[i8], listing: &[u8], records: usize) -> CornerSums
+    requires { ⌜ Packed (now weights) ⌝ }
+{
     let mut sums = CornerSums::new();
     let mut place = 0;
     while place < records {
@@ -116,7 +128,7 @@ fn sums_of(listing: &[u8], records: usize) -> CornerSums {
         if 1000000 <= place {
             return sums;
         }
-        sums = add_record(sums, listing, place);
+        sums = add_record(sums, weights, listing, place);
         place += 1;
     }
     sums
@@ -124,7 +136,9 @@ fn sums_of(listing: &[u8], records: usize) -> CornerSums {
 
 // The corner sums, from the bytes alone, are the figures.
 pub(crate) fn sums_agree(totals: Totals, listing: &[u8]) -> bool {
-    sums_are(sums_of(listing, totals.corners), totals)
+    let mut weights = [0i8; 4096];
+    pack(&mut weights);
+    sums_are(sums_of(&weights, listing, totals.corners), totals)
 }
 
 // Two listings of so many corners are the same at every place.

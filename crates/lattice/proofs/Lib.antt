@@ -14,3 +14,4 @@ pub mod SameSolid
 pub mod Agreement
 pub mod TermBounds
 pub mod Bounds
+pub mod BoxLaws

@@ -5,3 +5,4 @@ pub mod Figures
 pub mod Listing
 pub mod Shots
 pub mod Axes
+pub mod Boxes

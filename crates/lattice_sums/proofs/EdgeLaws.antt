@@ -1,21 +1,18 @@
--- The unit edges, the terms of their lengths and the corner test as the pattern byte shows them: tests that are computed at all 256 bytes.
+-- The unit edges and the corner test as the pattern byte shows them: tests that are computed at all 256 bytes.
 use mathlib.Core.Path.{_≡_, refl, sym, _∙_, ap, subst}
-use mathlib.Core.Bool.{Bool, true, false, _&&_, cond, not}
+use mathlib.Core.Bool.{Bool, true, false, cond, not}
 use Prim.Native.Nat.{ℕ, zero, suc, zero-le, _+_, _*_, _/_, _%_, _<_, _≤_}
-use native.Mathlib.Nat.{mul-zero}
 use native.Mathlib.Omega.{arith}
-use lib.Dec.{T, eqb, eqb→eq, ltb}
-use lib.IntN.{ℤ, pos, _+ℤ_, _*ℤ_}
+use lib.Dec.{T, eqb, eqb→eq}
 use lib.Bits.{bitAnd, bitXor}
 use lib.Count.{ones, onesIn}
-use borrow.Author.Tests.{eq-eqb, ne-eqb, lt-ltb}
+use borrow.Author.Tests.{eq-eqb, ne-eqb}
 use Rattle.lattice.specs.Cells.{bit, covered, edge, innerEdge}
-use Rattle.lattice.specs.Pattern.{ofByte, innerTerm, corner, someNonzero, w, ax, ay, az, ex, ey, ez, ix, iy, iz}
+use Rattle.lattice.specs.Pattern.{ofByte, corner, someNonzero, w, ax, ay, az, ex, ey, ez, ix, iy, iz}
 use Rattle.lattice_sums.specs.UnitEdges.{fourAbout}
 use Rattle.lattice_sums.specs.declared.edges.UnitEdge.{UnitEdge}
 use Rattle.lattice_sums.specs.declared.edges.UnitEdge.the-variants.{BelowX, AboveX, BelowY, AboveY, BelowZ, AboveZ}
-use Rattle.lattice.proofs.Integers.{eqZ, eqZ-at}
-use Rattle.lattice.proofs.Cases.{and-left, and-right, same, same-at, each, each-at, eachFour-at, eachFrom, eachBelow-at}
+use Rattle.lattice.proofs.Cases.{same, same-at, each, each-at, eachFour-at, eachFrom, eachBelow-at}
 
 -- of two tests the one that a third selects
 chosen-true : (a b c : Bool) → T (cond a b c) → a ≡ true → T b
@@ -122,35 +119,6 @@ module _ (q : Bool → Bool → Bool) {n : ℕ} (counts : n ≡ covered q) where
 
   pub inner-none : (n ≡ 3 → ⊥) → 0 ≡ innerEdge q
   inner-none h = ap bit (sym (ne-eqb (covered q) 3 (λ k. h (counts ∙ k))))
-
--- ---- fewer than three covered cells have no inner edge
-abbrev allZero : ℤ → ℤ → ℤ → Bool
-allZero u v w = eqZ u (pos 0) && (eqZ v (pos 0) && eqZ w (pos 0))
-
-zero-term : (u v w : ℤ) → T (allZero u v w) → (x y z : ℕ) → pos 0 ≡ pos x *ℤ u +ℤ pos y *ℤ v +ℤ pos z *ℤ w
-zero-term u v w t x y z =
-    let rest : Bool = eqZ v (pos 0) && eqZ w (pos 0) in
-    let past : T rest = and-right (eqZ u (pos 0)) rest t in
-    simp (
-      eqZ-at u (pos 0) (and-left (eqZ u (pos 0)) rest t),
-      eqZ-at v (pos 0) (and-left (eqZ v (pos 0)) (eqZ w (pos 0)) past),
-      eqZ-at w (pos 0) (and-right (eqZ v (pos 0)) (eqZ w (pos 0)) past),
-      mul-zero,
-    )
-
-fewInner : ℕ → Bool
-fewInner p = cond (ltb (ones p) 3) (allZero (ix (ofByte p)) (iy (ofByte p)) (iz (ofByte p))) true
-
-all-few : T (eachFrom fewInner 0 256)
-unfolding fewInner ones onesIn ofByte ix iy iz
-all-few = tt
-
-pub few-inner : (p : ℕ) → p < 256 → (x y z : ℕ) → ones p < 3 → pos 0 ≡ innerTerm x y z (ofByte p)
-unfolding fewInner
-few-inner p h x y z l =
-    zero-term (ix (ofByte p)) (iy (ofByte p)) (iz (ofByte p))
-    (chosen-true (ltb (ones p) 3) (allZero (ix (ofByte p)) (iy (ofByte p)) (iz (ofByte p))) true
-    (eachBelow-at fewInner 256 all-few p h) (lt-ltb (ones p) 3 l)) x y z
 
 -- ---- the corner test, axis after axis
 abbrev steady-y : ℕ → ℕ

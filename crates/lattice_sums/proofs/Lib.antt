@@ -1,3 +1,4 @@
 pub mod TableLaws
+pub mod PackedLaws
 pub mod EdgeLaws
 pub mod CornerSumLaws

@@ -1,5 +1,5 @@
 -- A constant table of 256 signed entries that is the table of a weight gives the weight at each entry.
-use mathlib.Core.Path.{_≡_, sym, _∙_, ap}
+use mathlib.Core.Path.{_≡_, refl, sym, _∙_, ap}
 use mathlib.Core.List.{List, [], _∷_}
 use Prim.Native.Nat.{ℕ, zero, suc, _+_, _<_, _≤_}
 use native.Mathlib.Nat.{add-zero, zero-add, add-suc, suc-add, le-of-suc-le-suc, not-suc-le-zero}
@@ -8,10 +8,9 @@ use lib.IntN.{ℤ, pos, negsuc, natAbs}
 use lib.ListN.{getD}
 use lib.Signed.{mag}
 use mir.Syntax.{w8, w64}
-use mir.Val.{SFits, toZ, ofZ}
-use mir.Facts.{toZ-ofZ}
+use mir.Val.{SFits}
 use Rattle.lattice.specs.Pattern.{Pattern, ofByte}
-use Rattle.lattice.proofs.PatternLaws.{Small}
+use Rattle.lattice_sums.specs.Packed.{Weighs}
 
 -- the values of a function at i, i + 1, .. i + n - 1
 abbrev pub tableFrom : (ℕ → ℤ) → ℕ → ℕ → List ℤ
@@ -23,6 +22,12 @@ from-at f i zero k h = absurd (not-suc-le-zero h)
 from-at f i (suc n) zero h = ap f (sym (add-zero i))
 from-at f i (suc n) (suc k) h = from-at f (suc i) n k (le-of-suc-le-suc h) ∙ ap f (suc-add i k ∙ sym (add-suc i k))
 
+pub table-weighs : (f : Pattern → ℤ) → Weighs f (tableFrom (λ n. f (ofByte n)) 0 256)
+table-weighs f = record {
+  long = refl;
+  entry = λ k h. from-at (λ n. f (ofByte n)) 0 256 k h ∙ ap (λ n. f (ofByte n)) (zero-add k);
+}
+
 -- ---- signed numbers that fit
 mag-le : (z : ℤ) → mag z ≤ natAbs z
 mag-le (pos n) = omega arith
@@ -33,10 +38,3 @@ fits8 z h = record { sfits = omega (arith, mag-le z) }
 
 pub fits64 : (z : ℤ) → natAbs z < 9223372036854775808 → SFits w64 z
 fits64 z h = record { sfits = omega (arith, mag-le z) }
-
--- an entry as a load gives it
-pub entry : (m : ℕ) (f : Pattern → ℤ) → Small m f → m < 128 → (k : ℕ) → k < 256
-    → toZ w8 (ofZ w8 (getD (tableFrom (λ n. f (ofByte n)) 0 256) k (pos 0))) ≡ f (ofByte k)
-entry m f small fits k h =
-    ap (λ z. toZ w8 (ofZ w8 z)) (from-at (λ n. f (ofByte n)) 0 256 k h ∙ ap (λ n. f (ofByte n)) (zero-add k))
-    ∙ toZ-ofZ (fits8 (f (ofByte k)) (omega (arith, small (ofByte k))))

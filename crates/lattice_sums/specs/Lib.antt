@@ -1,2 +1,3 @@
 pub mod UnitEdges
 pub mod CornerSums
+pub mod Packed

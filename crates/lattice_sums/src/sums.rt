@@ -7,16 +7,8 @@ ghost use mathlib.Core.List.{[]};
 ghost use Rattle.lattice.specs.Pattern.{ofByte, volumeTerm, areaTerm, edgeTerm, innerTerm};
 ghost use Rattle.lattice.specs.Figures.{largestTerm};
 ghost use Rattle.lattice_sums.specs.CornerSums.{sumsOf, added, RoomFor, Whole, SomeTotals};
-use crate::tables::weight_ax;
-use crate::tables::weight_ay;
-use crate::tables::weight_az;
-use crate::tables::weight_ex;
-use crate::tables::weight_ey;
-use crate::tables::weight_ez;
-use crate::tables::weight_ix;
-use crate::tables::weight_iy;
-use crate::tables::weight_iz;
-use crate::tables::weight_w;
+ghost use Rattle.lattice_sums.specs.Packed.{Packed};
+use crate::packed::weight_at;
 
 // The four sums so far, and how many corners they have.
 pub struct CornerSums {
@@ -53,14 +45,14 @@ fn plus(a: i64, b: i64) -> i64
 }
 
 // What a point adds to the volume: x·y·z·w.
-fn volume_term(x: u16, y: u16, z: u16, p: u8) -> i64
-    requires { ⌜ (x ≤ 1024) × (y ≤ 1024) × (z ≤ 1024) ⌝ }
+fn volume_term(weights: &[i8], x: u16, y: u16, z: u16, p: u8) -> i64
+    requires { ⌜ (x ≤ 1024) × (y ≤ 1024) × (z ≤ 1024) × Packed (now weights) ⌝ }
     ensures { λ r. ⌜ (r ≡ volumeTerm x y z (ofByte p)) × (natAbs r ≤ largestTerm) ⌝ }
 {
     let i = x as u64;
     let j = y as u64;
     let k = z as u64;
-    scaled(i * j * k, weight_w(p))
+    scaled(i * j * k, weight_at(weights, p, 0))
 }
 
 // l·u + m·v + n·w.
@@ -80,50 +72,47 @@ fn product(a: u16, b: u16) -> u64
 }
 
 // What a point adds to the area: y·z·ax + x·z·ay + x·y·az.
-fn area_term(x: u16, y: u16, z: u16, p: u8) -> i64
-    requires { ⌜ (x ≤ 1024) × (y ≤ 1024) × (z ≤ 1024) ⌝ }
+fn area_term(weights: &[i8], x: u16, y: u16, z: u16, p: u8) -> i64
+    requires { ⌜ (x ≤ 1024) × (y ≤ 1024) × (z ≤ 1024) × Packed (now weights) ⌝ }
     ensures { λ r. ⌜ (r ≡ areaTerm x y z (ofByte p)) × (natAbs r ≤ largestTerm) ⌝ }
 {
     three(
         product(y, z),
-        weight_ax(p),
+        weight_at(weights, p, 1),
         product(x, z),
-        weight_ay(p),
+        weight_at(weights, p, 2),
         product(x, y),
-        weight_az(p),
+        weight_at(weights, p, 3),
     )
 }
 
 // What a point adds to the edge length: x·ex + y·ey + z·ez.
-fn edge_term(x: u16, y: u16, z: u16, p: u8) -> i64
-    requires { ⌜ (x ≤ 1024) × (y ≤ 1024) × (z ≤ 1024) ⌝ }
+fn edge_term(weights: &[i8], x: u16, y: u16, z: u16, p: u8) -> i64
+    requires { ⌜ (x ≤ 1024) × (y ≤ 1024) × (z ≤ 1024) × Packed (now weights) ⌝ }
     ensures { λ r. ⌜ (r ≡ edgeTerm x y z (ofByte p)) × (natAbs r ≤ largestTerm) ⌝ }
 {
     three(
         x as u64,
-        weight_ex(p),
+        weight_at(weights, p, 4),
         y as u64,
-        weight_ey(p),
+        weight_at(weights, p, 5),
         z as u64,
-        weight_ez(p),
+        weight_at(weights, p, 6),
     )
 }
 
-// What a point adds to the inner length: x·ix + y·iy + z·iz. Nothing where fewer than three of the eight cells are covered.
-fn inner_term(x: u16, y: u16, z: u16, p: u8) -> i64
-    requires { ⌜ (x ≤ 1024) × (y ≤ 1024) × (z ≤ 1024) ⌝ }
+// What a point adds to the inner length: x·ix + y·iy + z·iz.
+fn inner_term(weights: &[i8], x: u16, y: u16, z: u16, p: u8) -> i64
+    requires { ⌜ (x ≤ 1024) × (y ≤ 1024) × (z ≤ 1024) × Packed (now weights) ⌝ }
     ensures { λ r. ⌜ (r ≡ innerTerm x y z (ofByte p)) × (natAbs r ≤ largestTerm) ⌝ }
 {
-    if u8::count_ones(p) < 3 {
-        return 0;
-    }
     three(
         x as u64,
-        weight_ix(p),
+        weight_at(weights, p, 7),
         y as u64,
-        weight_iy(p),
+        weight_at(weights, p, 8),
         z as u64,
-        weight_iz(p),
+        weight_at(weights, p, 9),
     )
 }
 
@@ -149,16 +138,16 @@ impl CornerSums {
         }
     }
 
-    // The sums with one corner more, of a field of at most 1,024.
-    pub fn add(self, x: u16, y: u16, z: u16, p: u8) -> CornerSums
-        requires { ⌜ (x ≤ 1024) × (y ≤ 1024) × (z ≤ 1024) × RoomFor 1 self ⌝ }
+    // The sums with one corner more, of a field of at most 1,024. The weights are lent: `packed::pack` puts them together.
+    pub fn add(self, weights: &[i8], x: u16, y: u16, z: u16, p: u8) -> CornerSums
+        requires { ⌜ (x ≤ 1024) × (y ≤ 1024) × (z ≤ 1024) × RoomFor 1 self × Packed (now weights) ⌝ }
         ensures { λ r. ⌜ r ≡ added self (record { x = x; y = y; z = z; pattern = p }) ⌝ }
     {
         CornerSums {
-            volume: plus(self.volume, volume_term(x, y, z, p)),
-            area: plus(self.area, area_term(x, y, z, p)),
-            edge: plus(self.edge, edge_term(x, y, z, p)),
-            inner: plus(self.inner, inner_term(x, y, z, p)),
+            volume: plus(self.volume, volume_term(weights, x, y, z, p)),
+            area: plus(self.area, area_term(weights, x, y, z, p)),
+            edge: plus(self.edge, edge_term(weights, x, y, z, p)),
+            inner: plus(self.inner, inner_term(weights, x, y, z, p)),
             corners: self.corners + 1,
         }
     }

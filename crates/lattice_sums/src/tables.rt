@@ -1,13 +1,13 @@
 // The ten weights of a pattern, as constant tables of 256 signed entries: docs/SCOPE.md, 'Corner points'.
-// Each table's rule is tested once over the whole table, and read at an entry by one law.
-ghost use mathlib.Core.Path.{_≡_};
-ghost use Rattle.lattice.specs.Pattern.{ofByte, w, ax, ay, az, ex, ey, ez, ix, iy, iz};
+// Each table's rule is tested once over the whole table. The tables are read as a whole, by `packed`.
+ghost use Rattle.lattice.specs.Pattern.{w, ax, ay, az, ex, ey, ez, ix, iy, iz};
+ghost use Rattle.lattice_sums.specs.Packed.{Weighs};
 
 // w: over covered cells, the product of three signs.
-pub fn weight_w(p: u8) -> i8
-    ensures { λ r. ⌜ r ≡ w (ofByte p) ⌝ }
+pub(crate) fn table_w() -> [i8; 256]
+    ensures { λ r. ⌜ Weighs w r ⌝ }
 {
-    W[p as usize]
+    W
 }
 
 const W: [i8; 256] = [
@@ -270,10 +270,10 @@ const W: [i8; 256] = [
 ];
 
 // ax: over the unit squares at the point across x that count as area, the product of their signs.
-pub fn weight_ax(p: u8) -> i8
-    ensures { λ r. ⌜ r ≡ ax (ofByte p) ⌝ }
+pub(crate) fn table_ax() -> [i8; 256]
+    ensures { λ r. ⌜ Weighs ax r ⌝ }
 {
-    AX[p as usize]
+    AX
 }
 
 const AX: [i8; 256] = [
@@ -536,10 +536,10 @@ const AX: [i8; 256] = [
 ];
 
 // ay: the same across y.
-pub fn weight_ay(p: u8) -> i8
-    ensures { λ r. ⌜ r ≡ ay (ofByte p) ⌝ }
+pub(crate) fn table_ay() -> [i8; 256]
+    ensures { λ r. ⌜ Weighs ay r ⌝ }
 {
-    AY[p as usize]
+    AY
 }
 
 const AY: [i8; 256] = [
@@ -802,10 +802,10 @@ const AY: [i8; 256] = [
 ];
 
 // az: the same across z.
-pub fn weight_az(p: u8) -> i8
-    ensures { λ r. ⌜ r ≡ az (ofByte p) ⌝ }
+pub(crate) fn table_az() -> [i8; 256]
+    ensures { λ r. ⌜ Weighs az r ⌝ }
 {
-    AZ[p as usize]
+    AZ
 }
 
 const AZ: [i8; 256] = [
@@ -1068,10 +1068,10 @@ const AZ: [i8; 256] = [
 ];
 
 // ex: the outer count of the unit edge below the point on x, less that of the one above.
-pub fn weight_ex(p: u8) -> i8
-    ensures { λ r. ⌜ r ≡ ex (ofByte p) ⌝ }
+pub(crate) fn table_ex() -> [i8; 256]
+    ensures { λ r. ⌜ Weighs ex r ⌝ }
 {
-    EX[p as usize]
+    EX
 }
 
 const EX: [i8; 256] = [
@@ -1334,10 +1334,10 @@ const EX: [i8; 256] = [
 ];
 
 // ey: the same on y.
-pub fn weight_ey(p: u8) -> i8
-    ensures { λ r. ⌜ r ≡ ey (ofByte p) ⌝ }
+pub(crate) fn table_ey() -> [i8; 256]
+    ensures { λ r. ⌜ Weighs ey r ⌝ }
 {
-    EY[p as usize]
+    EY
 }
 
 const EY: [i8; 256] = [
@@ -1600,10 +1600,10 @@ const EY: [i8; 256] = [
 ];
 
 // ez: the same on z.
-pub fn weight_ez(p: u8) -> i8
-    ensures { λ r. ⌜ r ≡ ez (ofByte p) ⌝ }
+pub(crate) fn table_ez() -> [i8; 256]
+    ensures { λ r. ⌜ Weighs ez r ⌝ }
 {
-    EZ[p as usize]
+    EZ
 }
 
 const EZ: [i8; 256] = [
@@ -1866,10 +1866,10 @@ const EZ: [i8; 256] = [
 ];
 
 // ix: the inner count of the unit edge below the point on x, less that of the one above.
-pub fn weight_ix(p: u8) -> i8
-    ensures { λ r. ⌜ r ≡ ix (ofByte p) ⌝ }
+pub(crate) fn table_ix() -> [i8; 256]
+    ensures { λ r. ⌜ Weighs ix r ⌝ }
 {
-    IX[p as usize]
+    IX
 }
 
 const IX: [i8; 256] = [
@@ -2132,10 +2132,10 @@ const IX: [i8; 256] = [
 ];
 
 // iy: the same on y.
-pub fn weight_iy(p: u8) -> i8
-    ensures { λ r. ⌜ r ≡ iy (ofByte p) ⌝ }
+pub(crate) fn table_iy() -> [i8; 256]
+    ensures { λ r. ⌜ Weighs iy r ⌝ }
 {
-    IY[p as usize]
+    IY
 }
 
 const IY: [i8; 256] = [
@@ -2398,10 +2398,10 @@ const IY: [i8; 256] = [
 ];
 
 // iz: the same on z.
-pub fn weight_iz(p: u8) -> i8
-    ensures { λ r. ⌜ r ≡ iz (ofByte p) ⌝ }
+pub(crate) fn table_iz() -> [i8; 256]
+    ensures { λ r. ⌜ Weighs iz r ⌝ }
 {
-    IZ[p as usize]
+    IZ
 }
 
 const IZ: [i8; 256] = [

@@ -1,6 +1,6 @@
 // The second opinion for a disputed quote: the totals and the corner count of a list by counting, point by point, through the cover
-// test. Every cell is asked, so it is slow in large fields. It shares with the sweep the intake, the runs of the index, the door to a
-// shot and the corner test of a pattern byte, and nothing else. docs/SCOPE.md, 'Cells and totals'. specs/Points.antt says what
+// test. Every cell is asked, so it is slow in large fields. It shares with the sweep the intake, the runs of the index and the door
+// to a shot, and nothing else. docs/SCOPE.md, 'Cells and totals'. specs/Points.antt says what
 // a point counts. Stands on `measure_intake`, `grid_cover` and `grid_runs`.
 pub mod lines;
 pub mod points;

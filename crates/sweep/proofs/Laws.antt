@@ -1,276 +1,224 @@
--- Marks of a list, plane after plane, and the slab that has all shots of its planes.
+-- Plane after plane, all planes have all corners.
 use mathlib.Core.Path.{_≡_, refl, sym, _∙_, ap, ap₂, subst, fun-ext}
 use mathlib.Core.Logic.{_≢_}
-use mathlib.Core.Bool.{Bool, true, false, _&&_, _||_}
-use mathlib.Core.List.{List, [], _∷_, _++_, append-nil}
-use Prim.Native.Nat.{ℕ, zero, suc, _+_, _-_, _*_, _/_, _<_, _≤_}
+use mathlib.Core.Bool.{Bool, true, false, cond, _&&_}
+use mathlib.Core.List.{List, [], _∷_, _++_}
+use Prim.Native.Nat.{ℕ, suc, _+_, _*_, _<_, _≤_}
 use native.Mathlib.Omega.{arith}
-use native.Mathlib.Nat.{mul-le-mul, le-refl, suc-mul}
 use native.Mathlib.Numerals.{add-one}
-use lib.Dec.{T, leb, leb→le, ltb, ltb→lt, eqb, eqb→eq, eqb-refl}
-use lib.ListN.{length, getD, take}
-use borrow.Author.Tests.{eqb-true, eqb-false}
-use Rattle.lattice.proofs.JoinLaws.{join-nil, join-end}
-use Rattle.lattice.specs.Axes.{x-axis, NoFace}
+use lib.Dec.{leb, ltb, eqb}
+use lib.ListN.{length, getD, set, replicate, length-replicate, length-set}
+use lib.Seq.{getD-set-same, getD-set-other}
+use borrow.Author.Tests.{ltb-true, ltb-false, eqb-true, eqb-false, le-ltb}
+use Rattle.lattice.specs.Cells.{Cells, below, up, planePoints}
 use Rattle.lattice.specs.Sums.{join}
-use Rattle.lattice.specs.Cells.{Within, linePoints, planePoints}
-use Rattle.lattice.specs.Shots.{Shot, any, cells, InField}
+use Rattle.lattice.specs.Pattern.{Pattern, around, byte, corner}
 use Rattle.lattice.specs.Listing.{here, corners}
-use Rattle.lattice.specs.Pattern.{corner}
+use Rattle.lattice.specs.Boxes.{boxAt, boxCells, anyTo}
+use Rattle.lattice.proofs.JoinLaws.{join-ext}
+use Rattle.lattice.proofs.BoxLaws.{any-to-cut, below-boxes}
 use Rattle.lattice_sums.specs.CornerSums.{Room, sumsOf}
 use Rattle.lattice_sums.specs.declared.sums.CornerSums.{CornerSums}
-use Rattle.lattice_sums.proofs.CornerSumLaws.{room-more}
-use Rattle.lattice.proofs.Inside.{empty, outside}
-use Rattle.lattice.proofs.PatternLaws.{still-no-corner}
-use Rattle.lattice.proofs.ShotLaws.{and-elim, or-elim, no-face-no-corner}
-use Rattle.lattice.proofs.Cases.{bool-ext}
-use Rattle.lattice.proofs.SameSolid.{here-none}
-use Rattle.job.specs.Job.{Valid, shotCount, shotsOf, shotAt}
-use Rattle.job.proofs.Tests.{or-left, or-right}
-use Rattle.job.proofs.Shots.{stay-at, any-at, at-any}
-use Rattle.job.proofs.Conditions.{valid-within}
-use Rattle.buffer.specs.Wrote.{Wrote}
-use Rattle.buffer.proofs.WroteLaws.{front-part}
-use Rattle.grid.specs.Numbers.{has}
-use Rattle.grid.specs.Grid.{slabOf, touchesSlab, meets}
-use Rattle.grid.proofs.NumberLaws.{has-those}
-use Rattle.grid.proofs.CellLaws.{slab-few}
-use Rattle.grid.proofs.ShotLaws.{width-times}
-use Rattle.grid_runs.proofs.SlabLaws.{plane-meets, slab-has}
-use Rattle.sweep_rows.specs.Runs.{InList, InRun, runTo, shotsIn}
-use Rattle.sweep_marks.specs.Marks.{marked, Marked}
-use Rattle.sweep_marks.proofs.Laws.{marked-other}
-use Rattle.sweep_selection.specs.Selection.{wanted}
+use Rattle.lattice_sums.proofs.CornerSumLaws.{no-room, room-more}
+use Rattle.job.specs.Job.{Valid}
+use Rattle.sweep_image.specs.Images.{columns, inRect}
+use Rattle.sweep_image.proofs.ImageLaws.{shows-ext, zeros-at, shows-zeros, tells-zeros}
+use Rattle.sweep_faces.specs.Faces.{rectOf, shade}
+use Rattle.sweep_layer.specs.Layers.{About, touching}
+use Rattle.sweep_slots.specs.Slots.{Slots}
 use Rattle.sweep_tally.specs.Found.{Found, state, found}
 use Rattle.sweep_tally.proofs.Laws.{found-append}
-use Rattle.sweep_line.proofs.Laws.{room-own}
-use Rattle.sweep_plane.specs.Plane.{linesTo, planeOf, PlaneOut}
-use Rattle.sweep_plane.proofs.Laws.{plane-same}
-use Rattle.sweep.specs.Sweep.{AllIn, MarkedList, MarkedAll, BlankIf, Agree, SlabRun, planesTo, Swept, InSlab}
+use Rattle.sweep_points.specs.Points.{planeAt}
+use Rattle.sweep_plane.specs.Plane.{Both, PlaneOut, EndsOn}
+use Rattle.sweep.specs.Sweep.{Given, Before, FirstPast, Passed, EndsRow, planesTo, AllFound}
 
--- ---- marks
-pub list-none : (e : ℕ) (c row : List ℕ) → MarkedList e c 0 row
-list-none e c row = record { at = λ p h i l. absurd (omega arith) }
-
-pub list-more : (e : ℕ) (c : List ℕ) (n : ℕ) {row row' : List ℕ} {a b : ℕ} → InList e c n → length row ≡ 1026
-    → a ≡ shotAt e c n .x → b ≡ shotAt e c n .edge → row' ≡ marked a b row → MarkedList e c n row → MarkedList e c (n + 1) row'
-list-more e c n {row} {row'} j len ea eb er f = record { at = λ p h i l. go p (other p h) i l (eqb i n) refl }
-  where
-    other : (p : ℕ) → getD row' p 0 ≡ 0 → (getD row p 0 ≡ 0) × (shotAt e c n .x ≢ p) × (shotAt e c n .x + shotAt e c n .edge ≢ p)
-    other p h = marked-other row (shotAt e c n .x) (shotAt e c n .edge) len (j .inside .x-in) p (rw (er, ea, eb) at h)
-
-    go : (p : ℕ) → (getD row p 0 ≡ 0) × (shotAt e c n .x ≢ p) × (shotAt e c n .x + shotAt e c n .edge ≢ p) → (i : ℕ) → i < n + 1 → (b : Bool) → eqb i n ≡ b
-        → (shotAt e c i .x ≢ p) × (shotAt e c i .x + shotAt e c i .edge ≢ p)
-    go p h i l true k = rw (eqb-true i n k) (h .1, h .2)
-    go p h i l false k = f .at p (h .0) i (let m : (i ≡ n → ⊥) = eqb-false i n k in omega arith)
-
--- no shot of a run has a face where the list's shots have none
-no-faces : (e : ℕ) (c run : List ℕ) (p q : ℕ) → ((k : ℕ) → k < q → (shotAt e c (getD run k 0) .x ≢ p) × (shotAt e c (getD run k 0) .x + shotAt e c (getD run k 0) .edge ≢ p)) → NoFace x-axis p (runTo e c run q)
-unfolding runTo
-no-faces e c run p zero f = tt
-no-faces e c run p (suc q) f = (f q (omega arith) .0, f q (omega arith) .1, no-faces e c run p q (λ k l. f k (omega arith)))
-
-marked-run : (e : ℕ) (c run row : List ℕ) (n : ℕ) → ((k : ℕ) → k < length run → getD run k 0 < n) → MarkedList e c n row → Marked x-axis (shotsIn e c run) row
-marked-run e c run row n f m = record { at = λ p h. no-faces e c run p (length run) (λ k l. m .at p h (getD run k 0) (f k l)) }
-
-module _ (row : List ℕ) (from : ℕ) where
-  pub blank-on : (x : ℕ) → ((k : ℕ) → from ≤ k → k < x → getD row k 0 ≡ 0) → getD row x 0 ≡ 0 → (k : ℕ) → from ≤ k → k < x + 1 → getD row k 0 ≡ 0
-  blank-on x f e k l h = go (eqb k x) refl
-    where
-      go : (b : Bool) → eqb k x ≡ b → getD row k 0 ≡ 0
-      go true m = rw (eqb-true k x m) e
-      go false m = f k l (let n : (k ≡ x → ⊥) = eqb-false k x m in omega arith)
-
-  pub blank-not : (end : ℕ) → BlankIf false from end row
-  blank-not end = record { yes = λ e. absurd (subst T (sym e) tt) }
-
--- ---- plane after plane
-plane-bare : (n x : ℕ) (ts : List Shot) → NoFace x-axis x ts → planeOf n x ts ≡ []
-unfolding planeOf linesTo
-plane-bare n x ts h = join-nil (n + 1) (λ y. join-nil (linePoints 1024) (λ z. here-none (cells ts) x y z (no-face-no-corner x-axis ts x y z h)))
-
-pub plane-skip : (n x : ℕ) (ts : List Shot) (t : CornerSums) (b : List ℕ) {k : ℕ} → NoFace x-axis x ts → Room t k → PlaneOut n x ts (state t b) (state t b)
-unfolding found
-plane-skip n x ts t b {k} h r = record { is = sym (ap (found (state t b)) (plane-bare n x ts h)); room = room-own t k (planePoints 1024) r }
-
-pub planes-none : (n : ℕ) (ts : List Shot) (f : Found) → f ≡ found f (planesTo n 0 ts)
-unfolding planesTo join found
-planes-none n ts f = refl
-
-planes-more : (n x : ℕ) (ts : List Shot) → planesTo n (x + 1) ts ≡ planesTo n x ts ++ planeOf n x ts
+planes-more : (n x : ℕ) (s : Cells) → planesTo n (x + 1) s ≡ planesTo n x s ++ planeAt n x s
 unfolding planesTo join
-planes-more n x ts = rw (add-one x)
+planes-more n x s = rw (add-one x)
 
-module _ (n from : ℕ) (ts : List Shot) where
-  pub swept-none : (f : Found) → Room (f .sums) (from * planePoints 1024) → Swept n from from ts f f
-  swept-none f r = record { on = λ h e. e; room = r }
+-- what reaches past a plane touches the next one
+shade-touching : (boxes : List ℕ) (x n y z : ℕ) → shade boxes x n y z ≡ touching boxes (x + 1) n y z
+unfolding shade touching
+shade-touching boxes x n y z = ap (λ k. anyTo n (λ i. leb k (boxAt boxes i .x-end) && inRect (rectOf (boxAt boxes i)) y z)) (sym (add-one x))
 
-  pub swept-more : (x : ℕ) (rs : List Shot) {f g h : Found} → Swept n from x ts f g → PlaneOut n x rs g h → planeOf n x rs ≡ planeOf n x ts → Swept n from (x + 1) ts f h
-  swept-more x rs {f} {g} {h} s p e = record {
-    on = λ k m. p .is ∙ ap₂ found (s .on k m) e ∙ sym (found-append k (planesTo n x ts) (planeOf n x ts)) ∙ ap (found k) (sym (planes-more n x ts));
-    room = room-more (h .sums) (g .sums .corners + planePoints 1024) ((x + 1) * planePoints 1024) (omega (arith, s .room .few)) (p .room);
+none-yet : (boxes : List ℕ) (y z : ℕ) → false ≡ touching boxes 0 0 y z
+unfolding touching anyTo
+none-yet boxes y z = refl
+
+-- ---- the boxes about a plane
+module _ (field : ℕ) (boxes : List ℕ) (count : ℕ) (g : Given field boxes count) where
+  pub about : (x from old r n : ℕ) → Before boxes count x from old → Passed boxes from old x r → FirstPast boxes count old x n → About field boxes x r old n
+  about x from old r n b p f = record {
+    known = record { there = omega (arith, g .there, f .within); inside = λ i l. g .boxes-in .inside i (omega (arith, f .within)) };
+    from-old = p .within;
+    old-n = f .onward;
+    passed = λ i l. go i l (ltb i from) refl;
+    before = b .begun;
+    begun = λ i l h. let c = b .later i l (omega (arith, f .within)) in let d = f .not-past i l h in omega arith;
   }
-
-  planes-skip : (k : ℕ) → ((x : ℕ) → from ≤ x → x < from + k → planeOf n x ts ≡ []) → planesTo n (from + k) ts ≡ planesTo n from ts
-  planes-skip zero h = ap (λ m. planesTo n m ts) (omega arith)
-  planes-skip (suc k) h =
-      let m : from + suc k ≡ from + k + 1 = omega arith in
-      ap (λ m. planesTo n m ts) m ∙ planes-more n (from + k) ts
-      ∙ ap₂ _++_ (planes-skip k (λ x l i. h x l (omega arith))) (h (from + k) (omega arith) (omega arith)) ∙ append-nil (planesTo n from ts)
-
-  swept-skip : (end : ℕ) → from ≤ end → ((x : ℕ) → from ≤ x → x < end → planeOf n x ts ≡ []) → (f : Found) → Room (f .sums) (from * planePoints 1024) → Swept n from end ts f f
-  swept-skip end l h f r =
-      let m : from + (end - from) ≡ end = omega arith in
-      record {
-        on = λ k e. e ∙ ap (found k) (sym (subst (λ p. planesTo n p ts ≡ planesTo n from ts) m (planes-skip (end - from) (λ x a b. h x a (omega arith)))));
-        room = room-more (f .sums) (from * planePoints 1024) (end * planePoints 1024) (omega arith) r;
-      }
-
--- all planes have all corners
-planes-all : (n : ℕ) (ts : List Shot) → n ≤ 1024 → Within n (cells ts) → planesTo n (n + 1) ts ≡ corners n (cells ts)
-unfolding planesTo planeOf linesTo corners
-planes-all n ts h within = rw (add-one n) (ap (join (suc n)) (fun-ext λ x. ap (join (suc n)) (fun-ext λ y. line x y)))
-  where
-    line : (x y : ℕ) → join (linePoints 1024) (here (cells ts) x y) ≡ join (suc n) (here (cells ts) x y)
-    line x y =
-        let m : 1024 - n + suc n ≡ 1025 = omega arith in
-        ap (λ k. join k (here (cells ts) x y)) (sym m)
-        ∙ join-end (suc n) (1024 - n) (here (cells ts) x y) (λ z l. here-none (cells ts) x y z
-        (ap corner (outside n (cells ts) within x y z (λ o. omega arith)) ∙ still-no-corner x-axis empty (λ b c. refl)))
-
--- ---- the shots of a run
-module _ (e : ℕ) (c run : List ℕ) (f : Shot → Bool) where
-  run-any : (n : ℕ) → T (any f (runTo e c run n)) → (k : ℕ) × (k < n) × T (f (shotAt e c (getD run k 0)))
-  unfolding runTo any
-  run-any zero t = absurd t
-  run-any (suc n) t = or-elim (f (shotAt e c (getD run n 0))) (any f (runTo e c run n)) t (λ h. (n, omega arith, h)) (λ h. let r = run-any n h in (r .0, omega (arith, r .1), r .2))
-
-  any-run : (n k : ℕ) → k < n → T (f (shotAt e c (getD run k 0))) → T (any f (runTo e c run n))
-  unfolding runTo any
-  any-run zero k l t = absurd (omega arith)
-  any-run (suc n) k l t = go (eqb k n) refl (any-run n k)
     where
-      go : (b : Bool) → eqb k n ≡ b → (k < n → T (f (shotAt e c (getD run k 0))) → T (any f (runTo e c run n))) → T (f (shotAt e c (getD run n 0)) || any f (runTo e c run n))
-      go true m r = or-left (f (shotAt e c (getD run n 0))) (any f (runTo e c run n)) (subst (λ i. T (f (shotAt e c (getD run i 0)))) (eqb-true k n m) t)
-      go false m r = or-right (f (shotAt e c (getD run n 0))) (any f (runTo e c run n)) (r (let z : (k ≡ n → ⊥) = eqb-false k n m in omega arith) t)
+      go : (i : ℕ) → i < r → (t : Bool) → ltb i from ≡ t → boxAt boxes i .x-end < x
+      go i l true e = b .passed i (ltb-true i from e)
+      go i l false e = p .ended i (ltb-false i from e) l
 
--- a number that a list has stands at some place, and each place's number is one that it has
-has-place : (l : List ℕ) (a : ℕ) → T (has l a) → (k : ℕ) × (k < length l) × (getD l k 0 ≡ a)
-unfolding has
-has-place [] a t = absurd t
-has-place (b ∷ l) a t = or-elim (eqb a b) (has l a) t (λ h. (0, omega arith, sym (eqb→eq a b h))) (λ h. let r = has-place l a h in (suc (r .0), omega (arith, r .1), r .2))
+  -- all boxes from the first that begins past the plane do
+  past-on : (x old n : ℕ) → FirstPast boxes count old x n → (i : ℕ) → n ≤ i → i < count → x < boxAt boxes i .x
+  past-on x old n f i l h = let a = f .past (omega arith) in let b = g .boxes-in .rising n i l h in omega arith
 
-place-has : (l : List ℕ) (k : ℕ) → k < length l → T (has l (getD l k 0))
-unfolding has
-place-has [] k h = absurd (omega arith)
-place-has (b ∷ l) zero h = go (eqb b b) (eqb-refl b)
-  where
-    go : (t : Bool) → T t → T (t || has l b)
-    go true s = tt
-    go false s = absurd s
-place-has (b ∷ l) (suc k) h = go (eqb (getD l k 0) b) (place-has l k (omega arith))
-  where
-    go : (t : Bool) → T (has l (getD l k 0)) → T (t || has l (getD l k 0))
-    go true s = tt
-    go false s = s
-
--- ---- the slab has all shots that touch its planes
-module _ (F E G : ℕ) (coords : List ℕ) (v : Valid F E G coords) where
-  pub all-in : AllIn E coords
-  all-in i h =
-      let s : InField F (shotAt E coords i) = stay-at F E coords (v .inside) i h in
+  pub before-next : (x from old r n : ℕ) → Before boxes count x from old → Passed boxes from old x r → FirstPast boxes count old x n → Before boxes count (x + 1) r n
+  before-next x from old r n b p f =
+      let a : About field boxes x r old n = about x from old r n b p f in
       record {
-        there = h;
-        inside = record {
-          x-in = omega (arith, s .x-in, v .field-most);
-          y-in = omega (arith, s .y-in, v .field-most);
-          z-in = omega (arith, s .z-in, v .field-most);
-        };
+        from-old = omega (arith, p .within, f .onward);
+        old-count = f .within;
+        passed = λ i l. let h = a .passed i l in omega arith;
+        begun = λ i l. go i l (ltb i old) refl;
+        later = λ i l h. let c = past-on x old n f i l h in omega arith;
       }
+    where
+      go : (i : ℕ) → i < n → (t : Bool) → ltb i old ≡ t → boxAt boxes i .x < x + 1
+      go i l true e = let h = b .begun i (ltb-true i old e) in omega arith
+      go i l false e = let h = f .not-past i (ltb-false i old e) l in omega arith
 
-  module _ (gx : ℕ) where
-    slab-below : (k : ℕ) → k < length (slabOf F E G coords gx) → getD (slabOf F E G coords gx) k 0 < shotCount coords
-    unfolding slabOf
-    slab-below k h =
-        let i : ℕ = getD (slabOf F E G coords gx) k 0 in
-        let t : T (ltb i (shotCount coords) && touchesSlab (F / G) gx (shotAt E coords i))
-        = subst T (has-those i (λ i. touchesSlab (F / G) gx (shotAt E coords i)) (shotCount coords)) (place-has (slabOf F E G coords gx) k h) in
-        ltb→lt i (shotCount coords) (and-elim (ltb i (shotCount coords)) (touchesSlab (F / G) gx (shotAt E coords i)) t .0)
+  -- the boxes that begin past the plane have no cell about it
+  below-same : (x old n : ℕ) → FirstPast boxes count old x n → (p : ℕ) → p ≤ suc x → (y z : ℕ) → below (boxCells boxes n) p y z ≡ below (boxCells boxes count) p y z
+  below-same x old n f p h y z =
+      below-boxes boxes n p y z
+      ∙ sym (any-to-cut n count (f .within) (λ i l k. ap (λ b. (b && leb p (boxAt boxes i .x-end)) && inRect (rectOf (boxAt boxes i)) y z) (le-ltb (boxAt boxes i .x) p (let c = past-on x old n f i l k in omega arith))))
+      ∙ sym (below-boxes boxes count p y z)
 
-    slab-in-run : InRun E coords (slabOf F E G coords gx)
-    slab-in-run k h = all-in (getD (slabOf F E G coords gx) k 0) (slab-below k h)
+  around-same : (x old n : ℕ) → FirstPast boxes count old x n → (y z : ℕ) → around (boxCells boxes n) x y z ≡ around (boxCells boxes count) x y z
+  around-same x old n f y z = fun-ext λ a. fun-ext λ b. fun-ext λ c. go a (up b y) (up c z)
+    where
+      go : (a : Bool) (y z : ℕ) → below (boxCells boxes n) (up a x) y z ≡ below (boxCells boxes count) (up a x) y z
+      go true y z = below-same x old n f (suc x) (omega arith) y z
+      go false y z = below-same x old n f x (omega arith) y z
 
-    slab-any : (x : ℕ) → gx * (F / G) ≤ x → x ≤ (gx + 1) * (F / G) → (f : Shot → Bool) → ((t : Shot) → T (f t) → T (wanted false x t))
-        → any f (shotsIn E coords (slabOf F E G coords gx)) ≡ any f (shotsOf E coords)
-    slab-any x low high f near = bool-ext (any f (shotsIn E coords (slabOf F E G coords gx))) (any f (shotsOf E coords)) to from
-      where
-        to : T (any f (shotsIn E coords (slabOf F E G coords gx))) → T (any f (shotsOf E coords))
-        to t = let r = run-any E coords (slabOf F E G coords gx) f (length (slabOf F E G coords gx)) t in
-            at-any E f coords (getD (slabOf F E G coords gx) (r .0) 0) (slab-below (r .0) (r .1)) (r .2)
+  plane-same : (x old n : ℕ) → FirstPast boxes count old x n → planeAt field x (boxCells boxes n) ≡ planeAt field x (boxCells boxes count)
+  unfolding planeAt here
+  plane-same x old n f = join-ext (suc field) (λ y. join-ext (suc field) (λ z. ap (λ (p : Pattern). cond (corner p) (record { x = x; y = y; z = z; pattern = byte p } ∷ []) []) (around-same x old n f y z)))
 
-        from : T (any f (shotsOf E coords)) → T (any f (shotsIn E coords (slabOf F E G coords gx)))
-        from t =
-            let r = any-at E f coords t in
-            let s : Shot = shotAt E coords (r .0) in
-            let w = and-elim (leb (s .x) x) (leb x (s .x + E)) (near s (r .2)) in
-            let m : meets (F / G) gx (s .x) E ≡ true = plane-meets (F / G) gx x (s .x) E low high (leb→le (s .x) x (w .0)) (leb→le x (s .x + E) (w .1)) in
-            let p = has-place (slabOf F E G coords gx) (r .0) (subst T (sym (slab-has F E G coords v gx (r .0) (r .1) ∙ m)) tt) in
-            any-run E coords (slabOf F E G coords gx) f (length (slabOf F E G coords gx)) (p .0) (p .1) (subst (λ i. T (f (shotAt E coords i))) (sym (p .2)) (r .2))
+  pub plane-next : (x old n : ℕ) → FirstPast boxes count old x n → (f : Found) {g h : Found} → g ≡ found f (planesTo field x (boxCells boxes count)) → PlaneOut field boxes x n g h
+      → h ≡ found f (planesTo field (x + 1) (boxCells boxes count))
+  plane-next x old n k f {g} {h} e p =
+      p .is ∙ ap₂ found e (plane-same x old n k)
+      ∙ sym (found-append f (planesTo field x (boxCells boxes count)) (planeAt field x (boxCells boxes count)))
+      ∙ ap (found f) (sym (planes-more field x (boxCells boxes count)))
 
-    slab-agree : (from end : ℕ) → InSlab F G gx from end → Agree F from end (shotsIn E coords (slabOf F E G coords gx)) (shotsOf E coords)
-    slab-agree from end s = record {
-      at = λ x a b. plane-same F x (shotsIn E coords (slabOf F E G coords gx)) (shotsOf E coords)
-          (slab-any x (omega (arith, s .lower)) (omega (arith, s .upper)));
-    }
+-- ---- room
+pub room-none : {t : CornerSums} → t ≡ sumsOf [] → Room t (0 * planePoints 1024)
+room-none {t} e = subst (λ (s : CornerSums). Room s 0) (sym e) no-room
 
-    -- a slab without marks has no corner
-    pub slab-skip : (from end : ℕ) → InSlab F G gx from end → {row : List ℕ} {t : Bool} → MarkedAll E coords row → BlankIf t from end row → t ≡ true
-        → (f : Found) → Room (f .sums) (from * planePoints 1024) → Swept F from end (shotsOf E coords) f f
-    slab-skip from end s {row} m b e = swept-skip F from (shotsOf E coords) end (s .order) (λ x l h.
-        sym (slab-agree from end s .at x l h)
-        ∙ plane-bare F x (shotsIn E coords (slabOf F E G coords gx)) (marked-run E coords (slabOf F E G coords gx) row (shotCount coords) slab-below m .at x (b .yes e x l h)))
+pub room-next : (x : ℕ) {f g : Found} {field n : ℕ} {boxes : List ℕ} → Room (f .sums) (x * planePoints 1024) → PlaneOut field boxes x n f g → Room (g .sums) ((x + 1) * planePoints 1024)
+room-next x {f} {g} r p = room-more (g .sums) (f .sums .corners + planePoints 1024) ((x + 1) * planePoints 1024) (omega (arith, r .few)) (p .room)
 
-  -- the next slab lies in the field
-  next-within : (gx : ℕ) → gx < G → (gx + 1) * (F / G) ≤ F
-  next-within gx h = subst (λ n. (gx + 1) * (F / G) ≤ n) (width-times v) (mul-le-mul (omega arith) (le-refl (F / G)))
+-- ---- images
+pub both-next : (boxes : List ℕ) (x n : ℕ) {field : ℕ} {l u names : List ℕ} → Both field (shade boxes x n) l u names → Both field (touching boxes (x + 1) n) l u names
+both-next boxes x n b = record { lent = b .lent; lower = shows-ext same (b .lower); upper = shows-ext same (b .upper) }
+  where
+    same : (y z : ℕ) → shade boxes x n y z ≡ touching boxes (x + 1) n y z
+    same y z = shade-touching boxes x n y z
 
-next-is : (gx w : ℕ) → (gx + 1) * w ≡ gx * w + w
-next-is gx w = rw (add-one gx) (suc-mul gx w)
+columns-small : (field : ℕ) → field < 126 → columns field * 1026 ≤ 2052
+columns-small field h = omega arith
 
--- the run of a slab
-module _ (F E G : ℕ) (coords : List ℕ) (v : Valid F E G coords) where
-  pub slab-run : (gx from end : ℕ) → InSlab F G gx from end → {row : List ℕ} → MarkedAll E coords row
-      → {w w' : List ℕ} {n : ℕ} → Wrote w w' 0 n (slabOf F E G coords gx) → SlabRun F E coords from end row (take n w')
-  slab-run gx from end s {row} m r = rw (front-part r) (record {
-    in-run = slab-in-run F E G coords v gx;
-    few = slab-few F E G coords v gx;
-    marked = marked-run E coords (slabOf F E G coords gx) row (shotCount coords) (slab-below F E G coords v gx) m;
-    agree = slab-agree F E G coords v gx from end s;
+columns-most : (field : ℕ) → field ≤ 1024 → columns field * 1026 ≤ 17442
+columns-most field h = omega arith
+
+-- blank images, before the first plane
+both-blank : (field m : ℕ) (boxes : List ℕ) → field ≤ 1024 → columns field * 1026 ≤ m → Both field (touching boxes 0 0) (replicate m 0) (replicate m 0) (replicate 1040 0)
+both-blank field m boxes h k = record {
+  lent = record {
+    small = h;
+    lower = subst (λ j. columns field * 1026 ≤ j) (sym (length-replicate {A = ℕ} m 0)) k;
+    upper = subst (λ j. columns field * 1026 ≤ j) (sym (length-replicate {A = ℕ} m 0)) k;
+    tells = tells-zeros field (replicate m 0);
+  };
+  lower = shows-ext (none-yet boxes) (shows-zeros field m k);
+  upper = shows-ext (none-yet boxes) (shows-zeros field m k);
+}
+
+pub small-blank : (field : ℕ) (boxes : List ℕ) → field < 126 → Both field (touching boxes 0 0) (replicate 2052 0) (replicate 2052 0) (replicate 1040 0)
+small-blank field boxes h = both-blank field 2052 boxes (omega arith) (columns-small field h)
+
+pub large-blank : (field : ℕ) (boxes : List ℕ) → field ≤ 1024 → Both field (touching boxes 0 0) (replicate 17442 0) (replicate 17442 0) (replicate 1040 0)
+large-blank field boxes h = both-blank field 17442 boxes h (columns-most field h)
+
+-- ---- the first plane, and all planes
+pub before-none : (boxes : List ℕ) (count : ℕ) → Before boxes count 0 0 0
+before-none boxes count = record { from-old = omega arith; old-count = omega arith; passed = λ i l. absurd (omega arith); begun = λ i l. absurd (omega arith); later = λ i l h. omega arith }
+
+pub planes-none : (n : ℕ) (s : Cells) (f : Found) → f ≡ found f (planesTo n 0 s)
+unfolding planesTo join found
+planes-none n s f = refl
+
+planes-all : (n : ℕ) (s : Cells) → planesTo n (n + 1) s ≡ corners n s
+unfolding planesTo planeAt corners
+planes-all n s = ap (λ k. planesTo n k s) (add-one n)
+
+pub all-found : (n k : ℕ) (s : Cells) → k ≡ n + 1 → (b : List ℕ) {t₀ r : CornerSums} {b' : List ℕ} → t₀ ≡ sumsOf [] → state r b' ≡ found (state t₀ b) (planesTo n k s) → AllFound n s b r b'
+all-found n k s e b {t₀} h q = q ∙ ap (λ j. found (state t₀ b) (planesTo n j s)) e ∙ ap (found (state t₀ b)) (planes-all n s) ∙ ap (λ (t : CornerSums). found (state t b) (corners n s)) h
+
+-- ---- the boxes of a list's shots
+pub same-found : (n : ℕ) (s s' : Cells) → ((i j k : ℕ) → s i j k ≡ s' i j k) → (b : List ℕ) {r : CornerSums} {b' : List ℕ} → AllFound n s b r b' → AllFound n s' b r b'
+same-found n s s' h b e = e ∙ ap (λ (c : Cells). found (state (sumsOf []) b) (corners n c)) (fun-ext λ i. fun-ext λ j. fun-ext λ k. h i j k)
+
+-- ---- loops over boxes
+module _ (boxes : List ℕ) (x : ℕ) where
+  pub past-more : (old i : ℕ) → ((j : ℕ) → old ≤ j → j < i → boxAt boxes j .x ≤ x) → boxAt boxes i .x ≤ x → (j : ℕ) → old ≤ j → j < i + 1 → boxAt boxes j .x ≤ x
+  past-more old i f h j l k = go (eqb j i) refl
+    where
+      go : (b : Bool) → eqb j i ≡ b → boxAt boxes j .x ≤ x
+      go true e = subst (λ m. boxAt boxes m .x ≤ x) (sym (eqb-true j i e)) h
+      go false e = f j l (let m : (j ≡ i → ⊥) = eqb-false j i e in omega arith)
+
+  pub ended-on : (from i : ℕ) → ((j : ℕ) → from ≤ j → j < i → boxAt boxes j .x-end < x) → boxAt boxes i .x-end < x → (j : ℕ) → from ≤ j → j < i + 1 → boxAt boxes j .x-end < x
+  ended-on from i f h j l k = go (eqb j i) refl
+    where
+      go : (b : Bool) → eqb j i ≡ b → boxAt boxes j .x-end < x
+      go true e = subst (λ m. boxAt boxes m .x-end < x) (sym (eqb-true j i e)) h
+      go false e = f j l (let m : (j ≡ i → ⊥) = eqb-false j i e in omega arith)
+
+-- the slots of a valid list are boxes of its field
+pub slots-given : {F E G : ℕ} {coords boxes : List ℕ} {n : ℕ} → Valid F E G coords → Slots F E coords boxes n → Given F boxes n
+slots-given v s = record { field-least = v .field-least; field-most = v .field-most; few = s .few; there = omega (arith, s .few, s .size); boxes-in = s .boxes-in }
+
+-- ---- the ends counted
+pub ends-none : (boxes : List ℕ) → EndsRow boxes 0 (replicate 1026 0)
+ends-none boxes = record {
+  size = length-replicate {A = ℕ} 1026 0;
+  few = λ p. subst (λ k. k ≤ 0) (sym (zeros-at 1026 p)) (omega arith);
+  no-end = λ p e i l. absurd (omega arith);
+}
+
+module _ (field : ℕ) (boxes : List ℕ) (count : ℕ) (g : Given field boxes count) where
+  pub ends-asked : (i : ℕ) (row : List ℕ) → i < count → EndsRow boxes i row → (boxAt boxes i .x-end < length row) × (getD row (boxAt boxes i .x-end) 0 ≤ 4096)
+  ends-asked i row l r = (omega (arith, r .size, g .boxes-in .inside i l .x-in, g .field-most), omega (arith, r .few (boxAt boxes i .x-end), g .few))
+
+  pub ends-more : (i : ℕ) (row row' : List ℕ) → i < count → EndsRow boxes i row → row' ≡ set row (boxAt boxes i .x-end) (getD row (boxAt boxes i .x-end) 0 + 1) → EndsRow boxes (i + 1) row'
+  ends-more i row row' l r e = rw e (record {
+    size = length-set row p v ∙ r .size;
+    few = λ q. few q (eqb q p) refl;
+    no-end = λ q z j k. no-end q z j k (eqb q p) refl (eqb j i) refl;
   })
+    where
+      p : ℕ
+      p = boxAt boxes i .x-end
 
-  module _ (gx low : ℕ) (h : gx < G) (l : low ≡ gx * (F / G)) where
-    pub high-in : low + F / G ≤ F
-    high-in = omega (arith, l, next-is gx (F / G), next-within F E G coords v gx h)
+      v : ℕ
+      v = getD row p 0 + 1
 
-    pub next-low : low + F / G ≡ (gx + 1) * (F / G)
-    next-low = omega (arith, l, next-is gx (F / G))
+      at : getD (set row p v) p 0 ≡ v
+      at = getD-set-same row p v 0 (ends-asked i row l r .0)
 
-    pub in-slab : (from : ℕ) → low ≤ from → from ≤ low + 1 → InSlab F G gx from (low + F / G + 1)
-    in-slab from a b = record {
-      slab-in = h;
-      lower = omega (arith, l);
-      upper = omega (arith, next-low);
-      order = omega arith;
-      top = omega (arith, high-in);
-    }
+      few : (q : ℕ) (b : Bool) → eqb q p ≡ b → getD (set row p v) q 0 ≤ i + 1
+      few q true m = subst (λ k. getD (set row p v) k 0 ≤ i + 1) (sym (eqb-true q p m)) (omega (arith, at, r .few p))
+      few q false m = omega (arith, getD-set-other row p q v 0 (eqb-false q p m), r .few q)
 
--- after the last slab all planes are done
-pub slabs-done : (F E G : ℕ) (coords : List ℕ) → Valid F E G coords → (gx low from : ℕ) → gx ≡ G → low ≡ gx * (F / G) → (0 < gx → from ≡ low + 1) → {t₀ : CornerSums} (b : List ℕ) {g : Found}
-    → t₀ ≡ sumsOf [] → g ≡ found (state t₀ b) (planesTo F from (shotsOf E coords)) → g ≡ found (state (sumsOf []) b) (corners F (cells (shotsOf E coords)))
-slabs-done F E G coords v gx low from a l d {t₀} b k e =
-    let w : G * (F / G) ≡ F = width-times v in
-    let m : low ≡ F = l ∙ ap (λ g. g * (F / G)) a ∙ w in
-    let n : from ≡ F + 1 = d (omega (arith, a, v .grid-least)) ∙ ap (λ x. x + 1) m in
-    e ∙ ap (λ x. found (state t₀ b) (planesTo F x (shotsOf E coords))) n
-    ∙ ap (found (state t₀ b)) (planes-all F (shotsOf E coords) (v .field-most) (valid-within v))
-    ∙ ap (λ (t : CornerSums). found (state t b) (corners F (cells (shotsOf E coords)))) k
+      no-end : (q : ℕ) → getD (set row p v) q 0 ≡ 0 → (j : ℕ) → j < i + 1 → (b : Bool) → eqb q p ≡ b → (c : Bool) → eqb j i ≡ c → boxAt boxes j .x-end ≢ q
+      no-end q z j k true m c n = absurd (let h : getD (set row p v) p 0 ≡ 0 = subst (λ t. getD (set row p v) t 0 ≡ 0) (eqb-true q p m) z in omega (arith, h, at))
+      no-end q z j k false m true n = λ s. eqb-false q p m (sym (subst (λ t. boxAt boxes t .x-end ≡ q) (eqb-true j i n) s))
+      no-end q z j k false m false n = r .no-end q (sym (getD-set-other row p q v 0 (eqb-false q p m)) ∙ z) j (let h : (j ≡ i → ⊥) = eqb-false j i n in omega arith)
+
+  pub ends-on : (x old : ℕ) (row : List ℕ) {e : ℕ} → e ≡ getD row x 0 → old ≤ count → EndsRow boxes count row → EndsOn boxes x old e
+  ends-on x old row m h r = rw m (record { few = omega (arith, r .few x, g .few); no-end = λ z i l. r .no-end x z i (omega arith) })

@@ -1,66 +1,57 @@
--- What the parts of the sweep promise each other.
+-- The corners of boxes, plane after plane; the boxes rise by where they begin on x.
 use mathlib.Core.Path.{_≡_}
 use mathlib.Core.Logic.{_≢_}
-use mathlib.Core.Bool.{Bool, true}
 use mathlib.Core.List.{List, []}
-use Prim.Native.Nat.{ℕ, _+_, _*_, _/_, _<_, _≤_}
+use Prim.Native.Nat.{ℕ, _*_, _≤_, _<_}
 use lib.ListN.{length, getD}
-use Rattle.lattice.specs.Cells.{planePoints}
-use Rattle.lattice.specs.Axes.{x-axis}
+use Rattle.lattice.specs.Cells.{Cells}
 use Rattle.lattice.specs.Sums.{join}
-use Rattle.lattice.specs.Shots.{Shot, cells}
 use Rattle.lattice.specs.Listing.{Corner, corners}
-use Rattle.lattice_sums.specs.CornerSums.{Room, sumsOf}
+use Rattle.lattice.specs.Boxes.{boxAt, BoxesIn}
+use Rattle.lattice_sums.specs.CornerSums.{sumsOf}
 use Rattle.lattice_sums.specs.declared.sums.CornerSums.{CornerSums}
-use Rattle.job.specs.Job.{shotCount, shotsOf, shotAt}
-use Rattle.sweep_rows.specs.Runs.{InList, InRun, shotsIn}
-use Rattle.sweep_marks.specs.Marks.{Marked}
-use Rattle.sweep_tally.specs.Found.{Found, state, found}
-use Rattle.sweep_plane.specs.Plane.{planeOf}
+use Rattle.sweep_tally.specs.Found.{state, found}
+use Rattle.sweep_points.specs.Points.{planeAt}
 
--- every shot of the list stays in the largest field
-abbrev pub AllIn : ℕ → List ℕ → Type 0
-AllIn e c = (i : ℕ) → i < shotCount c → InList e c i
+-- a field, and the boxes of a list in it
+pub record Given (field : ℕ) (boxes : List ℕ) (count : ℕ) : Type 0 where
+  pub field-least : 1 ≤ field
+  pub field-most : field ≤ 1024
+  pub few : count ≤ 4096
+  pub there : 6 * count ≤ length boxes
+  pub boxes-in : BoxesIn field boxes count
 
--- a place that is not marked lies on no face across x of the first n shots
-pub record MarkedList (e : ℕ) (c : List ℕ) (n : ℕ) (row : List ℕ) : Type 0 where
-  pub at : (p : ℕ) → getD row p 0 ≡ 0 → (i : ℕ) → i < n → (shotAt e c i .x ≢ p) × (shotAt e c i .x + shotAt e c i .edge ≢ p)
+-- before the plane x: the boxes before `from` end before it, those before `old` begin before it, the others on it or past it
+pub record Before (boxes : List ℕ) (count x from old : ℕ) : Type 0 where
+  pub from-old : from ≤ old
+  pub old-count : old ≤ count
+  pub passed : (i : ℕ) → i < from → boxAt boxes i .x-end < x
+  pub begun : (i : ℕ) → i < old → boxAt boxes i .x < x
+  pub later : (i : ℕ) → old ≤ i → i < count → x ≤ boxAt boxes i .x
 
--- the same of all shots of the list
-abbrev pub MarkedAll : ℕ → List ℕ → List ℕ → Type 0
-MarkedAll e c row = MarkedList e c (shotCount c) row
+-- r is the first box from `old` on that begins past the plane x, or their number
+pub record FirstPast (boxes : List ℕ) (count old x r : ℕ) : Type 0 where
+  pub onward : old ≤ r
+  pub within : r ≤ count
+  pub not-past : (i : ℕ) → old ≤ i → i < r → boxAt boxes i .x ≤ x
+  pub past : r < count → x < boxAt boxes r .x
 
-pub record BlankIf (b : Bool) (from end : ℕ) (row : List ℕ) : Type 0 where
-  pub yes : b ≡ true → (x : ℕ) → from ≤ x → x < end → getD row x 0 ≡ 0
+-- no box from `from` on and before r reaches the plane x
+pub record Passed (boxes : List ℕ) (from old x r : ℕ) : Type 0 where
+  pub onward : from ≤ r
+  pub within : r ≤ old
+  pub ended : (i : ℕ) → from ≤ i → i < r → boxAt boxes i .x-end < x
 
--- two lists of shots have the same corners on the planes from `from` up to `end`
-pub record Agree (n from end : ℕ) (rs ts : List Shot) : Type 0 where
-  pub at : (x : ℕ) → from ≤ x → x < end → planeOf n x rs ≡ planeOf n x ts
-
--- a run that gives the planes from `from` up to `end` the list's corners, with the marks of its faces across x
-pub record SlabRun (n e : ℕ) (c : List ℕ) (from end : ℕ) (row run : List ℕ) : Type 0 where
-  pub in-run : InRun e c run
-  pub few : length run ≤ 4096
-  pub marked : Marked x-axis (shotsIn e c run) row
-  pub agree : Agree n from end (shotsIn e c run) (shotsOf e c)
+-- entry p of a row counts the first n boxes that end at p: it is 0 only where none does
+pub record EndsRow (boxes : List ℕ) (n : ℕ) (row : List ℕ) : Type 0 where
+  pub size : length row ≡ 1026
+  pub few : (p : ℕ) → getD row p 0 ≤ n
+  pub no-end : (p : ℕ) → getD row p 0 ≡ 0 → (i : ℕ) → i < n → boxAt boxes i .x-end ≢ p
 
 -- the corners of the planes below k of a field of side n
-unfoldable pub planesTo : ℕ → ℕ → List Shot → List Corner
-planesTo n k ts = join k λ x. planeOf n x ts
+unfoldable pub planesTo : ℕ → ℕ → Cells → List Corner
+planesTo n k s = join k λ x. planeAt n x s
 
--- g is f with the corners of the planes from `from` up to `end`
-pub record Swept (n from end : ℕ) (ts : List Shot) (f g : Found) : Type 0 where
-  pub on : (h : Found) → f ≡ found h (planesTo n from ts) → g ≡ found h (planesTo n end ts)
-  pub room : Room (g .sums) (end * planePoints 1024)
-
--- the sums r of all corners of the list, and the buffer with their records as far as it has room
-abbrev pub AllFound : ℕ → ℕ → List ℕ → List ℕ → CornerSums → List ℕ → Type 0
-AllFound n e c before r after = state r after ≡ found (state (sumsOf []) before) (corners n (cells (shotsOf e c)))
-
--- slab gx, with both its sides, has the planes from `from` up to `end`
-pub record InSlab (F G gx from end : ℕ) : Type 0 where
-  pub slab-in : gx < G
-  pub lower : gx * (F / G) ≤ from
-  pub upper : end ≤ (gx + 1) * (F / G) + 1
-  pub order : from ≤ end
-  pub top : end ≤ F + 1
+-- the sums r of all corners of a solid, and the buffer with their records as far as it has room
+abbrev pub AllFound : ℕ → Cells → List ℕ → CornerSums → List ℕ → Type 0
+AllFound n s before r after = state r after ≡ found (state (sumsOf []) before) (corners n s)

@@ -1,183 +1,197 @@
 // The plane sweep: the corners of the solid that a list covers, in rising order of x, y and z, with their sums, and their records as far
-// as a lent buffer has room. The planes of a slab of the grid take their shots from the index; planes on no face, and slabs without any
-// face, are passed over, so the cost does not depend on the field's volume. Stands on `sweep_plane`, `grid` and `grid_runs`.
+// as a lent buffer has room. The shots come from the grid index, as boxes that rise by where they begin on x; the planes across x are gone
+// through with the boxes about each, and a plane on which none begins or ends is passed over. Stands on `sweep_slots` and `sweep_plane`.
 ghost use mathlib.Core.Path.{_≡_};
-ghost use Prim.Native.Nat.{_*_, _≤_};
-ghost use lib.ListN.{length};
-ghost use Rattle.lattice.specs.Cells.{planePoints};
-ghost use Rattle.lattice.specs.Axes.{x-axis};
+ghost use mathlib.Core.List.{[]};
+ghost use Prim.Native.Nat.{_+_, _*_, _<_, _≤_};
+ghost use lib.ListN.{length, getD, set};
+ghost use Rattle.lattice.specs.Boxes.{boxCells};
 ghost use Rattle.lattice.specs.Shots.{cells};
 ghost use Rattle.lattice.specs.Listing.{corners};
-ghost use Rattle.lattice_sums.specs.CornerSums.{Room, sumsOf};
+ghost use Rattle.lattice_sums.specs.CornerSums.{sumsOf};
+ghost use Rattle.lattice_sums.specs.Packed.{Packed};
 ghost use Rattle.job.specs.Job.{Valid, shotsOf};
 ghost use Rattle.grid.specs.Grid.{Holds};
-ghost use Rattle.sweep_rows.specs.Runs.{shotsIn};
-ghost use Rattle.sweep_marks.specs.Marks.{Marked};
+ghost use Rattle.sweep_layer.specs.Layers.{touching};
 ghost use Rattle.sweep_tally.specs.Found.{state, found};
-ghost use Rattle.sweep_plane.specs.Plane.{PlaneIn, PlaneFound};
-ghost use Rattle.sweep.specs.Sweep.{AllIn, MarkedAll, BlankIf, SlabRun, Swept, AllFound, InSlab};
-ghost use mathlib.Core.List.{[]};
+ghost use Rattle.sweep_plane.specs.Plane.{Both};
+ghost use Rattle.sweep.specs.Sweep.{Given, FirstPast, Passed, EndsRow, AllFound};
+use lattice_sums::packed::pack;
 use lattice_sums::sums::CornerSums;
 
-// Marks the faces across x of the shots of a list.
-fn mark_list(c: &[u16], edge: u16, row: &mut [u8])
-    requires { ⌜ AllIn edge (now c) × (length (now row) ≡ 1026) ⌝ }
-    ensures { λ _. ⌜ MarkedAll edge (now (c .entry)) (now (row .exit)) ⌝ }
+// A number in the width of an index.
+fn wide(number: u16) -> usize
+    ensures { λ r. ⌜ r ≡ number ⌝ }
 {
-    let n = job::shot::count(c);
-    let mut i = 0;
-    while i < n {
-        sweep_marks::mark(row, job::shot::x_of(c, i), job::shot::edge_of(edge, c, i));
+    number as usize
+}
+
+// The first box from `old` on that begins past the plane x, or the number of boxes.
+fn first_past(boxes: &[u16], count: usize, old: usize, x: u16) -> usize
+    requires { ⌜ (6 * count ≤ length (now boxes)) × (old ≤ count) × (count ≤ 4096) ⌝ }
+    ensures { λ r. ⌜ FirstPast (now (boxes .entry)) count old x r ⌝ }
+{
+    let mut i = old;
+    loop {
+        if i == count {
+            break i;
+        }
+        if x < boxes[6 * i] {
+            break i;
+        }
         i += 1;
     }
 }
 
-// Whether no place from `from` up to `end` is marked.
-fn is_blank(row: &[u8], from: usize, end: usize) -> bool
-    requires { ⌜ (from ≤ end) × (end ≤ length (now row)) ⌝ }
-    ensures { λ r. ⌜ BlankIf r from end (now (row .entry)) ⌝ }
+// Passes over the boxes from `from` on that end before the plane x, up to the first that does not, or to `old`.
+fn pass(boxes: &[u16], from: usize, old: usize, x: u16) -> usize
+    requires { ⌜ (6 * old ≤ length (now boxes)) × (from ≤ old) × (old ≤ 4096) ⌝ }
+    ensures { λ r. ⌜ Passed (now (boxes .entry)) from old x r ⌝ }
 {
-    let mut x = from;
-    while x < end {
-        if row[x] != 0 {
-            return false;
+    let mut i = from;
+    loop {
+        if i == old {
+            break i;
         }
-        x += 1;
+        if x <= boxes[6 * i + 1] {
+            break i;
+        }
+        i += 1;
     }
-    true
 }
 
-// The corners of the plane x, unless it is not marked and so has none.
-fn plane_if(
-    c: &[u16],
-    edge: u16,
-    field: u16,
-    x: u16,
-    row: &[u8],
-    run: &[u16],
-    near: &mut [u16],
-    faces: &mut [u16],
-    links: &mut [u16],
-    t: CornerSums,
-    buf: &mut [u8],
-) -> CornerSums
-    requires { ⌜ PlaneIn (now c) edge field x (now run) t ⌝ }
-    requires { ⌜ (length (now near) ≡ 4096) × (length (now faces) ≡ 4096) × (length (now links) ≡ 4096) ⌝ }
-    requires { ⌜ Marked x-axis (shotsIn edge (now c) (now run)) (now row) × (length (now row) ≡ 1026) ⌝ }
-    ensures { λ r. ⌜ PlaneFound field x edge (now (c .entry)) (now (run .entry)) t (now (buf .entry)) r (now (buf .exit)) ⌝ }
+// One more at a place of a row.
+fn count_one(row: &mut [u16], place: u16)
+    requires { ⌜ (place < length (now row)) × (getD (now row) place 0 ≤ 4096) ⌝ }
+    ensures { λ _. ⌜ now (row .exit) ≡ set (now (row .entry)) place (getD (now (row .entry)) place 0 + 1) ⌝ }
 {
-    if row[x as usize] == 0 {
-        return t;
-    }
-    sweep_plane::across(c, edge, field, x, run, near, faces, links, t, buf)
+    let at = place as usize;
+    row[at] = row[at] + 1;
 }
 
-// The planes from `from` up to `end`, from a run of shots that gives these planes the list's corners.
+// Counts the boxes by the plane on which they end.
+fn count_ends(field: u16, boxes: &[u16], count: usize, row: &mut [u16])
+    requires { ⌜ Given field (now boxes) count × EndsRow (now boxes) 0 (now row) ⌝ }
+    ensures { λ _. ⌜ EndsRow (now (boxes .entry)) count (now (row .exit)) ⌝ }
+{
+    for i in 0..count {
+        count_one(row, boxes[6 * i + 1]);
+    }
+}
+
+// All planes, one after the other, from blank images.
 fn planes(
-    c: &[u16],
-    edge: u16,
     field: u16,
-    from: u16,
-    end: u16,
-    row: &[u8],
-    run: &[u16],
-    t: CornerSums,
+    boxes: &[u16],
+    count: usize,
+    ends: &[u16],
+    l: &mut [u64],
+    u: &mut [u64],
+    names: &mut [u64],
+    weights: &[i8],
     buf: &mut [u8],
 ) -> CornerSums
-    requires { ⌜ SlabRun field edge (now c) from end (now row) (now run) × (length (now row) ≡ 1026) ⌝ }
-    requires { ⌜ (from ≤ end) × (end ≤ 1025) × (field ≤ 1024) × Room t (from * planePoints 1024) ⌝ }
-    ensures { λ r. ⌜ Swept field from end (shotsOf edge (now (c .entry))) (state t (now (buf .entry))) (state r (now (buf .exit))) ⌝ }
+    requires { ⌜ Given field (now boxes) count × EndsRow (now boxes) count (now ends) × Packed (now weights) ⌝ }
+    requires { ⌜ Both field (touching (now boxes) 0 0) (now l) (now u) (now names) ⌝ }
+    ensures { λ r. ⌜ AllFound field (boxCells (now (boxes .entry)) count) (now (buf .entry)) r (now (buf .exit)) ⌝ }
 {
-    let mut near = [0u16; 4096];
-    let mut faces = [0u16; 4096];
-    let mut links = [0u16; 4096];
-    let mut s = t;
-    let mut x = from;
-    while x < end {
-        s = plane_if(
-            c,
-            edge,
-            field,
-            x,
-            row,
-            run,
-            &mut near,
-            &mut faces,
-            &mut links,
-            s,
-            buf,
-        );
-        x += 1;
-    }
-    s
-}
-
-// The planes from `from` up to `end`, all of slab gx, from the index's runs of that slab; nothing is read where no plane is marked.
-fn slab(
-    field: u16,
-    edge: u16,
-    grid: u16,
-    coords: &[u16],
-    work: &[u32],
-    gx: u16,
-    from: u16,
-    end: u16,
-    row: &[u8],
-    t: CornerSums,
-    buf: &mut [u8],
-) -> CornerSums
-    requires { ⌜ Valid field edge grid (now coords) × Holds field edge grid (now coords) (now work) ⌝ }
-    requires { ⌜ MarkedAll edge (now coords) (now row) × (length (now row) ≡ 1026) ⌝ }
-    requires { ⌜ InSlab field grid gx from end × Room t (from * planePoints 1024) ⌝ }
-    ensures { λ r. ⌜ Swept field from end (shotsOf edge (now (coords .entry))) (state t (now (buf .entry))) (state r (now (buf .exit))) ⌝ }
-{
-    if is_blank(row, from as usize, end as usize) {
-        return t;
-    }
-    let mut run = [0u16; 4096];
-    let n = grid_runs::slab(field, edge, grid, coords, work, gx, &mut run);
-    planes(coords, edge, field, from, end, row, &run[..n], t, buf)
-}
-
-// The slabs one after the other: each has the planes up to its upper side.
-fn slabs(
-    field: u16,
-    edge: u16,
-    grid: u16,
-    coords: &[u16],
-    work: &[u32],
-    row: &[u8],
-    buf: &mut [u8],
-) -> CornerSums
-    requires { ⌜ Valid field edge grid (now coords) × Holds field edge grid (now coords) (now work) ⌝ }
-    requires { ⌜ MarkedAll edge (now coords) (now row) × (length (now row) ≡ 1026) ⌝ }
-    ensures { λ r. ⌜ AllFound field edge (now (coords .entry)) (now (buf .entry)) r (now (buf .exit)) ⌝ }
-{
-    let width = field / grid;
     let mut t = CornerSums::new();
-    let mut from: u16 = 0;
-    let mut low: u16 = 0;
-    let mut gx: u16 = 0;
-    while gx < grid {
-        let high = low + width;
-        t = slab(
+    let mut from = 0;
+    let mut old = 0;
+    let mut x: u16 = 0;
+    while x <= field {
+        let n = first_past(boxes, count, old, x);
+        from = pass(boxes, from, old, x);
+        t = sweep_plane::plane(
             field,
-            edge,
-            grid,
-            coords,
-            work,
-            gx,
+            boxes,
+            x,
             from,
-            high + 1,
-            row,
+            old,
+            n,
+            wide(ends[x as usize]),
+            l,
+            u,
+            names,
+            weights,
             t,
             buf,
         );
-        from = high + 1;
-        low = high;
-        gx += 1;
+        old = n;
+        x += 1;
     }
     t
+}
+
+// The planes of a small field, whose images have two columns.
+fn sweep_small(
+    field: u16,
+    boxes: &[u16],
+    count: usize,
+    ends: &[u16],
+    weights: &[i8],
+    buf: &mut [u8],
+) -> CornerSums
+    requires { ⌜ Given field (now boxes) count × EndsRow (now boxes) count (now ends) × (field ≤ 125) × Packed (now weights) ⌝ }
+    ensures { λ r. ⌜ AllFound field (boxCells (now (boxes .entry)) count) (now (buf .entry)) r (now (buf .exit)) ⌝ }
+{
+    let mut l = [0u64; 2052];
+    let mut u = [0u64; 2052];
+    let mut names = [0u64; 1040];
+    planes(
+        field,
+        boxes,
+        count,
+        ends,
+        &mut l,
+        &mut u,
+        &mut names,
+        weights,
+        buf,
+    )
+}
+
+// The planes of any field.
+fn sweep_large(
+    field: u16,
+    boxes: &[u16],
+    count: usize,
+    ends: &[u16],
+    weights: &[i8],
+    buf: &mut [u8],
+) -> CornerSums
+    requires { ⌜ Given field (now boxes) count × EndsRow (now boxes) count (now ends) × Packed (now weights) ⌝ }
+    ensures { λ r. ⌜ AllFound field (boxCells (now (boxes .entry)) count) (now (buf .entry)) r (now (buf .exit)) ⌝ }
+{
+    let mut l = [0u64; 17442];
+    let mut u = [0u64; 17442];
+    let mut names = [0u64; 1040];
+    planes(
+        field,
+        boxes,
+        count,
+        ends,
+        &mut l,
+        &mut u,
+        &mut names,
+        weights,
+        buf,
+    )
+}
+
+// The sums of all corners of given boxes, which rise by where they begin on x, and their records as far as the buffer has room.
+pub fn sweep_boxes(field: u16, boxes: &[u16], count: usize, buf: &mut [u8]) -> CornerSums
+    requires { ⌜ Given field (now boxes) count ⌝ }
+    ensures { λ r. ⌜ AllFound field (boxCells (now (boxes .entry)) count) (now (buf .entry)) r (now (buf .exit)) ⌝ }
+{
+    let mut weights = [0i8; 4096];
+    pack(&mut weights);
+    let mut ends = [0u16; 1026];
+    count_ends(field, boxes, count, &mut ends);
+    if field < 126 {
+        return sweep_small(field, boxes, count, &ends, &weights, buf);
+    }
+    sweep_large(field, boxes, count, &ends, &weights, buf)
 }
 
 // The sums of all corners of a list's solid, and their records as far as the buffer has room; `work` holds the list's index.
@@ -194,7 +208,7 @@ pub fn sweep(
         state r (now (buf .exit))
         ≡ found (state (sumsOf []) (now (buf .entry))) (corners field (cells (shotsOf edge (now (coords .entry))))) ⌝ }
 {
-    let mut row = [0u8; 1026];
-    mark_list(coords, edge, &mut row);
-    slabs(field, edge, grid, coords, work, &row, buf)
+    let mut boxes = [0u16; 24576];
+    let n = sweep_slots::fill(field, edge, grid, coords, work, &mut boxes);
+    sweep_boxes(field, &boxes, n, buf)
 }

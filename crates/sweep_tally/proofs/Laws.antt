@@ -1,18 +1,16 @@
 -- One corner more: in the buffer, in the sums, and in what is found.
 use mathlib.Core.Path.{_≡_, refl, _∙_}
-use mathlib.Core.Bool.{Bool, true, false, cond}
 use mathlib.Core.List.{List, [], _∷_, _++_, append-assoc}
 use Prim.Native.Nat.{ℕ, suc, _+_, _*_, _/_, _%_, _≤_, _<_}
 use native.Mathlib.Omega.{arith}
 use lib.ListN.{length, take, drop, set}
 use lib.Seq.{sets-eq}
 use borrow.Author.Tests.{lt-ltb, le-ltb}
-use Rattle.lattice.specs.Pattern.{ofByte, corner}
 use Rattle.lattice.specs.Listing.{Corner, cornerRecord}
 use Rattle.lattice_sums.specs.CornerSums.{added, Room}
 use Rattle.lattice_sums.specs.declared.sums.CornerSums.{CornerSums}
-use Rattle.lattice_sums.proofs.CornerSumLaws.{added-room, room-more}
-use Rattle.sweep_tally.specs.Found.{at, spot, withRecord, stored, Found, state, meet, found}
+use Rattle.lattice_sums.proofs.CornerSumLaws.{added-room}
+use Rattle.sweep_tally.specs.Found.{at, withRecord, stored, Found, state, meet, found}
 
 -- ---- the buffer
 -- seven stores one after the other
@@ -43,28 +41,23 @@ pub stored-one : (b : List ℕ) (n : ℕ) (r : List ℕ) {b' : List ℕ} → n <
 unfolding stored
 stored-one b n r h e = rw (lt-ltb n (length b / 7) h) e
 
--- ---- a point
-module _ (t : CornerSums) (b : List ℕ) (x y z p : ℕ) where
-  pub point-none : corner (ofByte p) ≡ false → state t b ≡ found (state t b) (spot x y z p)
-  unfolding spot found
-  point-none e = rw e
+-- ---- one corner
+pub met : (t : CornerSums) (b : List ℕ) (v : Corner) {t' : CornerSums} {b' : List ℕ} → t' ≡ added t v → b' ≡ stored b (t .corners) (cornerRecord v)
+    → state t' b' ≡ meet (state t b) v
+unfolding meet
+met t b v h k = rw (h, k)
 
-  pub point-corner : corner (ofByte p) ≡ true → {t' : CornerSums} {b' : List ℕ} → t' ≡ added t (at x y z p) → b' ≡ stored b (t .corners) (cornerRecord (at x y z p))
-      → state t' b' ≡ found (state t b) (spot x y z p)
-  unfolding spot found meet
-  point-corner e h h' = rw (e, h, h')
-
--- a point takes room for one corner
-pub room-spot : (f : Found) (x y z p n : ℕ) → x ≤ 1024 → y ≤ 1024 → z ≤ 1024 → Room (f .sums) n → Room (found f (spot x y z p) .sums) (n + 1)
-unfolding spot found meet
-room-spot f x y z p n hx hy hz r = go (corner (ofByte p))
-  where
-    go : (b : Bool) → Room (found f (cond b (at x y z p ∷ []) []) .sums) (n + 1)
-    go true = added-room (f .sums) (at x y z p) hx hy hz n r
-    go false = room-more (f .sums) n (n + 1) (omega arith) r
+-- it takes room for one corner
+pub room-meet : (f : Found) (v : Corner) (n : ℕ) → v .x ≤ 1024 → v .y ≤ 1024 → v .z ≤ 1024 → Room (f .sums) n → Room (meet f v .sums) (n + 1)
+unfolding meet
+room-meet f v n hx hy hz r = added-room (f .sums) v hx hy hz n r
 
 -- ---- corner after corner
 pub found-append : (f : Found) (a b : List Corner) → found f (a ++ b) ≡ found (found f a) b
 unfolding found
 found-append f [] b = refl
 found-append f (v ∷ a) b = found-append (meet f v) a b
+
+pub found-one : (f : Found) (v : Corner) → found f (v ∷ []) ≡ meet f v
+unfolding found
+found-one f v = refl

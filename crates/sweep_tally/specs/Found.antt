@@ -4,17 +4,12 @@ use mathlib.Core.List.{List, [], _∷_, _++_}
 use Prim.Native.Nat.{ℕ, _+_, _*_, _/_}
 use lib.Dec.{ltb}
 use lib.ListN.{length, take, drop}
-use Rattle.lattice.specs.Pattern.{ofByte, corner}
 use Rattle.lattice.specs.Listing.{Corner, cornerRecord}
 use Rattle.lattice_sums.specs.CornerSums.{added}
 use Rattle.lattice_sums.specs.declared.sums.CornerSums.{CornerSums}
 
 abbrev pub at : ℕ → ℕ → ℕ → ℕ → Corner
 at x y z p = record { x = x; y = y; z = z; pattern = p }
-
--- the point of pattern p, if it is a corner
-unfoldable pub spot : ℕ → ℕ → ℕ → ℕ → List Corner
-spot x y z p = cond (corner (ofByte p)) (at x y z p ∷ []) []
 
 -- the buffer with the seven bytes of a record at a place
 abbrev pub withRecord : List ℕ → ℕ → List ℕ → List ℕ

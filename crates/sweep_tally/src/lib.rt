@@ -4,8 +4,8 @@ ghost use Prim.Native.Nat.{_+_, _≤_};
 ghost use lib.ListN.{length};
 ghost use Rattle.lattice.specs.Listing.{cornerRecord};
 ghost use Rattle.lattice_sums.specs.CornerSums.{RoomFor};
-ghost use Rattle.sweep_tally.specs.Found.{at, spot, withRecord, stored, state, found};
-use lattice_sums::edges::is_corner;
+ghost use Rattle.lattice_sums.specs.Packed.{Packed};
+ghost use Rattle.sweep_tally.specs.Found.{at, withRecord, stored, state, meet};
 use lattice_sums::sums::CornerSums;
 
 // Writes a record at a place of the buffer.
@@ -32,15 +32,20 @@ fn put(buf: &mut [u8], n: usize, x: u16, y: u16, z: u16, p: u8)
     put_record(buf, 7 * n, x, y, z, p);
 }
 
-// One point more, of pattern p: a corner is added to the sums, and its record stored where there is room.
-pub fn point(t: CornerSums, buf: &mut [u8], x: u16, y: u16, z: u16, p: u8) -> CornerSums
-    requires { ⌜ (x ≤ 1024) × (y ≤ 1024) × (z ≤ 1024) × RoomFor 1 t ⌝ }
-    ensures { λ r. ⌜ state r (now (buf .exit)) ≡ found (state t (now (buf .entry))) (spot x y z p) ⌝ }
+// One corner more, of pattern p: added to the sums, and its record stored where there is room. The weights are lent.
+pub fn meet(
+    t: CornerSums,
+    weights: &[i8],
+    buf: &mut [u8],
+    x: u16,
+    y: u16,
+    z: u16,
+    p: u8,
+) -> CornerSums
+    requires { ⌜ (x ≤ 1024) × (y ≤ 1024) × (z ≤ 1024) × RoomFor 1 t × Packed (now weights) ⌝ }
+    ensures { λ r. ⌜ state r (now (buf .exit)) ≡ meet (state t (now (buf .entry))) (at x y z p) ⌝ }
 {
-    if is_corner(p) {
-        let n = t.corners;
-        put(buf, n, x, y, z, p);
-        return t.add(x, y, z, p);
-    }
-    t
+    let n = t.corners;
+    put(buf, n, x, y, z, p);
+    t.add(weights, x, y, z, p)
 }

@@ -1,37 +1,53 @@
 -- Plane after plane.
 use mathlib.Core.Path.{_≡_, refl}
-use Prim.Native.Nat.{ℕ, _≤_, _-_}
+use Prim.Native.Nat.{_+_, _-_, _*_, _≤_}
 use native.Mathlib.Omega.{arith}
-use lib.ListN.{length, length-replicate}
+use lib.ListN.{length}
+use Rattle.lattice.specs.Cells.{planePoints}
+use Rattle.lattice.specs.Boxes.{boxCells}
+use Rattle.lattice_sums.specs.CornerSums.{Room}
 use Rattle.lattice_sums.proofs.CornerSumLaws.{room-more}
-use Rattle.job.specs.Job.{shotsOf}
-use Rattle.sweep_tally.specs.Found.{state}
-use Rattle.sweep.specs.Sweep.{Swept}
-use Rattle.sweep.proofs.Laws.{swept-none, swept-more}
+use Rattle.sweep_layer.specs.Layers.{touching}
+use Rattle.sweep_tally.specs.Found.{state, found}
+use Rattle.sweep_plane.specs.Plane.{Both}
+use Rattle.sweep.specs.Sweep.{Before, planesTo}
+use Rattle.sweep.proofs.Laws.{about, before-none, before-next, both-next, planes-none, plane-next, room-none, room-next, all-found, ends-on}
 use borrow.Author.Needs.{needs}
 use Rattle.sweep.proofs.planes.Statement.{statement}
 use Rattle.sweep.proofs.planes.Tie as tie
 
 abbrev Inv-loop : tie.InvT-loop
-Inv-loop c edge field from end row run buf₀ near₀ faces₀ links₀ s₀ x₀ buf near faces links s x = (from ≤ x) × (x ≤ end) × Swept field from x (shotsOf edge c) (state s₀ buf₀) (state s buf) × (length buf ≡ length buf₀) × (length near ≡ 4096) × (length faces ≡ 4096) × (length links ≡ 4096)
+Inv-loop field boxes count ends l₀ u₀ names₀ weights buf₀ t₀ from₀ old₀ x₀ l u names buf t from old x = (x ≤ field + 1) × Before boxes count x from old × Both field (touching boxes x old) l u names × (state t buf ≡ found (state t₀ buf₀) (planesTo field x (boxCells boxes count))) × Room t (x * planePoints 1024) × (length l ≡ length l₀) × (length u ≡ length u₀) × (length names ≡ length names₀) × (length buf ≡ length buf₀)
 
 abbrev μ-loop : tie.MeasureT-loop
-μ-loop c edge field from end row run buf₀ near₀ faces₀ links₀ s₀ x₀ buf near faces links s x = end - x
+μ-loop field boxes count ends l₀ u₀ names₀ weights buf₀ t₀ from₀ old₀ x₀ l u names buf t from old x = field + 1 - x
+
+new-requires : tie.Need-new-requires Inv-loop μ-loop
+new-requires c κs = search needs
 
 loop-holds : tie.Need-loop-holds Inv-loop μ-loop
-loop-holds c = (omega arith, omega arith, swept-none _ _ _ _ (c .before .before .before .before .pre .1 .3), refl, length-replicate {A = ℕ} 4096 0, length-replicate {A = ℕ} 4096 0, length-replicate {A = ℕ} 4096 0)
+loop-holds c = (omega arith, before-none _ _, c .before .before .before .before .before .before .before .pre .1, planes-none _ _ _, room-none (c .new .ensures), refl, refl, refl, refl)
 
-slice-aggregate-plane-if : tie.Need-slice-aggregate-plane-if Inv-loop μ-loop
-slice-aggregate-plane-if c = search needs
+first-past-requires : tie.Need-first-past-requires Inv-loop μ-loop
+first-past-requires c κs = let g = c .before .before .before .before .before .before .before .before .before .pre .0 .0 in (g .there, c .before .loop .inv .1 .old-count, g .few)
 
-slice-aggregate-plane-if-2 : tie.Need-slice-aggregate-plane-if-2 Inv-loop μ-loop
-slice-aggregate-plane-if-2 c = search needs
+pass-requires : tie.Need-pass-requires Inv-loop μ-loop
+pass-requires c κs = let g = c .before .before .before .before .before .before .before .before .before .before .pre .0 .0 in let b = c .before .before .loop .inv .1 in (omega (arith, g .there, b .old-count), b .from-old, omega (arith, g .few, b .old-count))
 
-slice-aggregate-plane-if-3 : tie.Need-slice-aggregate-plane-if-3 Inv-loop μ-loop
-slice-aggregate-plane-if-3 c = search needs
+cast-wide : tie.Need-cast-wide Inv-loop μ-loop
+cast-wide c = search needs
 
-plane-if-requires : tie.Need-plane-if-requires Inv-loop μ-loop
-plane-if-requires c κs = (record { in-run = c .before .before .before .before .before .before .before .before .before .before .pre .0 .0 .in-run; few = c .before .before .before .before .before .before .before .before .before .before .pre .0 .0 .few; x-in = omega arith; field-in = c .before .before .before .before .before .before .before .before .before .before .pre .1 .2; room = room-more _ _ _ (omega arith) (c .before .before .before .before .before .loop .inv .2 .room) }, ((search needs, search needs, search needs), (c .before .before .before .before .before .before .before .before .before .before .pre .0 .0 .marked, c .before .before .before .before .before .before .before .before .before .before .pre .0 .1)))
+mul-wide : tie.Need-mul-wide Inv-loop μ-loop
+mul-wide c = search needs
+
+shared-slice-read-wide : tie.Need-shared-slice-read-wide Inv-loop μ-loop
+shared-slice-read-wide c = search needs
+
+wide-requires : tie.Need-wide-requires Inv-loop μ-loop
+wide-requires c κs = search needs
+
+plane-requires : tie.Need-plane-requires Inv-loop μ-loop
+plane-requires c κs = let p = c .before .before .before .before .before .before .before .before .before .before .before .before .before .before .before .before .before .pre in let g = p .0 .0 in let i = c .before .before .before .before .before .before .before .before .before .loop .inv in ((about _ _ _ g _ _ _ _ _ (i .1) (c .before .before .before .before .before .before .pass .ensures) (c .before .before .before .before .before .before .before .first-past .ensures), g .field-least, omega arith, omega (arith, c .before .before .before .before .before .before .before .first-past .ensures .within, g .few), ends-on _ _ _ g _ _ _ (c .before .before .before .before .wide .ensures) (i .1 .old-count) (p .0 .1)), (i .2, p .0 .2, room-more _ _ _ (omega (arith, g .field-most)) (i .4)))
 
 add-x : tie.Need-add-x Inv-loop μ-loop
 add-x c = search needs
@@ -40,13 +56,22 @@ loop-less : tie.Need-loop-less Inv-loop μ-loop
 loop-less c = search needs
 
 loop-again : tie.Need-loop-again Inv-loop μ-loop
-loop-again c = (omega arith, omega arith, swept-more _ _ _ _ _ (c .before .before .before .before .before .before .before .before .before .before .before .loop .inv .2) (c .before .before .before .before .before .plane-if .ensures) (c .before .before .before .before .before .before .before .before .before .before .before .before .before .before .before .before .pre .0 .0 .agree .at _ (c .before .before .before .before .before .before .before .before .before .before .before .loop .inv .0) (c .before .before .before .before .before .before .before .before .before .before .loop-test .taken)), search needs, search needs, search needs, search needs)
+loop-again c = let g = c .before .before .before .before .before .before .before .before .before .before .before .before .before .before .before .before .before .before .before .before .before .before .before .before .before .before .pre .0 .0 in let i = c .before .before .before .before .before .before .before .before .before .before .before .before .before .before .before .before .before .before .loop .inv in let k = c .before .before .before .before .before .before .before .before .plane .ensures in let f = c .before .before .before .before .before .before .before .before .before .before .before .before .before .before .before .before .first-past .ensures in (omega arith, before-next _ _ _ g _ _ _ _ _ (i .1) (c .before .before .before .before .before .before .before .before .before .before .before .before .before .before .before .pass .ensures) f, both-next _ _ _ (k .1), plane-next _ _ _ g _ _ _ f _ (i .3) (k .0), room-next _ (i .4) (k .0), search needs, search needs, search needs, search needs)
 
 same-length : tie.Need-same-length Inv-loop μ-loop
 same-length c = search needs
 
+same-length-2 : tie.Need-same-length-2 Inv-loop μ-loop
+same-length-2 c = search needs
+
+same-length-3 : tie.Need-same-length-3 Inv-loop μ-loop
+same-length-3 c = search needs
+
+same-length-4 : tie.Need-same-length-4 Inv-loop μ-loop
+same-length-4 c = search needs
+
 returns : tie.Need-returns Inv-loop μ-loop
-returns c = let m : c .before .loop .x ≡ c .before .before .before .before .before .before .args .end = omega arith in rw m at (c .before .loop .inv .2)
+returns c = let m : c .before .loop .x ≡ c .before .before .before .before .before .before .before .before .before .args .field + 1 = omega arith in all-found _ _ _ m _ (c .before .before .new .ensures) (c .before .loop .inv .3)
 
 pub planes-spec : {M : Type 1} → statement M
 planes-spec =
@@ -54,13 +79,20 @@ planes-spec =
     (tie.spec
     Inv-loop
     μ-loop
+    new-requires
     loop-holds
-    slice-aggregate-plane-if
-    slice-aggregate-plane-if-2
-    slice-aggregate-plane-if-3
-    plane-if-requires
+    first-past-requires
+    pass-requires
+    cast-wide
+    mul-wide
+    shared-slice-read-wide
+    wide-requires
+    plane-requires
     add-x
     loop-less
     loop-again
     same-length
+    same-length-2
+    same-length-3
+    same-length-4
     returns)

@@ -1,44 +1,25 @@
--- The chains, the marks and the windows of the plane, and then its lines.
-use Rattle.sweep_plane.proofs.Laws.{chain-lines, blank, windows-blank, windows-at}
+-- Where no box begins or ends on the plane, both layers are the same.
+use mathlib.Core.Path.{_≡_}
+use native.Mathlib.Omega.{arith}
+use Rattle.sweep_plane.proofs.Laws.{bare-found, bare-both}
 use borrow.Author.Needs.{needs}
 use Rattle.sweep_plane.proofs.plane.Statement.{statement}
 use Rattle.sweep_plane.proofs.plane.Tie as tie
 
-slice-aggregate-link-all : tie.Need-slice-aggregate-link-all
-slice-aggregate-link-all c = search needs
+returns : tie.Need-returns
+returns c = let p = c .before .before .before .before .before .before .pre in let e : c .before .before .before .before .before .before .args .old ≡ c .before .before .before .before .before .before .args .n = omega (arith, p .0 .0 .old-n) in (bare-found _ _ _ (p .0 .0) e (λ i l k. absurd (omega (arith, e, c .if1 .taken))) _ _ (p .1 .2), bare-both _ _ _ (p .0 .0) e (λ i l k. absurd (omega (arith, e, c .if1 .taken))) (p .1 .0))
 
-link-all-requires : tie.Need-link-all-requires
-link-all-requires c κs = ((chain-lines _ _ (c .before .before .before .before .before .before .before .args .run .now) (c .before .before .before .before .before .before .before .pre .0 .0 .in-run), search needs, search needs), (search needs, blank))
+sub-if2 : tie.Need-sub-if2
+sub-if2 c = search needs
 
-slice-aggregate-mark-faces : tie.Need-slice-aggregate-mark-faces
-slice-aggregate-mark-faces c = search needs
+add-if2 : tie.Need-add-if2
+add-if2 c = search needs
 
-mark-faces-requires : tie.Need-mark-faces-requires
-mark-faces-requires c κs = search needs
+returns-2 : tie.Need-returns-2
+returns-2 c = let p = c .before .before .before .before .before .before .before .pre in let z : c .before .before .before .before .before .before .before .args .ends ≡ 0 = omega arith in let e : c .before .before .before .before .before .before .before .args .old ≡ c .before .before .before .before .before .before .before .args .n = omega (arith, p .0 .0 .old-n) in (bare-found _ _ _ (p .0 .0) e (λ i l k. p .0 .4 .no-end z i k) _ _ (p .1 .2), bare-both _ _ _ (p .0 .0) e (λ i l k. p .0 .4 .no-end z i k) (p .1 .0))
 
-slice-aggregate-frame-all : tie.Need-slice-aggregate-frame-all
-slice-aggregate-frame-all c = search needs
-
-slice-aggregate-frame-all-2 : tie.Need-slice-aggregate-frame-all-2
-slice-aggregate-frame-all-2 c = search needs
-
-frame-all-requires : tie.Need-frame-all-requires
-frame-all-requires c κs = (c .before .before .before .before .before .before .before .before .before .before .before .before .before .before .before .before .pre .0 .1 .in-faces, windows-blank)
-
-slice-aggregate-lines : tie.Need-slice-aggregate-lines
-slice-aggregate-lines c = search needs
-
-slice-aggregate-lines-2 : tie.Need-slice-aggregate-lines-2
-slice-aggregate-lines-2 c = search needs
-
-slice-aggregate-lines-3 : tie.Need-slice-aggregate-lines-3
-slice-aggregate-lines-3 c = search needs
-
-slice-aggregate-lines-4 : tie.Need-slice-aggregate-lines-4
-slice-aggregate-lines-4 c = search needs
-
-lines-requires : tie.Need-lines-requires
-lines-requires c κs = ((record { in-run = c .before .before .before .before .before .before .before .before .before .before .before .before .before .before .before .before .before .before .before .before .before .before .before .before .before .pre .0 .0 .in-run; chained = c .before .before .before .before .before .before .before .before .before .before .before .before .before .before .before .before .before .link-all .ensures .0; x-in = c .before .before .before .before .before .before .before .before .before .before .before .before .before .before .before .before .before .before .before .before .before .before .before .before .before .pre .0 .0 .x-in }, c .before .before .before .before .before .before .before .before .before .before .before .before .before .before .before .before .before .before .before .before .before .before .before .before .before .pre .0 .0 .field-in, c .before .before .before .before .before .before .before .before .before .before .before .before .before .before .before .before .before .before .before .before .before .before .before .before .before .pre .0 .0 .room), (windows-at _ _ _ _ _ (c .before .before .before .before .before .before .before .before .before .before .before .before .before .before .before .before .before .before .before .before .before .before .before .before .before .pre .0 .1) (c .before .before .before .before .before .before .before .before .frame-all .ensures .1 .1), (c .before .before .before .before .before .before .before .before .before .before .before .before .mark-faces .ensures, search needs)))
+turn-requires : tie.Need-turn-requires
+turn-requires c κs = let p = c .before .before .before .before .before .before .before .before .before .before .before .pre in ((p .0 .0, p .0 .1, p .0 .2, omega arith, p .0 .3, p .0 .4 .few), (p .1 .0, p .1 .1, p .1 .2))
 
 same-length : tie.Need-same-length
 same-length c = search needs
@@ -46,25 +27,26 @@ same-length c = search needs
 same-length-2 : tie.Need-same-length-2
 same-length-2 c = search needs
 
-returns : tie.Need-returns
-returns c = (c .before .before .lines .ensures, c .before .before .before .before .before .before .before .before .before .before .before .before .before .before .before .before .before .before .before .before .link-all .ensures .1)
+same-length-3 : tie.Need-same-length-3
+same-length-3 c = search needs
+
+same-length-4 : tie.Need-same-length-4
+same-length-4 c = search needs
+
+returns-3 : tie.Need-returns-3
+returns-3 c = search needs
 
 pub plane-spec : {M : Type 1} → statement M
 plane-spec =
     tie.close
     (tie.spec
-    slice-aggregate-link-all
-    link-all-requires
-    slice-aggregate-mark-faces
-    mark-faces-requires
-    slice-aggregate-frame-all
-    slice-aggregate-frame-all-2
-    frame-all-requires
-    slice-aggregate-lines
-    slice-aggregate-lines-2
-    slice-aggregate-lines-3
-    slice-aggregate-lines-4
-    lines-requires
+    returns
+    sub-if2
+    add-if2
+    returns-2
+    turn-requires
     same-length
     same-length-2
-    returns)
+    same-length-3
+    same-length-4
+    returns-3)

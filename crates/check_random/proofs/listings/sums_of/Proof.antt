@@ -9,10 +9,10 @@ use Rattle.check_random.proofs.listings.sums_of.Statement.{statement}
 use Rattle.check_random.proofs.listings.sums_of.Tie as tie
 
 abbrev Inv-loop : tie.InvT-loop
-Inv-loop listing records sums₀ place₀ sums place = (place ≤ records) × Room sums place
+Inv-loop weights listing records sums₀ place₀ sums place = (place ≤ records) × Room sums place
 
 abbrev μ-loop : tie.MeasureT-loop
-μ-loop listing records sums₀ place₀ sums place = records - place
+μ-loop weights listing records sums₀ place₀ sums place = records - place
 
 new-requires : tie.Need-new-requires Inv-loop μ-loop
 new-requires c κs = search needs

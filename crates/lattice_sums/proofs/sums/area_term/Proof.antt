@@ -11,32 +11,32 @@ use borrow.Author.Needs.{needs}
 use Rattle.lattice_sums.proofs.sums.area_term.Statement.{statement}
 use Rattle.lattice_sums.proofs.sums.area_term.Tie as tie
 
-weight-x : (c : tie.After-weight-ax) → toZ w8 (ofZ w8 (c .weight-ax .result)) ≡ ax (ofByte (c .before .before .args .p))
-weight-x c = told8 (c .weight-ax .ok) (c .weight-ax .ensures)
+weight-x : (c : tie.After-weight-at) → toZ w8 (ofZ w8 (c .weight-at .result)) ≡ ax (ofByte (c .before .before .args .p))
+weight-x c = told8 (c .weight-at .ok) (c .weight-at .ensures)
 
-weight-y : (c : tie.After-weight-ay) → toZ w8 (ofZ w8 (c .weight-ay .result)) ≡ ay (ofByte (c .before .before .before .before .args .p))
-weight-y c = told8 (c .weight-ay .ok) (c .weight-ay .ensures)
+weight-y : (c : tie.After-weight-at2) → toZ w8 (ofZ w8 (c .weight-at2 .result)) ≡ ay (ofByte (c .before .before .before .before .args .p))
+weight-y c = told8 (c .weight-at2 .ok) (c .weight-at2 .ensures)
 
-weight-z : (c : tie.After-weight-az) → toZ w8 (ofZ w8 (c .weight-az .result)) ≡ az (ofByte (c .before .before .before .before .before .before .args .p))
-weight-z c = told8 (c .weight-az .ok) (c .weight-az .ensures)
+weight-z : (c : tie.After-weight-at3) → toZ w8 (ofZ w8 (c .weight-at3 .result)) ≡ az (ofByte (c .before .before .before .before .before .before .args .p))
+weight-z c = told8 (c .weight-at3 .ok) (c .weight-at3 .ensures)
 
 product-requires : tie.Need-product-requires
 product-requires c κs = search needs
 
-weight-ax-requires : tie.Need-weight-ax-requires
-weight-ax-requires c κs = search needs
+weight-at-requires : tie.Need-weight-at-requires
+weight-at-requires c κs = search needs
 
 product-requires-2 : tie.Need-product-requires-2
 product-requires-2 c κs = search needs
 
-weight-ay-requires : tie.Need-weight-ay-requires
-weight-ay-requires c κs = search needs
+weight-at-requires-2 : tie.Need-weight-at-requires-2
+weight-at-requires-2 c κs = search needs
 
 product-requires-3 : tie.Need-product-requires-3
 product-requires-3 c κs = search needs
 
-weight-az-requires : tie.Need-weight-az-requires
-weight-az-requires c κs = search needs
+weight-at-requires-3 : tie.Need-weight-at-requires-3
+weight-at-requires-3 c κs = search needs
 
 three-requires : tie.Need-three-requires
 three-requires c κs =
@@ -69,10 +69,10 @@ area-term-spec =
     tie.close
     (tie.spec
     product-requires
-    weight-ax-requires
+    weight-at-requires
     product-requires-2
-    weight-ay-requires
+    weight-at-requires-2
     product-requires-3
-    weight-az-requires
+    weight-at-requires-3
     three-requires
     returns)

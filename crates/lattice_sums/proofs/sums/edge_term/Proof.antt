@@ -12,23 +12,23 @@ use borrow.Author.Needs.{needs}
 use Rattle.lattice_sums.proofs.sums.edge_term.Statement.{statement}
 use Rattle.lattice_sums.proofs.sums.edge_term.Tie as tie
 
-weight-x : (c : tie.After-weight-ex) → toZ w8 (ofZ w8 (c .weight-ex .result)) ≡ ex (ofByte (c .before .args .p))
-weight-x c = told8 (c .weight-ex .ok) (c .weight-ex .ensures)
+weight-x : (c : tie.After-weight-at) → toZ w8 (ofZ w8 (c .weight-at .result)) ≡ ex (ofByte (c .before .args .p))
+weight-x c = told8 (c .weight-at .ok) (c .weight-at .ensures)
 
-weight-y : (c : tie.After-weight-ey) → toZ w8 (ofZ w8 (c .weight-ey .result)) ≡ ey (ofByte (c .before .before .args .p))
-weight-y c = told8 (c .weight-ey .ok) (c .weight-ey .ensures)
+weight-y : (c : tie.After-weight-at2) → toZ w8 (ofZ w8 (c .weight-at2 .result)) ≡ ey (ofByte (c .before .before .args .p))
+weight-y c = told8 (c .weight-at2 .ok) (c .weight-at2 .ensures)
 
-weight-z : (c : tie.After-weight-ez) → toZ w8 (ofZ w8 (c .weight-ez .result)) ≡ ez (ofByte (c .before .before .before .args .p))
-weight-z c = told8 (c .weight-ez .ok) (c .weight-ez .ensures)
+weight-z : (c : tie.After-weight-at3) → toZ w8 (ofZ w8 (c .weight-at3 .result)) ≡ ez (ofByte (c .before .before .before .args .p))
+weight-z c = told8 (c .weight-at3 .ok) (c .weight-at3 .ensures)
 
-weight-ex-requires : tie.Need-weight-ex-requires
-weight-ex-requires c κs = search needs
+weight-at-requires : tie.Need-weight-at-requires
+weight-at-requires c κs = search needs
 
-weight-ey-requires : tie.Need-weight-ey-requires
-weight-ey-requires c κs = search needs
+weight-at-requires-2 : tie.Need-weight-at-requires-2
+weight-at-requires-2 c κs = search needs
 
-weight-ez-requires : tie.Need-weight-ez-requires
-weight-ez-requires c κs = search needs
+weight-at-requires-3 : tie.Need-weight-at-requires-3
+weight-at-requires-3 c κs = search needs
 
 three-requires : tie.Need-three-requires
 three-requires c κs =
@@ -51,4 +51,4 @@ returns c =
 pub edge-term-spec : {M : Type 1} → statement M
 edge-term-spec =
     tie.close
-    (tie.spec weight-ex-requires weight-ey-requires weight-ez-requires three-requires returns)
+    (tie.spec weight-at-requires weight-at-requires-2 weight-at-requires-3 three-requires returns)

@@ -1,4 +1,4 @@
--- Fewer than three covered cells weigh nothing; else the coordinates are at most 1,024, and the weights at most 1.
+-- The coordinates are at most 1,024, and the weights at most 1.
 use mathlib.Core.Path.{_≡_, _∙_}
 use native.Mathlib.Omega.{arith}
 use mir.Syntax.{w8}
@@ -7,33 +7,32 @@ use Rattle.lattice.specs.Pattern.{ofByte, ix, iy, iz, innerTerm}
 use Rattle.lattice.specs.Figures.{InnerLength}
 use Rattle.lattice.proofs.PatternLaws.{weight-small}
 use Rattle.lattice.proofs.TermBounds.{term-small}
-use Rattle.lattice_sums.proofs.EdgeLaws.{few-inner}
 use Rattle.lattice_sums.proofs.CornerSumLaws.{told8, told64}
 use borrow.Author.Needs.{needs}
 use Rattle.lattice_sums.proofs.sums.inner_term.Statement.{statement}
 use Rattle.lattice_sums.proofs.sums.inner_term.Tie as tie
 
-weight-x : (c : tie.After-weight-ix) → toZ w8 (ofZ w8 (c .weight-ix .result)) ≡ ix (ofByte (c .before .before .args .p))
-weight-x c = told8 (c .weight-ix .ok) (c .weight-ix .ensures)
+weight-x : (c : tie.After-weight-at) → toZ w8 (ofZ w8 (c .weight-at .result)) ≡ ix (ofByte (c .before .args .p))
+weight-x c = told8 (c .weight-at .ok) (c .weight-at .ensures)
 
-weight-y : (c : tie.After-weight-iy) → toZ w8 (ofZ w8 (c .weight-iy .result)) ≡ iy (ofByte (c .before .before .before .args .p))
-weight-y c = told8 (c .weight-iy .ok) (c .weight-iy .ensures)
+weight-y : (c : tie.After-weight-at2) → toZ w8 (ofZ w8 (c .weight-at2 .result)) ≡ iy (ofByte (c .before .before .args .p))
+weight-y c = told8 (c .weight-at2 .ok) (c .weight-at2 .ensures)
 
-weight-z : (c : tie.After-weight-iz) → toZ w8 (ofZ w8 (c .weight-iz .result)) ≡ iz (ofByte (c .before .before .before .before .args .p))
-weight-z c = told8 (c .weight-iz .ok) (c .weight-iz .ensures)
+weight-z : (c : tie.After-weight-at3) → toZ w8 (ofZ w8 (c .weight-at3 .result)) ≡ iz (ofByte (c .before .before .before .args .p))
+weight-z c = told8 (c .weight-at3 .ok) (c .weight-at3 .ensures)
 
-weight-ix-requires : tie.Need-weight-ix-requires
-weight-ix-requires c κs = search needs
+weight-at-requires : tie.Need-weight-at-requires
+weight-at-requires c κs = search needs
 
-weight-iy-requires : tie.Need-weight-iy-requires
-weight-iy-requires c κs = search needs
+weight-at-requires-2 : tie.Need-weight-at-requires-2
+weight-at-requires-2 c κs = search needs
 
-weight-iz-requires : tie.Need-weight-iz-requires
-weight-iz-requires c κs = search needs
+weight-at-requires-3 : tie.Need-weight-at-requires-3
+weight-at-requires-3 c κs = search needs
 
 three-requires : tie.Need-three-requires
 three-requires c κs =
-    let s = c .before .before .before .before in (
+    let s = c .before .before .before in (
       omega (arith, s .pre),
       omega (arith, s .pre),
       omega (arith, s .pre),
@@ -44,12 +43,7 @@ three-requires c κs =
 
 returns : tie.Need-returns
 returns c =
-    let s = c .before in
-    (few-inner (s .args .p) (s .fits .p .fits) (s .args .x) (s .args .y) (s .args .z) (c .if1 .taken), omega arith)
-
-returns-2 : tie.Need-returns-2
-returns-2 c =
-    let s = c .before .before .before .before .before in
+    let s = c .before .before .before .before in
     let e = told64 {v = innerTerm (s .args .x) (s .args .y) (s .args .z) (ofByte (s .args .p))} (c .three .ok)
     (c .three .ensures .0 ∙ rw (weight-x (c .before .before .before), weight-y (c .before .before), weight-z (c .before))) in
     (e, rw e (term-small InnerLength (s .args .x) (s .args .y) (s .args .z) (ofByte (s .args .p)) (s .pre .0) (s .pre .1) (s .pre .2)))
@@ -57,4 +51,4 @@ returns-2 c =
 pub inner-term-spec : {M : Type 1} → statement M
 inner-term-spec =
     tie.close
-    (tie.spec returns weight-ix-requires weight-iy-requires weight-iz-requires three-requires returns-2)
+    (tie.spec weight-at-requires weight-at-requires-2 weight-at-requires-3 three-requires returns)

@@ -14,8 +14,8 @@ use borrow.Author.Needs.{needs}
 use Rattle.lattice_sums.proofs.sums.volume_term.Statement.{statement}
 use Rattle.lattice_sums.proofs.sums.volume_term.Tie as tie
 
-weight : (c : tie.After-weight-w) → toZ w8 (ofZ w8 (c .weight-w .result)) ≡ w (ofByte (c .before .args .p))
-weight c = told8 (c .weight-w .ok) (c .weight-w .ensures)
+weight : (c : tie.After-weight-at) → toZ w8 (ofZ w8 (c .weight-at .result)) ≡ w (ofByte (c .before .args .p))
+weight c = told8 (c .weight-at .ok) (c .weight-at .ensures)
 
 mul-scaled : tie.Need-mul-scaled
 mul-scaled c = record { fits = omega (arith, two-small (c .args .x) (c .args .y) (c .pre .0) (c .pre .1)) }
@@ -23,8 +23,8 @@ mul-scaled c = record { fits = omega (arith, two-small (c .args .x) (c .args .y)
 mul-scaled-2 : tie.Need-mul-scaled-2
 mul-scaled-2 c = record { fits = omega (arith, three-small (c .args .x) (c .args .y) (c .args .z) (c .pre .0) (c .pre .1) (c .pre .2)) }
 
-weight-w-requires : tie.Need-weight-w-requires
-weight-w-requires c κs = search needs
+weight-at-requires : tie.Need-weight-at-requires
+weight-at-requires c κs = search needs
 
 scaled-requires : tie.Need-scaled-requires
 scaled-requires c κs =
@@ -39,4 +39,4 @@ returns c =
 
 pub volume-term-spec : {M : Type 1} → statement M
 volume-term-spec =
-    tie.close (tie.spec mul-scaled mul-scaled-2 weight-w-requires scaled-requires returns)
+    tie.close (tie.spec mul-scaled mul-scaled-2 weight-at-requires scaled-requires returns)

@@ -3,6 +3,7 @@ use Rattle.lattice.specs.Figures.{Volume, Area, EdgeLength, InnerLength}
 use Rattle.lattice_sums.specs.CornerSums.{added}
 use Rattle.lattice_sums.proofs.CornerSumLaws.{sum-asked, sum-told, sum-bound}
 use Prim.Native.Nat.{_+_}
+use native.Mathlib.Omega.{arith}
 use borrow.Author.Needs.{needs}
 use Rattle.lattice_sums.proofs.sums.CornerSums.add.Statement.{statement}
 use Rattle.lattice_sums.proofs.sums.CornerSums.add.Tie as tie
@@ -43,8 +44,10 @@ plus-requires-4 c κs =
     let t = c .before .inner-term in
     sum-asked (s .args .self .inner) (t .result) (sum-bound InnerLength (s .args .self) (s .pre .3)) (t .ensures .1) (t .ok)
 
-add-t14 : tie.Need-add-t14
-add-t14 c = search needs
+add-t15 : tie.Need-add-t15
+add-t15 c =
+    let s = c .before .before .before .before .before .before .before .before .before .before .before .before .before in
+    record { fits = omega (arith, s .pre .3 .few) }
 
 returns : tie.Need-returns
 unfolding added
@@ -81,5 +84,5 @@ add-spec =
     plus-requires-3
     inner-term-requires
     plus-requires-4
-    add-t14
+    add-t15
     returns)

@@ -1,0 +1,4 @@
+pub mod RectLaws
+pub mod ShadeLaws
+pub mod FaceLaws
+pub mod FourLaws

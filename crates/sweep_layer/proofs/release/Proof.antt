@@ -1,0 +1,55 @@
+-- Face after face.
+use mathlib.Core.Path.{_≡_}
+use Prim.Native.Nat.{_-_, _≤_}
+use native.Mathlib.Omega.{arith}
+use Rattle.sweep_layer.specs.Layers.{released, Becomes}
+use Rattle.sweep_image.specs.Images.{Tells}
+use Rattle.sweep_layer.proofs.Laws.{becomes-none, becomes-more, lent-on, released-all}
+use borrow.Author.Needs.{needs}
+use Rattle.sweep_layer.proofs.release.Statement.{statement}
+use Rattle.sweep_layer.proofs.release.Tie as tie
+
+abbrev Inv-loop : tie.InvT-loop
+Inv-loop field boxes x from old n l u₀ names₀ q₀ u names q = (from ≤ q) × (q ≤ old) × Becomes field (released boxes x old from) (released boxes x old q) u₀ u × Tells field l u names
+
+abbrev μ-loop : tie.MeasureT-loop
+μ-loop field boxes x from old n l u₀ names₀ q₀ u names q = old - q
+
+loop-holds : tie.Need-loop-holds Inv-loop μ-loop
+loop-holds c = (omega arith, c .before .before .before .before .pre .0 .from-old, becomes-none, c .before .before .before .before .pre .1 .tells)
+
+release-face-requires : tie.Need-release-face-requires Inv-loop μ-loop
+release-face-requires c κs = let p = c .before .before .before .before .before .before .before .before .pre in (p .0, omega arith, lent-on (p .1) (c .before .before .before .loop .inv .2) (c .before .before .before .loop .inv .3))
+
+add-q : tie.Need-add-q Inv-loop μ-loop
+add-q c = search needs
+
+loop-less : tie.Need-loop-less Inv-loop μ-loop
+loop-less c = search needs
+
+loop-again : tie.Need-loop-again Inv-loop μ-loop
+loop-again c = (omega arith, omega arith, becomes-more (c .before .before .before .before .before .before .before .before .loop .inv .2) (c .before .before .before .before .release-face .ensures .0), c .before .before .before .before .release-face .ensures .1)
+
+same-length : tie.Need-same-length Inv-loop μ-loop
+same-length c = search needs
+
+same-length-2 : tie.Need-same-length-2 Inv-loop μ-loop
+same-length-2 c = search needs
+
+returns : tie.Need-returns Inv-loop μ-loop
+returns c = let m : c .before .loop .q ≡ c .before .before .before .before .before .before .args .old = omega arith in (released-all _ _ _ _ _ _ (c .before .before .before .before .before .before .pre .0) (rw m at (c .before .loop .inv .2)), c .before .loop .inv .3)
+
+pub release-spec : {M : Type 1} → statement M
+release-spec =
+    tie.close
+    (tie.spec
+    Inv-loop
+    μ-loop
+    loop-holds
+    release-face-requires
+    add-q
+    loop-less
+    loop-again
+    same-length
+    same-length-2
+    returns)

@@ -1,0 +1,115 @@
+-- The bits that name the corners of a column and the columns of a line, and lines without any.
+use mathlib.Core.Path.{_≡_, refl, sym, _∙_, ap}
+use mathlib.Core.Bool.{Bool, true, false, cond, _&&_, _||_, false≢true}
+use mathlib.Core.List.{List, [], _∷_}
+use Prim.Native.Nat.{ℕ, _+_, _*_, _<_, _≤_}
+use native.Mathlib.Numerals.{add-one}
+use native.Mathlib.Omega.{arith}
+use lib.Bits.{bitOr}
+use lib.Dec.{ltb}
+use lib.ListN.{getD}
+use borrow.Author.Tests.{ltb-true, lt-ltb}
+use Rattle.lattice.specs.Axes.{x-axis}
+use Rattle.lattice.specs.Cells.{up}
+use Rattle.lattice.specs.Pattern.{byte, corner}
+use Rattle.lattice.specs.Sums.{join}
+use Rattle.lattice.specs.Listing.{Corner}
+use Rattle.lattice.proofs.PatternLaws.{still-no-corner}
+use Rattle.sweep_words.specs.Words.{bitAt, wordOf, patternOf}
+use Rattle.sweep_words.proofs.BitLaws.{bit-or, bit-zero}
+use Rattle.sweep_image.specs.Images.{Tells, columns, wordAt}
+use Rattle.sweep_tally.specs.Found.{at, Found, meet, found}
+use Rattle.sweep_tally.proofs.Laws.{found-append, found-one}
+use Rattle.sweep_points.specs.Points.{cornerAt, columnCorners, columnAt, lineAt, Blank}
+use Rattle.sweep_points.proofs.Joins.{join-quiet}
+use Rattle.sweep_points.proofs.Visits.{Names}
+
+-- ---- the corners of a column
+module _ (x y k l₀ l₁ u₀ u₁ : ℕ) where
+  corner-none : (b : ℕ) → corner (patternOf l₀ l₁ u₀ u₁ b) ≡ false → cornerAt x y k l₀ l₁ u₀ u₁ b ≡ []
+  unfolding cornerAt
+  corner-none b e = ap (λ (t : Bool). cond t (at x y (63 * k + b) (byte (patternOf l₀ l₁ u₀ u₁ b)) ∷ []) []) e
+
+  -- the corner at a place, as it is met
+  pub corner-met : (b : ℕ) {p : ℕ} (g : Found) {h : Found} → corner (patternOf l₀ l₁ u₀ u₁ b) ≡ true → p ≡ byte (patternOf l₀ l₁ u₀ u₁ b)
+      → h ≡ meet g (at x y (63 * k + b) p) → h ≡ found g (cornerAt x y k l₀ l₁ u₀ u₁ b)
+  unfolding cornerAt
+  corner-met b {p} g {h} c q e =
+      e ∙ ap (λ (i : ℕ). meet g (at x y (63 * k + b) i)) q ∙ sym (found-one g (at x y (63 * k + b) (byte (patternOf l₀ l₁ u₀ u₁ b))))
+      ∙ ap (λ (t : Bool). found g (cond t (at x y (63 * k + b) (byte (patternOf l₀ l₁ u₀ u₁ b)) ∷ []) [])) (sym c)
+
+  module _ (m : ℕ) (w : (b : ℕ) → bitAt m b ≡ (ltb b 63 && corner (patternOf l₀ l₁ u₀ u₁ b))) where
+    pub named-corner : (b : ℕ) → bitAt m b ≡ true → (b < 63) × (corner (patternOf l₀ l₁ u₀ u₁ b) ≡ true)
+    named-corner b e = go (ltb b 63) refl (sym (w b) ∙ e)
+      where
+        go : (t : Bool) → ltb b 63 ≡ t → (t && corner (patternOf l₀ l₁ u₀ u₁ b)) ≡ true
+            → (b < 63) × (corner (patternOf l₀ l₁ u₀ u₁ b) ≡ true)
+        go true f g = (ltb-true b 63 f, g)
+        go false f g = absurd (false≢true g)
+
+    pub names-corners : Names 63 m (cornerAt x y k l₀ l₁ u₀ u₁)
+    names-corners = record {
+      few = λ b e. named-corner b e .0;
+      quiet = λ b h e. corner-none b (ap (λ (t : Bool). t && corner (patternOf l₀ l₁ u₀ u₁ b)) (sym (lt-ltb b 63 h)) ∙ sym (w b) ∙ e);
+    }
+
+  -- where the layers are the same there is none
+  quiet-words : l₀ ≡ u₀ → l₁ ≡ u₁ → columnCorners x y k l₀ l₁ u₀ u₁ ≡ []
+  unfolding columnCorners join
+  quiet-words e f = join-quiet 0 63 (cornerAt x y k l₀ l₁ u₀ u₁) (omega arith)
+      (λ b a c. corner-none b (still-no-corner x-axis (patternOf l₀ l₁ u₀ u₁ b) (λ r c. go b r c)))
+    where
+      go : (b : ℕ) (r c : Bool) → bitAt (wordOf l₀ l₁ u₀ u₁ true r) (up c b) ≡ bitAt (wordOf l₀ l₁ u₀ u₁ false r) (up c b)
+      go b false c = ap (λ w. bitAt w (up c b)) (sym e)
+      go b true c = ap (λ w. bitAt w (up c b)) (sym f)
+
+-- ---- the columns of a line
+either-false : (a b : Bool) → (a || b) ≡ false → (a ≡ false) × (b ≡ false)
+either-false true b e = absurd (false≢true (sym e))
+either-false false b e = (refl, e)
+
+module _ (n x y : ℕ) {l u names : List ℕ} (t : Tells n l u names) (hy : y ≤ 1024) where
+  quiet-column : (k : ℕ) → k < columns n → bitAt (getD names y 0) k ≡ false → bitAt (getD names (y + 1) 0) k ≡ false
+      → columnAt x y l u k ≡ []
+  unfolding columnAt
+  quiet-column k h e f =
+      quiet-words x y k (wordAt l k y) (wordAt l k (y + 1)) (wordAt u k y) (wordAt u k (y + 1))
+      (t .same k y h (omega arith) e) (t .same k (y + 1) h (omega arith) f)
+
+  pub names-columns : Names (columns n) (bitOr (getD names y 0) (getD names (y + 1) 0)) (columnAt x y l u)
+  names-columns = record {
+    few = λ k e. go k (bitAt (getD names y 0) k) refl (sym (named k) ∙ e);
+    quiet = λ k h e.
+        let q = either-false (bitAt (getD names y 0) k) (bitAt (getD names (y + 1) 0) k) (sym (named k) ∙ e) in
+        quiet-column k h (q .0) (q .1);
+  }
+    where
+      named : (k : ℕ) → bitAt (bitOr (getD names y 0) (getD names (y + 1) 0)) k ≡ (bitAt (getD names y 0) k || bitAt (getD names (y + 1) 0) k)
+      named k = bit-or (getD names y 0) (getD names (y + 1) 0) k
+
+      go : (k : ℕ) (b : Bool) → bitAt (getD names y 0) k ≡ b → (b || bitAt (getD names (y + 1) 0) k) ≡ true → k < columns n
+      go k true e f = t .few k y e
+      go k false e f = t .few k (y + 1) f
+
+  quiet-line : getD names y 0 ≡ 0 → getD names (y + 1) 0 ≡ 0 → lineAt n x l u y ≡ []
+  unfolding lineAt join
+  quiet-line e f = join-quiet 0 (columns n) (columnAt x y l u) (omega arith)
+      (λ k a h. quiet-column k h (ap (λ w. bitAt w k) e ∙ bit-zero k) (ap (λ w. bitAt w k) f ∙ bit-zero k))
+
+-- ---- the lines of a plane
+module _ (n x : ℕ) {l u names : List ℕ} (t : Tells n l u names) where
+  pub lines-past : (y r : ℕ) (g : Found) {h : Found} → y ≤ r → r ≤ 1025 → Blank names y r → h ≡ found g (join y (lineAt n x l u))
+      → h ≡ found g (join r (lineAt n x l u))
+  lines-past y r g a b d e =
+      e
+      ∙ ap (found g) (sym (join-quiet y r (lineAt n x l u) a (λ i c k. quiet-line n x i t (omega arith) (d .at i c k .0) (d .at i c k .1))))
+
+pub lines-none : (f : ℕ → List Corner) (g : Found) → g ≡ found g (join 0 f)
+unfolding found join
+lines-none f g = refl
+
+pub lines-more : (f : ℕ → List Corner) (y : ℕ) (g : Found) {h i : Found} → h ≡ found g (join y f) → i ≡ found h (f y)
+    → i ≡ found g (join (y + 1) f)
+unfolding join
+lines-more f y g {h} {i} e k =
+    k ∙ ap (λ s. found s (f y)) e ∙ sym (found-append g (join y f) (f y)) ∙ ap (λ m. found g (join m f)) (sym (add-one y))

@@ -1,0 +1,4 @@
+pub mod BoxLaws
+pub mod ChainLaws
+pub mod OrderLaws
+pub mod SlabLaws

@@ -1,0 +1,4 @@
+pub mod BitLaws
+pub mod LowestLaws
+pub mod MaskLaws
+pub mod PointLaws
