@@ -76,6 +76,30 @@ static List layers(uint16_t field, const int *order, int falling) {
     return list;
 }
 
+// A cube, and cubes that reach through the plane where it ends, or where it `begins`: each hides one row more of its
+// face, and then one place more of the row that is left. So the face is carved by calls within calls, and no list nests
+// more in a field of this side. `turned` exchanges y and z; a bit of `falling` turns its axis round.
+static List rows(uint16_t field, uint16_t grid, bool begins, bool turned, int falling) {
+    List list;
+    uint16_t edge = field / 2;
+    list.field = field, list.edge = edge, list.grid = grid;
+    auto add = [&](uint16_t x, uint16_t y, uint16_t z) {
+        if (falling & 1) y = uint16_t(edge - y);
+        if (falling & 2) z = uint16_t(edge - z);
+        list.coords.insert(list.coords.end(), {x, turned ? z : y, turned ? y : z});
+    };
+    if (begins) {
+        for (uint16_t z = 1; z < edge; z++) add(0, edge, uint16_t(edge - z));
+        for (uint16_t y = 1; y < edge; y++) add(0, uint16_t(edge - y), edge);
+        add(1, edge, edge);
+    } else {
+        add(0, edge, edge);
+        for (uint16_t y = 1; y < edge; y++) add(1, y, edge);
+        for (uint16_t z = 1; z < edge; z++) add(1, edge, z);
+    }
+    return list;
+}
+
 enum Call { INDEX, MEASURE, LIST, RECOUNT, CREDIT, CALLS };
 
 // The bytes of stack of one call on a list.
@@ -147,6 +171,14 @@ int main() {
         while (std::next_permutation(order, order + 3));
         char name[64];
         snprintf(name, sizeof name, "a layer a shot, F = %d, %d shots, G = 1", field, 3 * field - 2);
+        line(name, lists);
+    }
+    for (uint16_t field : {124, 128, 512, 1024}) {
+        std::vector<List> lists;
+        for (int way = 0; way < 16; way++)
+            lists.push_back(rows(field, field == 124 ? 4 : 8, way & 1, way & 2, way >> 2));
+        char name[64];
+        snprintf(name, sizeof name, "a row a shot, F = %d, E = %d, G = %d", field, field / 2, field == 124 ? 4 : 8);
         line(name, lists);
     }
 }
