@@ -22,6 +22,10 @@
  * allocates memory, keeps a pointer, or touches a place outside the buffers. Calls from several threads are fine as
  * long as they share no buffer that one of them writes.
  *
+ * STACK: heqdanu_measure and heqdanu_list take less than 577 KiB. 337 KiB of it they take in every field; the rest is
+ * 480 bytes for each step of edge, or of field - edge where that is less, since they nest. heqdanu_credit takes what
+ * stands there, and every other call less than 82 KiB. A thread that calls them needs a stack of that size.
+ *
  * ANSWERS go to `answer`, so many places of 64 bits as the call needs; HEQDANU_ANSWER are enough for every call:
  *
  *     answer[0]   0 if the call accepted, else the number of the refusal (below)
@@ -158,9 +162,9 @@ uint8_t heqdanu_index(uint16_t field, uint16_t edge, uint16_t grid, const uint16
  * `credits` takes a number for each shot: of how many cells it is the lowest covering shot. They sum to the volume. All
  * shots of credit 0, as the repeat of an earlier one has, can be left out at once, and the list covers the same cells.
  *
- * Stack: the call nests up to 3*field/grid - 2 deep, at 192 bytes each. That is less than 577 KiB with grid 1 in a field
- * of 1,024, and less than 80 KiB where field/grid is at most 128, as with grid 8 in every field. A thread with a small
- * stack names a larger grid. The other calls take less than 66 KiB.
+ * Stack: the call nests up to 3*field/grid - 2 deep, at 192 bytes each. That is less than 577 KiB with grid 1 in a
+ * field of 1,024, and less than 80 KiB where field/grid is at most 128, as with grid 8 in every field. A thread with a
+ * small stack names a larger grid.
  *
  * Refusals: 1, 2, 6, 7, 8, 9, 10, 16.
  * After success `work` is as after heqdanu_measure; `credits` holds the credits in its first places, later places keep
