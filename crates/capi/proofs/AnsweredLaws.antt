@@ -8,7 +8,7 @@ use lib.Dec.{leb}
 use lib.ListN.{length, set}
 use lib.Seq.{sets-eq}
 use borrow.Author.Tests.{lt-leb, le-leb}
-use Rattle.job.specs.Job.{shotCount}
+use Rattle.job.specs.Job.{Job, shotCount}
 use Rattle.job.specs.Refusals.{numberOf, detailOf, checkedNumbers}
 use Rattle.job.specs.Checking.{firstOf, firstNumbers}
 use Rattle.job.specs.declared.Checked.{Checked}
@@ -82,74 +82,74 @@ unfolding readValues
 read-six (file f coords) = refl
 read-six (refused r) = refl
 
-write-three : (F E G : ℕ) (coords : List ℕ) (room : ℕ) → length (writeValues F E G coords room) ≡ 3
+write-three : (job : Job) (room : ℕ) → length (writeValues job room) ≡ 3
 unfolding writeValues
-write-three F E G coords room = by (firstOf (writeTests F E G coords room))
+write-three job room = by (firstOf (writeTests job room))
   where
-    by : (c : Checked) → length (ifWritten c (λ r. numberOf r ∷ detailOf r ∷ 0 ∷ []) (0 ∷ 0 ∷ length (fileOf F E G coords) ∷ [])) ≡ 3
+    by : (c : Checked) → length (ifWritten c (λ r. numberOf r ∷ detailOf r ∷ 0 ∷ []) (0 ∷ 0 ∷ length (fileOf job) ∷ [])) ≡ 3
     by Accepted = refl
     by (Turned r) = refl
 
 -- ---- the calls
-module _ {F E G : ℕ} {coords work : List ℕ} (answer : List ℕ) where
-  pub index-untold : length answer < 2 → IndexTold F E G coords work answer 0 work answer
+module _ {job : Job} {work : List ℕ} (answer : List ℕ) where
+  pub index-untold : length answer < 2 → IndexTold job work answer 0 work answer
   index-untold h =
-      let n = indexPlaces (firstNumbers (measureTests F E G coords (length work))) in
-      record { told = untold n refl answer h; index = kept n refl answer h (workAfter F E G coords work) work }
+      let n = indexPlaces (firstNumbers (measureTests job (length work))) in
+      record { told = untold n refl answer h; index = kept n refl answer h (workAfter job work) work }
 
-  pub index-told : {c : Checked} {work' answer' : List ℕ} → 2 ≤ length answer → IndexCall F E G coords work c work' → answer' ≡ inFront (indexPlaces (checkedNumbers c)) answer
-      → IndexTold F E G coords work answer 1 work' answer'
+  pub index-told : {c : Checked} {work' answer' : List ℕ} → 2 ≤ length answer → IndexCall job work c work' → answer' ≡ inFront (indexPlaces (checkedNumbers c)) answer
+      → IndexTold job work answer 1 work' answer'
   index-told h call e =
-      let n = indexPlaces (firstNumbers (measureTests F E G coords (length work))) in
-      record { told = told n refl answer h e (ap indexPlaces (call .numbers)); index = done-is n refl answer h (workAfter F E G coords work) work (call .index) }
+      let n = indexPlaces (firstNumbers (measureTests job (length work))) in
+      record { told = told n refl answer h e (ap indexPlaces (call .numbers)); index = done-is n refl answer h (workAfter job work) work (call .index) }
 
-  pub measure-untold : length answer < 7 → MeasureTold F E G coords work answer 0 work answer
+  pub measure-untold : length answer < 7 → MeasureTold job work answer 0 work answer
   measure-untold h =
-      let n = measurePlaces (measureNumbers F E G coords (length work)) in
-      record { told = untold n refl answer h; index = kept n refl answer h (workAfter F E G coords work) work }
+      let n = measurePlaces (measureNumbers job (length work)) in
+      record { told = untold n refl answer h; index = kept n refl answer h (workAfter job work) work }
 
-  pub measure-told : {m : Measured} {work' answer' : List ℕ} → 7 ≤ length answer → MeasureCall F E G coords work m work' → answer' ≡ inFront (measurePlaces (measuredNumbers m)) answer
-      → MeasureTold F E G coords work answer 1 work' answer'
+  pub measure-told : {m : Measured} {work' answer' : List ℕ} → 7 ≤ length answer → MeasureCall job work m work' → answer' ≡ inFront (measurePlaces (measuredNumbers m)) answer
+      → MeasureTold job work answer 1 work' answer'
   measure-told h call e =
-      let n = measurePlaces (measureNumbers F E G coords (length work)) in
-      record { told = told n refl answer h e (ap measurePlaces (call .numbers)); index = done-is n refl answer h (workAfter F E G coords work) work (call .index) }
+      let n = measurePlaces (measureNumbers job (length work)) in
+      record { told = told n refl answer h e (ap measurePlaces (call .numbers)); index = done-is n refl answer h (workAfter job work) work (call .index) }
 
-  pub list-untold : {buffer : List ℕ} → length answer < 7 → ListTold F E G coords work buffer answer 0 work buffer answer
+  pub list-untold : {buffer : List ℕ} → length answer < 7 → ListTold job work buffer answer 0 work buffer answer
   list-untold {buffer} h =
-      let n = measurePlaces (listNumbers F E G coords (length work) (length buffer)) in
+      let n = measurePlaces (listNumbers job (length work) (length buffer)) in
       record {
         told = untold n refl answer h;
-        index = kept n refl answer h (workAfter F E G coords work) work;
-        listing = kept n refl answer h (listingAfter F E G coords (length work) buffer) buffer;
+        index = kept n refl answer h (workAfter job work) work;
+        listing = kept n refl answer h (listingAfter job (length work) buffer) buffer;
       }
 
-  pub list-told : {m : Measured} {buffer work' buffer' answer' : List ℕ} → 7 ≤ length answer → ListCall F E G coords work buffer m work' buffer'
-      → answer' ≡ inFront (measurePlaces (measuredNumbers m)) answer → ListTold F E G coords work buffer answer 1 work' buffer' answer'
+  pub list-told : {m : Measured} {buffer work' buffer' answer' : List ℕ} → 7 ≤ length answer → ListCall job work buffer m work' buffer'
+      → answer' ≡ inFront (measurePlaces (measuredNumbers m)) answer → ListTold job work buffer answer 1 work' buffer' answer'
   list-told {m} {buffer} h call e =
-      let n = measurePlaces (listNumbers F E G coords (length work) (length buffer)) in
+      let n = measurePlaces (listNumbers job (length work) (length buffer)) in
       record {
         told = told n refl answer h e (ap measurePlaces (call .numbers));
-        index = done-is n refl answer h (workAfter F E G coords work) work (call .index);
-        listing = done-is n refl answer h (listingAfter F E G coords (length work) buffer) buffer (call .listing);
+        index = done-is n refl answer h (workAfter job work) work (call .index);
+        listing = done-is n refl answer h (listingAfter job (length work) buffer) buffer (call .listing);
       }
 
-  pub credit-untold : {credits : List ℕ} → length answer < 2 → CreditTold F E G coords work credits answer 0 work credits answer
+  pub credit-untold : {credits : List ℕ} → length answer < 2 → CreditTold job work credits answer 0 work credits answer
   credit-untold {credits} h =
-      let n = creditTells F E G coords work credits in
+      let n = creditTells job work credits in
       record {
         told = untold n refl answer h;
-        index = kept n refl answer h (workAfter F E G coords work) work;
-        credited = kept n refl answer h (creditsAfter F E G coords (length work) credits) credits;
+        index = kept n refl answer h (workAfter job work) work;
+        credited = kept n refl answer h (creditsAfter job (length work) credits) credits;
       }
 
-  pub credit-told : {c : Checked} {credits work' credits' answer' : List ℕ} → 2 ≤ length answer → CreditCall F E G coords work credits c work' credits'
-      → answer' ≡ inFront (indexPlaces (checkedNumbers c)) answer → CreditTold F E G coords work credits answer 1 work' credits' answer'
+  pub credit-told : {c : Checked} {credits work' credits' answer' : List ℕ} → 2 ≤ length answer → CreditCall job work credits c work' credits'
+      → answer' ≡ inFront (indexPlaces (checkedNumbers c)) answer → CreditTold job work credits answer 1 work' credits' answer'
   credit-told {c} {credits} h call e =
-      let n = creditTells F E G coords work credits in
+      let n = creditTells job work credits in
       record {
         told = told n refl answer h e (ap indexPlaces (call .numbers));
-        index = done-is n refl answer h (workAfter F E G coords work) work (call .index);
-        credited = done-is n refl answer h (creditsAfter F E G coords (length work) credits) credits (call .credited);
+        index = done-is n refl answer h (workAfter job work) work (call .index);
+        credited = done-is n refl answer h (creditsAfter job (length work) credits) credits (call .credited);
       }
 
 -- the cover test
@@ -187,16 +187,16 @@ module _ {bytes coords : List ℕ} (answer : List ℕ) where
   pub vox-told : {a : ReadAnswer} {coords' answer' : List ℕ} → 6 ≤ length answer → VoxCall bytes coords a coords' → answer' ≡ inFront (readNumbers a) answer → VoxTold bytes coords answer 1 coords' answer'
   vox-told h call e = let (t, c) = file-told (voxIn (shotCount coords) bytes) coords answer h (call .numbers) (call .coordinates) e in record { told = t; coordinates = c }
 
-module _ {F E G : ℕ} {coords bytes : List ℕ} (answer : List ℕ) where
-  pub write-untold : length answer < 3 → WriteTold F E G coords bytes answer 0 bytes answer
+module _ {job : Job} {bytes : List ℕ} (answer : List ℕ) where
+  pub write-untold : length answer < 3 → WriteTold job bytes answer 0 bytes answer
   write-untold h =
-      let n = writeValues F E G coords (length bytes) in
-      let size = write-three F E G coords (length bytes) in
-      record { told = untold n size answer h; file = kept n size answer h (writeBytes F E G coords bytes) bytes }
+      let n = writeValues job (length bytes) in
+      let size = write-three job (length bytes) in
+      record { told = untold n size answer h; file = kept n size answer h (writeBytes job bytes) bytes }
 
-  pub write-told : {w : WriteAnswer} {bytes' answer' : List ℕ} → 3 ≤ length answer → WriteCall F E G coords bytes w bytes' → answer' ≡ inFront (writtenNumbers w) answer
-      → WriteTold F E G coords bytes answer 1 bytes' answer'
+  pub write-told : {w : WriteAnswer} {bytes' answer' : List ℕ} → 3 ≤ length answer → WriteCall job bytes w bytes' → answer' ≡ inFront (writtenNumbers w) answer
+      → WriteTold job bytes answer 1 bytes' answer'
   write-told h call e =
-      let n = writeValues F E G coords (length bytes) in
-      let size = write-three F E G coords (length bytes) in
-      record { told = told n size answer h e (call .numbers); file = done-is n size answer h (writeBytes F E G coords bytes) bytes (call .file) }
+      let n = writeValues job (length bytes) in
+      let size = write-three job (length bytes) in
+      record { told = told n size answer h e (call .numbers); file = done-is n size answer h (writeBytes job bytes) bytes (call .file) }

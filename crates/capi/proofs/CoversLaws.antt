@@ -6,16 +6,18 @@ use Prim.Native.Nat.{ℕ, _+_, _*_, _<_}
 use native.Mathlib.Omega.{arith}
 use Rattle.lattice.specs.Cells.{bit}
 use Rattle.lattice.specs.Shots.{cells}
-use Rattle.job.specs.Job.{shotsOf, Valid}
+use Rattle.job.specs.Job.{Job, shots, Valid}
 use Rattle.grid.specs.Grid.{Holds, between, holding}
 use Rattle.grid_runs.proofs.ReadLaws.{holds-run}
 use Rattle.grid_cover.specs.Cover.{firstCovering, lowestCovering}
 use Rattle.grid_cover.proofs.CoverRuns.{lowest-covers, holding-in, holding-names}
 use Rattle.capi.specs.Answered.{shotOf, coverPlaces, Told, CoversTold}
 
-module _ {F E G : ℕ} {coords work : List ℕ} (v : Valid F E G coords) (h : Holds F E G coords work) (i j k : ℕ) (hi : i < F) (hj : j < F) (hk : k < F) where
+module _ {job : Job} {work : List ℕ} (v : Valid job) (h : Holds job work) (i j k : ℕ) (hi : i < job.field) (hj : j < job.field) (hk : k < job.field) where
+  open Job job using (field as F, edge as E, grid as G, coords)
+
   pub told-lowest : {answer answer' : List ℕ} {r : ℕ} → CoversTold E coords (between work (G * G * G) (holding F G i j k) (holding F G i j k + 1)) i j k answer r answer'
-      → Told (bit (cells (shotsOf E coords) i j k) ∷ shotOf (lowestCovering E coords i j k) ∷ []) answer r answer'
+      → Told (bit (cells (shots job) i j k) ∷ shotOf (lowestCovering E coords i j k) ∷ []) answer r answer'
   told-lowest {answer} {answer'} {r} t =
-      let named = ap (λ run. firstCovering E coords run i j k) (holds-run F E G coords work h (holding F G i j k) (omega (arith, holding-in v i j k hi hj hk))) ∙ holding-names v i j k hi hj hk in
+      let named = ap (λ run. firstCovering E coords run i j k) (holds-run job work h (holding F G i j k) (omega (arith, holding-in v i j k hi hj hk))) ∙ holding-names v i j k hi hj hk in
       rw (← lowest-covers E coords i j k) (subst (λ o. Told (coverPlaces o) answer r answer') named (t .told))

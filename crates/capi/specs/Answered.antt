@@ -8,7 +8,7 @@ use Prim.Native.Nat.{ℕ}
 use lib.Dec.{leb}
 use lib.ListN.{length}
 use Rattle.lattice.specs.Cells.{bit}
-use Rattle.job.specs.Job.{shotCount}
+use Rattle.job.specs.Job.{Job, shotCount}
 use Rattle.job.specs.Refusals.{Numbers}
 use Rattle.job.specs.Checking.{firstNumbers}
 use Rattle.grid_cover.specs.Cover.{isSome, firstCovering}
@@ -59,17 +59,17 @@ abbrev pub ifTold : List ℕ → List ℕ → List ℕ → List ℕ → List ℕ
 ifTold numbers answer done kept = cond (fits numbers answer) done kept
 
 -- ---- the numbers that each call tells
-abbrev pub indexTells : ℕ → ℕ → ℕ → List ℕ → List ℕ → List ℕ
-indexTells F E G coords work = indexPlaces (firstNumbers (measureTests F E G coords (length work)))
+abbrev pub indexTells : Job → List ℕ → List ℕ
+indexTells job work = indexPlaces (firstNumbers (measureTests job (length work)))
 
-abbrev pub measureTells : ℕ → ℕ → ℕ → List ℕ → List ℕ → List ℕ
-measureTells F E G coords work = measurePlaces (measureNumbers F E G coords (length work))
+abbrev pub measureTells : Job → List ℕ → List ℕ
+measureTells job work = measurePlaces (measureNumbers job (length work))
 
-abbrev pub listTells : ℕ → ℕ → ℕ → List ℕ → List ℕ → List ℕ → List ℕ
-listTells F E G coords work buffer = measurePlaces (listNumbers F E G coords (length work) (length buffer))
+abbrev pub listTells : Job → List ℕ → List ℕ → List ℕ
+listTells job work buffer = measurePlaces (listNumbers job (length work) (length buffer))
 
-abbrev pub creditTells : ℕ → ℕ → ℕ → List ℕ → List ℕ → List ℕ → List ℕ
-creditTells F E G coords work credits = indexPlaces (firstNumbers (creditTests F E G coords (length work) (length credits)))
+abbrev pub creditTells : Job → List ℕ → List ℕ → List ℕ
+creditTells job work credits = indexPlaces (firstNumbers (creditTests job (length work) (length credits)))
 
 abbrev pub coversTells : ℕ → List ℕ → List ℕ → ℕ → ℕ → ℕ → List ℕ
 coversTells E coords run i j k = coverPlaces (firstCovering E coords run i j k)
@@ -80,31 +80,31 @@ readTells bytes coords = readValues (fileIn (shotCount coords) bytes)
 abbrev pub voxTells : List ℕ → List ℕ → List ℕ
 voxTells bytes coords = readValues (voxIn (shotCount coords) bytes)
 
-abbrev pub writeTells : ℕ → ℕ → ℕ → List ℕ → List ℕ → List ℕ
-writeTells F E G coords bytes = writeValues F E G coords (length bytes)
+abbrev pub writeTells : Job → List ℕ → List ℕ
+writeTells job bytes = writeValues job (length bytes)
 
 -- ---- the promises
 -- `heqdanu_index`
-pub record IndexTold (F E G : ℕ) (coords work answer : List ℕ) (r : ℕ) (work' answer' : List ℕ) : Type 0 where
-  pub told : Told (indexTells F E G coords work) answer r answer'
-  pub index : work' ≡ ifTold (indexTells F E G coords work) answer (workAfter F E G coords work) work
+pub record IndexTold (job : Job) (work answer : List ℕ) (r : ℕ) (work' answer' : List ℕ) : Type 0 where
+  pub told : Told (indexTells job work) answer r answer'
+  pub index : work' ≡ ifTold (indexTells job work) answer (workAfter job work) work
 
 -- `heqdanu_measure` and `heqdanu_recount`
-pub record MeasureTold (F E G : ℕ) (coords work answer : List ℕ) (r : ℕ) (work' answer' : List ℕ) : Type 0 where
-  pub told : Told (measureTells F E G coords work) answer r answer'
-  pub index : work' ≡ ifTold (measureTells F E G coords work) answer (workAfter F E G coords work) work
+pub record MeasureTold (job : Job) (work answer : List ℕ) (r : ℕ) (work' answer' : List ℕ) : Type 0 where
+  pub told : Told (measureTells job work) answer r answer'
+  pub index : work' ≡ ifTold (measureTells job work) answer (workAfter job work) work
 
 -- `heqdanu_list`
-pub record ListTold (F E G : ℕ) (coords work buffer answer : List ℕ) (r : ℕ) (work' buffer' answer' : List ℕ) : Type 0 where
-  pub told : Told (listTells F E G coords work buffer) answer r answer'
-  pub index : work' ≡ ifTold (listTells F E G coords work buffer) answer (workAfter F E G coords work) work
-  pub listing : buffer' ≡ ifTold (listTells F E G coords work buffer) answer (listingAfter F E G coords (length work) buffer) buffer
+pub record ListTold (job : Job) (work buffer answer : List ℕ) (r : ℕ) (work' buffer' answer' : List ℕ) : Type 0 where
+  pub told : Told (listTells job work buffer) answer r answer'
+  pub index : work' ≡ ifTold (listTells job work buffer) answer (workAfter job work) work
+  pub listing : buffer' ≡ ifTold (listTells job work buffer) answer (listingAfter job (length work) buffer) buffer
 
 -- `heqdanu_credit`
-pub record CreditTold (F E G : ℕ) (coords work credits answer : List ℕ) (r : ℕ) (work' credits' answer' : List ℕ) : Type 0 where
-  pub told : Told (creditTells F E G coords work credits) answer r answer'
-  pub index : work' ≡ ifTold (creditTells F E G coords work credits) answer (workAfter F E G coords work) work
-  pub credited : credits' ≡ ifTold (creditTells F E G coords work credits) answer (creditsAfter F E G coords (length work) credits) credits
+pub record CreditTold (job : Job) (work credits answer : List ℕ) (r : ℕ) (work' credits' answer' : List ℕ) : Type 0 where
+  pub told : Told (creditTells job work credits) answer r answer'
+  pub index : work' ≡ ifTold (creditTells job work credits) answer (workAfter job work) work
+  pub credited : credits' ≡ ifTold (creditTells job work credits) answer (creditsAfter job (length work) credits) credits
 
 -- `heqdanu_covers`
 pub record CoversTold (E : ℕ) (coords run : List ℕ) (i j k : ℕ) (answer : List ℕ) (r : ℕ) (answer' : List ℕ) : Type 0 where
@@ -121,6 +121,6 @@ pub record VoxTold (bytes coords answer : List ℕ) (r : ℕ) (coords' answer' :
   pub coordinates : coords' ≡ ifTold (voxTells bytes coords) answer (readCoords (voxIn (shotCount coords) bytes) coords) coords
 
 -- `heqdanu_write`
-pub record WriteTold (F E G : ℕ) (coords bytes answer : List ℕ) (r : ℕ) (bytes' answer' : List ℕ) : Type 0 where
-  pub told : Told (writeTells F E G coords bytes) answer r answer'
-  pub file : bytes' ≡ ifTold (writeTells F E G coords bytes) answer (writeBytes F E G coords bytes) bytes
+pub record WriteTold (job : Job) (bytes answer : List ℕ) (r : ℕ) (bytes' answer' : List ℕ) : Type 0 where
+  pub told : Told (writeTells job bytes) answer r answer'
+  pub file : bytes' ≡ ifTold (writeTells job bytes) answer (writeBytes job bytes) bytes

@@ -7,6 +7,7 @@ ghost use mathlib.Core.Path.{_≡_};
 ghost use mathlib.Core.List.{[], _∷_};
 ghost use Prim.Native.Nat.{_≤_};
 ghost use lib.ListN.{length};
+ghost use Rattle.job.specs.Job.{jobOf};
 ghost use Rattle.job.specs.Refusals.{checkedNumbers};
 ghost use Rattle.measure_intake.specs.Intake.{measuredNumbers};
 ghost use Rattle.buffer.specs.Wrote.{inFront};
@@ -176,7 +177,7 @@ pub extern "C" fn heqdanu_index(
     work: &mut [u32],
     answer: &mut [u64],
 ) -> u8
-    ensures { λ r. ⌜ IndexTold field edge grid (now (coords .entry)) (now (work .entry)) (now (answer .entry))
+    ensures { λ r. ⌜ IndexTold (jobOf field edge grid (now (coords .entry))) (now (work .entry)) (now (answer .entry))
         r (now (work .exit)) (now (answer .exit)) ⌝ }
 {
     if answer.len() < INDEX_ANSWER {
@@ -197,7 +198,7 @@ pub extern "C" fn heqdanu_measure(
     work: &mut [u32],
     answer: &mut [u64],
 ) -> u8
-    ensures { λ r. ⌜ MeasureTold field edge grid (now (coords .entry)) (now (work .entry)) (now (answer .entry))
+    ensures { λ r. ⌜ MeasureTold (jobOf field edge grid (now (coords .entry))) (now (work .entry)) (now (answer .entry))
         r (now (work .exit)) (now (answer .exit)) ⌝ }
 {
     if answer.len() < MEASURE_ANSWER {
@@ -219,7 +220,7 @@ pub extern "C" fn heqdanu_list(
     listing: &mut [u8],
     answer: &mut [u64],
 ) -> u8
-    ensures { λ r. ⌜ ListTold field edge grid (now (coords .entry)) (now (work .entry)) (now (listing .entry)) (now (answer .entry))
+    ensures { λ r. ⌜ ListTold (jobOf field edge grid (now (coords .entry))) (now (work .entry)) (now (listing .entry)) (now (answer .entry))
         r (now (work .exit)) (now (listing .exit)) (now (answer .exit)) ⌝ }
 {
     if answer.len() < MEASURE_ANSWER {
@@ -240,7 +241,7 @@ pub extern "C" fn heqdanu_recount(
     work: &mut [u32],
     answer: &mut [u64],
 ) -> u8
-    ensures { λ r. ⌜ MeasureTold field edge grid (now (coords .entry)) (now (work .entry)) (now (answer .entry))
+    ensures { λ r. ⌜ MeasureTold (jobOf field edge grid (now (coords .entry))) (now (work .entry)) (now (answer .entry))
         r (now (work .exit)) (now (answer .exit)) ⌝ }
 {
     if answer.len() < MEASURE_ANSWER {
@@ -262,7 +263,7 @@ pub extern "C" fn heqdanu_credit(
     credits: &mut [u32],
     answer: &mut [u64],
 ) -> u8
-    ensures { λ r. ⌜ CreditTold field edge grid (now (coords .entry)) (now (work .entry)) (now (credits .entry)) (now (answer .entry))
+    ensures { λ r. ⌜ CreditTold (jobOf field edge grid (now (coords .entry))) (now (work .entry)) (now (credits .entry)) (now (answer .entry))
         r (now (work .exit)) (now (credits .exit)) (now (answer .exit)) ⌝ }
 {
     if answer.len() < CREDIT_ANSWER {
@@ -332,7 +333,7 @@ pub extern "C" fn heqdanu_write(
     bytes: &mut [u8],
     answer: &mut [u64],
 ) -> u8
-    ensures { λ r. ⌜ WriteTold field edge grid (now (coords .entry)) (now (bytes .entry)) (now (answer .entry))
+    ensures { λ r. ⌜ WriteTold (jobOf field edge grid (now (coords .entry))) (now (bytes .entry)) (now (answer .entry))
         r (now (bytes .exit)) (now (answer .exit)) ⌝ }
 {
     if answer.len() < WRITE_ANSWER {

@@ -4,7 +4,7 @@ use mathlib.Core.List.{List, [], _∷_, _++_}
 use Prim.Native.Nat.{ℕ, _≤_, _<_}
 use native.Mathlib.Omega.{arith}
 use lib.ListN.{length, drop}
-use Rattle.job.specs.Job.{shotCount}
+use Rattle.job.specs.Job.{Job, shotCount}
 use Rattle.job.specs.declared.Refusal.{Refusal}
 use Rattle.job.specs.declared.Refusal.the-variants.{ShortCredits}
 use Rattle.job.specs.declared.Checked.{Checked}
@@ -14,34 +14,36 @@ use Rattle.job.proofs.OneMore.{too-short, long-enough}
 use Rattle.measure_intake.specs.Intake.{measureTests, measureChecked, sliceAfter, IndexCall}
 use Rattle.crediting.specs.Credits.{creditsOf, shortCredits, creditTests, creditChecked, creditsAfter, CreditCall}
 
-module _ {F E G : ℕ} {coords work work' : List ℕ} {c : Checked} (call : IndexCall F E G coords work c work') (credits : List ℕ) where
+module _ {job : Job} {work work' : List ℕ} {c : Checked} (call : IndexCall job work c work') (credits : List ℕ) where
+  open Job job using (coords)
+
   -- the credit slice after these checks
   left : Checked → List ℕ
-  left d = sliceAfter d credits (creditsOf F E coords ++ drop (shotCount coords) credits)
+  left d = sliceAfter d credits (creditsOf job ++ drop (shotCount coords) credits)
 
-  credit-is : {d : Checked} {credits' : List ℕ} → d ≡ creditChecked F E G coords (length work) (length credits) → credits' ≡ left d → CreditCall F E G coords work credits d work' credits'
+  credit-is : {d : Checked} {credits' : List ℕ} → d ≡ creditChecked job (length work) (length credits) → credits' ≡ left d → CreditCall job work credits d work' credits'
   unfolding creditsAfter left
   credit-is e k = record {
     answer = e;
-    numbers = checks (creditTests F E G coords (length work) (length credits)) e .numbers;
+    numbers = checks (creditTests job (length work) (length credits)) e .numbers;
     index = call .index;
     credited = k ∙ ap left e;
   }
 
   -- a list that the intake refuses
-  pub refused-credit : (r : Refusal) → c ≡ Refused r → CreditCall F E G coords work credits c work' credits
+  pub refused-credit : (r : Refusal) → c ≡ Refused r → CreditCall job work credits c work' credits
   unfolding creditTests left
   refused-credit r k =
-      credit-is (k ∙ sym (first-stopped (shortCredits coords (length credits) ∷ []) (measureTests F E G coords (length work)) (sym (call .answer) ∙ k))) (sym (ap left k))
+      credit-is (k ∙ sym (first-stopped (shortCredits coords (length credits) ∷ []) (measureTests job (length work)) (sym (call .answer) ∙ k))) (sym (ap left k))
 
   -- one that it accepts, and a credit slice that is too short or long enough
   module _ (accepted : c ≡ Accepted) {n : ℕ} (shots : n ≡ shotCount coords) where
-    pub short-credit : length credits < n → CreditCall F E G coords work credits (Refused (ShortCredits n)) work' credits
+    pub short-credit : length credits < n → CreditCall job work credits (Refused (ShortCredits n)) work' credits
     unfolding creditTests left
     short-credit h =
-        credit-is (ap (λ n. Refused (ShortCredits n)) shots ∙ sym (too-short (measureTests F E G coords (length work)) (length credits) (shotCount coords) (ShortCredits (shotCount coords)) (sym (call .answer) ∙ accepted) (omega (arith, shots)))) refl
+        credit-is (ap (λ n. Refused (ShortCredits n)) shots ∙ sym (too-short (measureTests job (length work)) (length credits) (shotCount coords) (ShortCredits (shotCount coords)) (sym (call .answer) ∙ accepted) (omega (arith, shots)))) refl
 
-    pub long-credit : n ≤ length credits → {credits' : List ℕ} → credits' ≡ creditsOf F E coords ++ drop (shotCount coords) credits → CreditCall F E G coords work credits Accepted work' credits'
+    pub long-credit : n ≤ length credits → {credits' : List ℕ} → credits' ≡ creditsOf job ++ drop (shotCount coords) credits → CreditCall job work credits Accepted work' credits'
     unfolding creditTests left
     long-credit h k =
-        credit-is (sym (long-enough (measureTests F E G coords (length work)) (length credits) (shotCount coords) (ShortCredits (shotCount coords)) (sym (call .answer) ∙ accepted) (omega (arith, shots)))) k
+        credit-is (sym (long-enough (measureTests job (length work)) (length credits) (shotCount coords) (ShortCredits (shotCount coords)) (sym (call .answer) ∙ accepted) (omega (arith, shots)))) k

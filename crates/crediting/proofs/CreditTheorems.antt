@@ -21,21 +21,21 @@ use Rattle.lattice.specs.Listing.{listing}
 use Rattle.lattice_sums.specs.CornerSums.{totalsOf}
 use Rattle.lattice_sums.specs.declared.sums.Totals.{Totals}
 use Rattle.lattice.proofs.Cases.{bool-ext}
-use Rattle.job.specs.Job.{shotCount, shotAt, Valid}
+use Rattle.job.specs.Job.{Job, jobOf, shot, shotCount, Valid}
 use Rattle.job.specs.declared.Refusal.the-variants.{ShortCredits}
 use Rattle.job.specs.declared.Checked.the-variants.{Accepted}
 use Rattle.job.proofs.Conditions.{valid-within}
 use Rattle.job.proofs.Shots.{any-at, at-any, stay-at, stay-all}
-use Rattle.job.proofs.OneMore.{more-accepted}
-use Rattle.grid.specs.Grid.{indexOf, need, Holds}
+use Rattle.grid.specs.Grid.{need, withIndex, Holds}
 use Rattle.grid.proofs.TotalLaws.{total-agree, total-swap}
 use Rattle.grid.proofs.NumberLaws.{singles-length, singles-at}
 use Rattle.grid_cover.specs.Cover.{isSome, names, lowestCovering}
 use Rattle.grid_cover.proofs.CoverRuns.{lowest-covers}
 use Rattle.grid_cover.proofs.LowestLaws.{lowest-shot, lowest-covering, lowest-least}
-use Rattle.measure_intake.specs.Intake.{solid, measureTests, measureChecked, sliceAfter, workAfter}
+use Rattle.measure_intake.specs.Intake.{solid, sliceAfter, workAfter, MeasureAccepts}
 use Rattle.measure_intake.specs.declared.Measured.the-variants.{Quote}
-use Rattle.measure_intake.proofs.Refused.{checks-accepted}
+use Rattle.measure_intake.proofs.Refused.{measure-decides}
+use Rattle.crediting.proofs.Refused.{credit-decides}
 use Rattle.measure.specs.Answers.{ListCall}
 use Rattle.measure.specs.Agreement.{SameCells, Among}
 use Rattle.measure.proofs.AcceptedLaws.{list-accepted}
@@ -64,12 +64,12 @@ one-named t (suc n) h = one (ltb t n) refl (one-named t n)
         rw (nothing n (λ s. bit (eqb t s)) (λ s l. ap bit (ne-eqb t s (λ same. omega (arith, same, l, last)))), eq-eqb t n last)
 
 -- a covered cell is credited to one shot, an uncovered one to none
-cell-named : (E : ℕ) (coords : List ℕ) (i j k : ℕ) → total (shotCount coords) (λ s. bit (creditedTo E coords s i j k)) ≡ bit (solid E coords i j k)
-cell-named E coords i j k = one (lowestCovering E coords i j k) refl ∙ ap bit (lowest-covers E coords i j k)
+cell-named : (job : Job) (i j k : ℕ) → total (shotCount job.coords) (λ s. bit (creditedTo job s i j k)) ≡ bit (solid job i j k)
+cell-named job i j k = one (lowestCovering job.edge job.coords i j k) refl ∙ ap bit (lowest-covers job.edge job.coords i j k)
   where
-    one : (o : Option ℕ) → lowestCovering E coords i j k ≡ o → total (shotCount coords) (λ s. bit (names (lowestCovering E coords i j k) s)) ≡ bit (isSome (lowestCovering E coords i j k))
-    one none e = rw e (nothing (shotCount coords) (λ s. 0) (λ s l. refl))
-    one (some t) e = rw e (one-named t (shotCount coords) (lowest-shot E coords i j k t e))
+    one : (o : Option ℕ) → lowestCovering job.edge job.coords i j k ≡ o → total (shotCount job.coords) (λ s. bit (names (lowestCovering job.edge job.coords i j k) s)) ≡ bit (isSome (lowestCovering job.edge job.coords i j k))
+    one none e = rw e (nothing (shotCount job.coords) (λ s. 0) (λ s l. refl))
+    one (some t) e = rw e (one-named t (shotCount job.coords) (lowest-shot job.edge job.coords i j k t e))
 
 -- ---- one shot
 
@@ -98,16 +98,16 @@ unfolding volume
 none-at-all F p h = nothing F _ λ i l. nothing F _ λ j m. nothing F _ λ k n. ap bit (h i j k)
 
 -- a shot whose cells earlier shots cover is the lowest covering shot of none
-hidden-credited : (F E : ℕ) (coords : List ℕ) (s : ℕ) → Hidden E coords s → creditOf F E coords s ≡ 0
+hidden-credited : (job : Job) (s : ℕ) → Hidden job s → creditOf job s ≡ 0
 unfolding creditOf
-hidden-credited F E coords s hidden = none-at-all F (creditedTo E coords s) λ i j k. one i j k (lowestCovering E coords i j k) refl
+hidden-credited job s hidden = none-at-all job.field (creditedTo job s) λ i j k. one i j k (lowestCovering job.edge job.coords i j k) refl
   where
-    one : (i j k : ℕ) (o : Option ℕ) → lowestCovering E coords i j k ≡ o → names o s ≡ false
+    one : (i j k : ℕ) (o : Option ℕ) → lowestCovering job.edge job.coords i j k ≡ o → names o s ≡ false
     one i j k none e = refl
     one i j k (some r) e = ne-eqb r s λ is.
-        let low : lowestCovering E coords i j k ≡ some s = e ∙ ap some is in
-        let h = hidden i j k (lowest-covering E coords i j k s low) in
-        true≢false (sym (h .2) ∙ lowest-least E coords i j k s low (h .0) (h .1))
+        let low : lowestCovering job.edge job.coords i j k ≡ some s = e ∙ ap some is in
+        let h = hidden i j k (lowest-covering job.edge job.coords i j k s low) in
+        true≢false (sym (h .2) ∙ lowest-least job.edge job.coords i j k s low (h .0) (h .1))
 
 is-true : (b : Bool) → T b → b ≡ true
 is-true true t = refl
@@ -119,90 +119,94 @@ truth false e = absurd (false≢true e)
 
 -- ---- the credits of an accepted list
 
-module _ {F E G : ℕ} {coords work credits work' credits' : List ℕ} (call : CreditCall F E G coords work credits Accepted work' credits') where
-  passed : (measureChecked F E G coords (length work) ≡ Accepted) × (shotCount coords ≤ length credits)
-  unfolding creditTests
-  passed = more-accepted (measureTests F E G coords (length work)) (length credits) (shotCount coords) (ShortCredits (shotCount coords)) .0 (sym (call .answer))
+module _ {job : Job} {work credits work' credits' : List ℕ} (call : CreditCall job work credits Accepted work' credits') where
+  open Job job using (field as F, edge as E, grid as G, coords)
 
-  pub credit-valid : Valid F E G coords
-  credit-valid = checks-accepted F E G coords (length work) .0 (passed .0) .0
+  passed : MeasureAccepts job (length work)
+  passed = credit-decides job (length work) (length credits) .accepted .0 (sym (call .answer)) .0
+
+  pub credit-valid : Valid job
+  credit-valid = passed .0
 
   -- the work slice holds the index
-  pub credit-holds : Holds F E G coords work'
+  pub credit-holds : Holds job work'
   unfolding workAfter
   credit-holds = record {
-    rest = drop (need F E G coords) work;
-    is = call .index ∙ ap (λ c. sliceAfter c work (indexOf F E G coords ++ drop (need F E G coords) work)) (passed .0);
+    rest = drop (need job) work;
+    is = call .index ∙ ap (λ c. sliceAfter c work (withIndex job work)) (measure-decides job (length work) .accepted .1 passed);
   }
 
-  pub credits-are : credits' ≡ creditsOf F E coords ++ drop (shotCount coords) credits
+  pub credits-are : credits' ≡ creditsOf job ++ drop (shotCount coords) credits
   unfolding creditsAfter
-  credits-are = call .credited ∙ ap (λ c. sliceAfter c credits (creditsOf F E coords ++ drop (shotCount coords) credits)) (sym (call .answer))
+  credits-are = call .credited ∙ ap (λ c. sliceAfter c credits (creditsOf job ++ drop (shotCount coords) credits)) (sym (call .answer))
 
   -- a place for each shot has its credit, and later places keep their values
-  pub credit-at : (s : ℕ) → s < shotCount coords → getD credits' s 0 ≡ creditOf F E coords s
+  pub credit-at : (s : ℕ) → s < shotCount coords → getD credits' s 0 ≡ creditOf job s
   unfolding creditsOf
   credit-at s h =
       ap (λ (l : List ℕ). getD l s 0) credits-are
-      ∙ (List·getD-append (creditsOf F E coords) (drop (shotCount coords) credits) 0 s (omega (arith, h, singles-length (creditOf F E coords) (shotCount coords)))
-      ∙ singles-at (creditOf F E coords) (shotCount coords) s h)
+      ∙ (List·getD-append (creditsOf job) (drop (shotCount coords) credits) 0 s (omega (arith, h, singles-length (creditOf job) (shotCount coords)))
+      ∙ singles-at (creditOf job) (shotCount coords) s h)
 
   pub credits-kept : drop (shotCount coords) credits' ≡ drop (shotCount coords) credits
   unfolding creditsOf
-  credits-kept = ap (drop (shotCount coords)) credits-are ∙ drop-at (creditsOf F E coords) (drop (shotCount coords) credits) (shotCount coords) (singles-length (creditOf F E coords) (shotCount coords))
+  credits-kept = ap (drop (shotCount coords)) credits-are ∙ drop-at (creditsOf job) (drop (shotCount coords) credits) (shotCount coords) (singles-length (creditOf job) (shotCount coords))
 
   -- they sum to the volume
-  pub credits-sum : total (shotCount coords) (λ s. getD credits' s 0) ≡ volume F (solid E coords)
+  pub credits-sum : total (shotCount coords) (λ s. getD credits' s 0) ≡ volume F (solid job)
   unfolding creditOf volume
   credits-sum =
       total-agree n _ _ credit-at
-      ∙ (total-swap n F (λ s i. total F (λ j. total F (λ k. bit (creditedTo E coords s i j k))))
-      ∙ total-agree F _ _ (λ i hi. total-swap n F (λ s j. total F (λ k. bit (creditedTo E coords s i j k)))
-      ∙ total-agree F _ _ (λ j hj. total-swap n F (λ s k. bit (creditedTo E coords s i j k))
-      ∙ total-agree F _ _ (λ k hk. cell-named E coords i j k))))
+      ∙ (total-swap n F (λ s i. total F (λ j. total F (λ k. bit (creditedTo job s i j k))))
+      ∙ total-agree F _ _ (λ i hi. total-swap n F (λ s j. total F (λ k. bit (creditedTo job s i j k)))
+      ∙ total-agree F _ _ (λ j hj. total-swap n F (λ s k. bit (creditedTo job s i j k))
+      ∙ total-agree F _ _ (λ k hk. cell-named job i j k))))
     where
       n : ℕ
       n = shotCount coords
 
   -- a shot whose cells earlier shots cover has none, so a repeat of an earlier shot has none
-  pub hidden-none : (s : ℕ) → s < shotCount coords → Hidden E coords s → getD credits' s 0 ≡ 0
-  hidden-none s h hidden = credit-at s h ∙ hidden-credited F E coords s hidden
+  pub hidden-none : (s : ℕ) → s < shotCount coords → Hidden job s → getD credits' s 0 ≡ 0
+  hidden-none s h hidden = credit-at s h ∙ hidden-credited job s hidden
 
-  pub repeat-none : (s t : ℕ) → s < shotCount coords → t < s → shotAt E coords t ≡ shotAt E coords s → getD credits' s 0 ≡ 0
+  pub repeat-none : (s t : ℕ) → s < shotCount coords → t < s → shot job t ≡ shot job s → getD credits' s 0 ≡ 0
   repeat-none s t h l same = hidden-none s h λ i j k c. (t, l, ap (λ u. covers u i j k) same ∙ c)
 
   -- ---- leaving shots out: a list of shots of this one that has each with credit covers the same cells
-  module _ {others : List ℕ} (keeps : KeepsCredited E credits' coords others) where
+  module _ {others : List ℕ} (keeps : KeepsCredited credits' job (jobOf F E G others)) where
+    abbrev kept : Job
+    kept = jobOf F E G others
+
     -- the lowest covering shot of a cell has credit
-    has-credit : (i j k s : ℕ) → T (solid E coords i j k) → lowestCovering E coords i j k ≡ some s → getD credits' s 0 ≡ 0 → ⊥
+    has-credit : (i j k s : ℕ) → T (solid job i j k) → lowestCovering E coords i j k ≡ some s → getD credits' s 0 ≡ 0 → ⊥
     unfolding creditOf
     has-credit i j k s t e zero-credit =
         let h : s < shotCount coords = lowest-shot E coords i j k s e in
         let in-field = valid-within credit-valid i j k t in
         true≢false
         (sym (ap (λ o. names o s) e ∙ eq-eqb s s refl)
-        ∙ none-in-field F (creditedTo E coords s) (sym (credit-at s h) ∙ zero-credit) i j k (in-field .0) (in-field .1) (in-field .2))
+        ∙ none-in-field F (creditedTo job s) (sym (credit-at s h) ∙ zero-credit) i j k (in-field .0) (in-field .1) (in-field .2))
 
-    kept-covers : (i j k : ℕ) → T (solid E coords i j k) → T (solid E others i j k)
+    kept-covers : (i j k : ℕ) → T (solid job i j k) → T (solid kept i j k)
     kept-covers i j k t = one (lowestCovering E coords i j k) refl
       where
-        one : (o : Option ℕ) → lowestCovering E coords i j k ≡ o → T (solid E others i j k)
-        one none e = absurd (true≢false (sym (is-true (solid E coords i j k) t) ∙ (sym (lowest-covers E coords i j k) ∙ ap isSome e)))
+        one : (o : Option ℕ) → lowestCovering E coords i j k ≡ o → T (solid kept i j k)
+        one none e = absurd (true≢false (sym (is-true (solid job i j k) t) ∙ (sym (lowest-covers E coords i j k) ∙ ap isSome e)))
         one (some s) e =
             let m = keeps .credited s (lowest-shot E coords i j k s e) (has-credit i j k s t e) in
-            at-any E (λ t. covers t i j k) others (m .0) (m .1) (subst (λ (t : Shot). T (covers t i j k)) (m .2) (truth (covers (shotAt E coords s) i j k) (lowest-covering E coords i j k s e)))
+            at-any E (λ t. covers t i j k) others (m .0) (m .1) (subst (λ (t : Shot). T (covers t i j k)) (m .2) (truth (covers (shot job s) i j k) (lowest-covering E coords i j k s e)))
 
-    covers-kept : (i j k : ℕ) → T (solid E others i j k) → T (solid E coords i j k)
+    covers-kept : (i j k : ℕ) → T (solid kept i j k) → T (solid job i j k)
     covers-kept i j k t =
         let r = any-at E (λ t. covers t i j k) others t in
         let m = keeps .from-first (r .0) (r .1) in
         at-any E (λ t. covers t i j k) coords (m .0) (m .1) (subst (λ (t : Shot). T (covers t i j k)) (m .2) (r .2))
 
-    pub kept-cells : SameCells (solid E coords) (solid E others)
-    kept-cells i j k = bool-ext (solid E coords i j k) (solid E others i j k) (kept-covers i j k) (covers-kept i j k)
+    pub kept-cells : SameCells (solid job) (solid kept)
+    kept-cells i j k = bool-ext (solid job i j k) (solid kept i j k) (kept-covers i j k) (covers-kept i j k)
 
     -- and is valid, if its numbers are whole shots and not too many
-    pub kept-valid : length others % 3 ≡ 0 → shotCount others ≤ 4096 → Valid F E G others
+    pub kept-valid : length others % 3 ≡ 0 → shotCount others ≤ 4096 → Valid kept
     kept-valid whole few =
         let v = credit-valid in
         record {
@@ -220,12 +224,12 @@ module _ {F E G : ℕ} {coords work credits work' credits' : List ℕ} (call : C
               subst (λ (t : Shot). InField F t) (sym (m .2)) (stay-at F E coords (v .inside) (m .0) (m .1));
         }
 
-    same-solid : solid E coords ≡ solid E others
+    same-solid : solid job ≡ solid kept
     same-solid = fun-ext λ i. fun-ext λ j. fun-ext λ k. kept-cells i j k
 
     -- so they have the same totals and the same listing, whatever the grids
-    module _ {G₁ : ℕ} {work₁ buffer₁ work₁' buffer₁' : List ℕ} {t₁ : Totals} (one : ListCall F E G₁ coords work₁ buffer₁ (Quote t₁) work₁' buffer₁')
-        {G₂ : ℕ} {work₂ buffer₂ work₂' buffer₂' : List ℕ} {t₂ : Totals} (two : ListCall F E G₂ others work₂ buffer₂ (Quote t₂) work₂' buffer₂') where
+    module _ {G₁ : ℕ} {work₁ buffer₁ work₁' buffer₁' : List ℕ} {t₁ : Totals} (one : ListCall (jobOf F E G₁ coords) work₁ buffer₁ (Quote t₁) work₁' buffer₁')
+        {G₂ : ℕ} {work₂ buffer₂ work₂' buffer₂' : List ℕ} {t₂ : Totals} (two : ListCall (jobOf F E G₂ others) work₂ buffer₂ (Quote t₂) work₂' buffer₂') where
       pub kept-totals : t₁ ≡ t₂
       kept-totals = list-accepted one .totals-are ∙ ap (λ s. totalsOf F s) same-solid ∙ sym (list-accepted two .totals-are)
 
@@ -234,16 +238,17 @@ module _ {F E G : ℕ} {coords work credits work' credits' : List ℕ} (call : C
 
 -- ---- two lists in one field
 
-module _ {F E G : ℕ} {coords work credits work' credits' : List ℕ} (one : CreditCall F E G coords work credits Accepted work' credits')
-    {G₂ : ℕ} {coords₂ work₂ credits₂ work₂' credits₂' : List ℕ} (two : CreditCall F E G₂ coords₂ work₂ credits₂ Accepted work₂' credits₂') where
+module _ {job : Job} {work credits work' credits' : List ℕ} (one : CreditCall job work credits Accepted work' credits')
+    {job₂ : Job} {work₂ credits₂ work₂' credits₂' : List ℕ} (two : CreditCall job₂ work₂ credits₂ Accepted work₂' credits₂') where
   -- another order, or other repeats: each has every shot of the other
-  pub reordered-sum : Among E coords coords₂ → Among E coords₂ coords → total (shotCount coords) (λ s. getD credits' s 0) ≡ total (shotCount coords₂) (λ s. getD credits₂' s 0)
-  reordered-sum h h₂ =
-      let same = same-shots E coords coords₂ h h₂ in
-      credits-sum one ∙ ap (volume F) (fun-ext λ i. fun-ext λ j. fun-ext λ k. same i j k) ∙ sym (credits-sum two)
+  pub reordered-sum : job.field ≡ job₂.field → Among job job₂ → Among job₂ job → total (shotCount job.coords) (λ s. getD credits' s 0) ≡ total (shotCount job₂.coords) (λ s. getD credits₂' s 0)
+  reordered-sum f h h₂ =
+      let same = same-shots job job₂ h h₂ in
+      credits-sum one ∙ ap (volume job.field) (fun-ext λ i. fun-ext λ j. fun-ext λ k. same i j k) ∙ ap (λ n. volume n (solid job₂)) f ∙ sym (credits-sum two)
 
 -- the grid does not matter
-module _ {F E : ℕ} {coords : List ℕ} {G : ℕ} {work credits work' credits' : List ℕ} (one : CreditCall F E G coords work credits Accepted work' credits')
-    {G₂ : ℕ} {work₂ credits₂ work₂' credits₂' : List ℕ} (two : CreditCall F E G₂ coords work₂ credits₂ Accepted work₂' credits₂') where
+module _ {F E G G₂ : ℕ} {coords work credits work' credits' : List ℕ} (one : CreditCall (jobOf F E G coords) work credits Accepted work' credits')
+    {work₂ credits₂ work₂' credits₂' : List ℕ} (two : CreditCall (jobOf F E G₂ coords) work₂ credits₂ Accepted work₂' credits₂') where
   pub credits-any-grid : (s : ℕ) → s < shotCount coords → getD credits' s 0 ≡ getD credits₂' s 0
+  unfolding creditOf
   credits-any-grid s h = credit-at one s h ∙ sym (credit-at two s h)

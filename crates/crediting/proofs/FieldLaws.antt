@@ -13,7 +13,7 @@ use lib.Dec.{ltb}
 use borrow.Author.Tests.{ltb-true, ltb-false}
 use Rattle.lattice.specs.Sums.{total, join}
 use Rattle.lattice.specs.Cells.{Cells, bit, volume}
-use Rattle.job.specs.Job.{shotCount, Valid}
+use Rattle.job.specs.Job.{Job, shotCount, Valid}
 use Rattle.grid.specs.Grid.{runOf}
 use Rattle.grid.proofs.TotalLaws.{total-agree, total-most, total-up, total-front, total-swap, total-digits}
 use Rattle.lattice.proofs.JoinLaws.{join-ext}
@@ -88,7 +88,9 @@ interval-in G s g h k = omega (arith, mul-le-mul-right {m = g + 1} {n = G} s (om
 -- ---- the field
 
 -- what is counted in the blocks of all grid cells is counted in the field
-module _ {F E G : ℕ} {coords : List ℕ} (v : Valid F E G coords) where
+module _ {job : Job} (v : Valid job) where
+  open Job job using (field as F, edge as E, grid as G, coords)
+
   pub blocks-fill : (p : Cells) → total (G * G * G) (λ cell. countIn (blockOf F G cell) p) ≡ volume F p
   unfolding countIn volume
   blocks-fill p =
@@ -123,23 +125,23 @@ module _ {F E G : ℕ} {coords : List ℕ} (v : Valid F E G coords) where
     near : (g i : ℕ) → InSpan (intervalOf (F / G) g) i → Near (F / G) g i
     near g i l = record { low = omega (arith, l .low); high = omega (arith, l .high) }
 
-    run-lowest : (i j k : ℕ) → InBlock (blockOf F G cell) i j k → firstCovering E coords (runOf F E G coords cell) i j k ≡ lowestCovering E coords i j k
+    run-lowest : (i j k : ℕ) → InBlock (blockOf F G cell) i j k → firstCovering E coords (runOf job cell) i j k ≡ lowestCovering E coords i j k
     run-lowest i j k l =
-        ap (λ (n : ℕ). firstCovering E coords (runOf F E G coords n) i j k) (sym (digits G cell (v .grid-least)))
-        ∙ run-names F E G coords (cell / G / G) (cell / G % G) (cell % G) (digit-y G cell (v .grid-least)) (digit-z G cell (v .grid-least)) i j k (near (cell / G / G) i (l .x)) (near (cell / G % G) j (l .y)) (near (cell % G) k (l .z))
+        ap (λ (n : ℕ). firstCovering E coords (runOf job n) i j k) (sym (digits G cell (v .grid-least)))
+        ∙ run-names job (cell / G / G) (cell / G % G) (cell % G) (digit-y G cell (v .grid-least)) (digit-z G cell (v .grid-least)) i j k (near (cell / G / G) i (l .x)) (near (cell / G % G) j (l .y)) (near (cell % G) k (l .z))
 
-    run-credits : (s : ℕ) → creditsIn E coords (runOf F E G coords cell) (blockOf F G cell) s ≡ cellCredits F E G coords cell s
+    run-credits : (s : ℕ) → creditsIn E coords (runOf job cell) (blockOf F G cell) s ≡ cellCredits job cell s
     unfolding creditsIn cellCredits
     run-credits s = count-agree (blockOf F G cell) _ _ λ i j k l. ap (λ o. names o s) (run-lowest i j k l)
 
-    pub cell-credited : {run : List ℕ} → run ≡ runOf F E G coords cell → {b : Block} → b ≡ blockOf F G cell → (l : List ℕ) {m : List ℕ} → m ≡ added l (creditsIn E coords run b) → m ≡ added l (cellCredits F E G coords cell)
-    cell-credited r-is b-is l e = e ∙ rw (r-is, b-is) (added-agree l _ (cellCredits F E G coords cell) run-credits)
+    pub cell-credited : {run : List ℕ} → run ≡ runOf job cell → {b : Block} → b ≡ blockOf F G cell → (l : List ℕ) {m : List ℕ} → m ≡ added l (creditsIn E coords run b) → m ≡ added l (cellCredits job cell)
+    cell-credited r-is b-is l e = e ∙ rw (r-is, b-is) (added-agree l _ (cellCredits job cell) run-credits)
 
 -- ---- grid cell by grid cell, from 0 at every place
 
 -- the credits of the first grid cells
-abbrev pub creditsTo : ℕ → ℕ → ℕ → List ℕ → ℕ → ℕ → ℕ
-creditsTo F E G coords cells s = total cells λ cell. cellCredits F E G coords cell s
+abbrev pub creditsTo : Job → ℕ → ℕ → ℕ
+creditsTo job cells s = total cells λ cell. cellCredits job cell s
 
 none-at : (n s : ℕ) → getD {A = ℕ} (replicate n 0) s 0 ≡ 0
 none-at n s = one (ltb s n) refl
@@ -159,30 +161,32 @@ clear-all l₀ i h k e =
     let all : i ≡ length l₀ = omega arith in
     e ∙ rw (all, drop-length l₀) (append-nil (replicate (length l₀) 0))
 
-module _ {F E G : ℕ} {coords : List ℕ} (v : Valid F E G coords) (n : ℕ) where
-  pub cells-long : (cell : ℕ) {l : List ℕ} → l ≡ added (replicate n 0) (creditsTo F E G coords cell) → length l ≡ n
-  cells-long cell e = added-keeps (replicate n 0) (creditsTo F E G coords cell) e ∙ length-replicate n 0
+module _ {job : Job} (v : Valid job) (n : ℕ) where
+  open Job job using (field as F, grid as G, coords)
 
-  pub cells-none : replicate n 0 ≡ added (replicate n 0) (creditsTo F E G coords 0)
+  pub cells-long : (cell : ℕ) {l : List ℕ} → l ≡ added (replicate n 0) (creditsTo job cell) → length l ≡ n
+  cells-long cell e = added-keeps (replicate n 0) (creditsTo job cell) e ∙ length-replicate n 0
+
+  pub cells-none : replicate n 0 ≡ added (replicate n 0) (creditsTo job 0)
   unfolding total
   cells-none = added-none (replicate n 0) _ λ s. refl
 
-  pub cells-next : (cell : ℕ) (l m : List ℕ) → l ≡ added (replicate n 0) (creditsTo F E G coords cell) → m ≡ added l (cellCredits F E G coords cell) → m ≡ added (replicate n 0) (creditsTo F E G coords (cell + 1))
+  pub cells-next : (cell : ℕ) (l m : List ℕ) → l ≡ added (replicate n 0) (creditsTo job cell) → m ≡ added l (cellCredits job cell) → m ≡ added (replicate n 0) (creditsTo job (cell + 1))
   unfolding total
   cells-next cell l m e k = rw (k, e, add-one cell) (added-more (replicate n 0) _ _)
 
   -- the credits so far and all cells of the next block are not more than the field has
-  credits-few : (cell : ℕ) → cell < G * G * G → (s : ℕ) → creditsTo F E G coords cell s + sizeOf (blockOf F G cell) ≤ 1073741824
+  credits-few : (cell : ℕ) → cell < G * G * G → (s : ℕ) → creditsTo job cell s + sizeOf (blockOf F G cell) ≤ 1073741824
   unfolding cellCredits total
   credits-few cell h s =
       let all : suc cell + (G * G * G - suc cell) ≡ G * G * G = omega arith in
-      omega (arith, total-up cell _ _ (λ c. count-most (blockOf F G c) (creditedTo E coords s)), rw all at (total-front (λ c. sizeOf (blockOf F G c)) (suc cell) (G * G * G - suc cell)), blocks-fill v (λ i j k. true), field-few v (λ i j k. true))
+      omega (arith, total-up cell _ _ (λ c. count-most (blockOf F G c) (creditedTo job s)), rw all at (total-front (λ c. sizeOf (blockOf F G c)) (suc cell) (G * G * G - suc cell)), blocks-fill v (λ i j k. true), field-few v (λ i j k. true))
 
-  pub cell-room : (cell : ℕ) → cell < G * G * G → (l : List ℕ) → l ≡ added (replicate n 0) (creditsTo F E G coords cell) → RoomFor (sizeOf (blockOf F G cell)) l
+  pub cell-room : (cell : ℕ) → cell < G * G * G → (l : List ℕ) → l ≡ added (replicate n 0) (creditsTo job cell) → RoomFor (sizeOf (blockOf F G cell)) l
   cell-room cell h l e =
-      rw e (room-added 1073741824 (sizeOf (blockOf F G cell)) (replicate n 0) (creditsTo F E G coords cell) (credits-few cell h) (record { at = λ s. omega (arith, none-at n s) }))
+      rw e (room-added 1073741824 (sizeOf (blockOf F G cell)) (replicate n 0) (creditsTo job cell) (credits-few cell h) (record { at = λ s. omega (arith, none-at n s) }))
 
-  pub cells-all : n ≡ shotCount coords → (l : List ℕ) → l ≡ added (replicate n 0) (creditsTo F E G coords (G * G * G)) → l ≡ creditsOf F E coords
+  pub cells-all : n ≡ shotCount coords → (l : List ℕ) → l ≡ added (replicate n 0) (creditsTo job (G * G * G)) → l ≡ creditsOf job
   unfolding added creditsOf creditOf cellCredits
   cells-all is l e =
-      e ∙ rw (length-replicate {A = ℕ} n 0, is) (join-ext (shotCount coords) λ s. ap (λ (c : ℕ). c ∷ []) (rw (none-at (shotCount coords) s) (zero-add _ ∙ blocks-fill v (creditedTo E coords s))))
+      e ∙ rw (length-replicate {A = ℕ} n 0, is) (join-ext (shotCount coords) λ s. ap (λ (c : ℕ). c ∷ []) (rw (none-at (shotCount coords) s) (zero-add _ ∙ blocks-fill v (creditedTo job s))))

@@ -8,7 +8,7 @@ use lib.Dec.{ltb}
 use lib.ListN.{length, drop}
 use Rattle.lattice.specs.Sums.{join}
 use Rattle.lattice.specs.Cells.{Cells, volume}
-use Rattle.job.specs.Job.{shotCount}
+use Rattle.job.specs.Job.{Job, shotCount}
 use Rattle.job.specs.Refusals.{checkedNumbers}
 use Rattle.job.specs.Checking.{Test, firstOf, firstNumbers}
 use Rattle.job.specs.declared.Refusal.{Refusal}
@@ -19,16 +19,16 @@ use Rattle.measure_intake.specs.Intake.{measureTests, sliceAfter, workAfter, Me
 
 -- ---- credits
 -- the cells of which shot s is the lowest covering shot
-abbrev pub creditedTo : ℕ → List ℕ → ℕ → Cells
-creditedTo E coords s i j k = names (lowestCovering E coords i j k) s
+abbrev pub creditedTo : Job → ℕ → Cells
+creditedTo job s i j k = names (lowestCovering job.edge job.coords i j k) s
 
 -- how many of them there are in the field: the shot's credit
-unfoldable pub creditOf : ℕ → ℕ → List ℕ → ℕ → ℕ
-creditOf F E coords s = volume F (creditedTo E coords s)
+unfoldable pub creditOf : Job → ℕ → ℕ
+creditOf job s = volume job.field (creditedTo job s)
 
 -- the credits of all shots, in the order of the list
-unfoldable pub creditsOf : ℕ → ℕ → List ℕ → List ℕ
-creditsOf F E coords = join (shotCount coords) λ s. creditOf F E coords s ∷ []
+unfoldable pub creditsOf : Job → List ℕ
+creditsOf job = join (shotCount job.coords) λ s. creditOf job s ∷ []
 
 -- ---- the checks
 -- refusal 16: a credit slice of so many places has fewer than there are shots
@@ -36,31 +36,31 @@ abbrev pub shortCredits : List ℕ → ℕ → Test
 shortCredits coords places = record { holds = ltb places (shotCount coords); gives = ShortCredits (shotCount coords) }
 
 -- the tests of crediting: those of measuring, and then 16
-unfoldable pub creditTests : ℕ → ℕ → ℕ → List ℕ → ℕ → ℕ → List Test
-creditTests F E G coords entries places = measureTests F E G coords entries ++ shortCredits coords places ∷ []
+unfoldable pub creditTests : Job → ℕ → ℕ → List Test
+creditTests job entries places = measureTests job entries ++ shortCredits job.coords places ∷ []
 
-abbrev pub creditChecked : ℕ → ℕ → ℕ → List ℕ → ℕ → ℕ → Checked
-creditChecked F E G coords entries places = firstOf (creditTests F E G coords entries places)
+abbrev pub creditChecked : Job → ℕ → ℕ → Checked
+creditChecked job entries places = firstOf (creditTests job entries places)
 
 -- ---- what is left
 -- the credits, and the places past the shots as they were
-unfoldable pub creditsAfter : ℕ → ℕ → ℕ → List ℕ → ℕ → List ℕ → List ℕ
-creditsAfter F E G coords entries credits =
-    sliceAfter (creditChecked F E G coords entries (length credits)) credits (creditsOf F E coords ++ drop (shotCount coords) credits)
+unfoldable pub creditsAfter : Job → ℕ → List ℕ → List ℕ
+creditsAfter job entries credits =
+    sliceAfter (creditChecked job entries (length credits)) credits (creditsOf job ++ drop (shotCount job.coords) credits)
 
 -- ---- the promise
-pub record CreditCall (F E G : ℕ) (coords work credits : List ℕ) (r : Checked) (work' credits' : List ℕ) : Type 0 where
-  pub answer : r ≡ creditChecked F E G coords (length work) (length credits)
-  pub numbers : checkedNumbers r ≡ firstNumbers (creditTests F E G coords (length work) (length credits))
-  pub index : work' ≡ workAfter F E G coords work
-  pub credited : credits' ≡ creditsAfter F E G coords (length work) credits
+pub record CreditCall (job : Job) (work credits : List ℕ) (r : Checked) (work' credits' : List ℕ) : Type 0 where
+  pub answer : r ≡ creditChecked job (length work) (length credits)
+  pub numbers : checkedNumbers r ≡ firstNumbers (creditTests job (length work) (length credits))
+  pub index : work' ≡ workAfter job work
+  pub credited : credits' ≡ creditsAfter job (length work) credits
 
 -- ---- when a list is accepted, and when it is refused
-abbrev pub CreditAccepts : ℕ → ℕ → ℕ → List ℕ → ℕ → ℕ → Type 0
-CreditAccepts F E G coords entries places = MeasureAccepts F E G coords entries × (shotCount coords ≤ places)
+abbrev pub CreditAccepts : Job → ℕ → ℕ → Type 0
+CreditAccepts job entries places = MeasureAccepts job entries × (shotCount job.coords ≤ places)
 
 -- as measuring does; by 16 if measuring accepts and the credit slice is short
-abbrev pub CreditRefuses : ℕ → ℕ → ℕ → List ℕ → ℕ → ℕ → Refusal → Type 0
-CreditRefuses F E G coords entries places r =
-    MeasureRefuses F E G coords entries r
-    ⊎ (MeasureAccepts F E G coords entries × (places < shotCount coords) × (ShortCredits (shotCount coords) ≡ r))
+abbrev pub CreditRefuses : Job → ℕ → ℕ → Refusal → Type 0
+CreditRefuses job entries places r =
+    MeasureRefuses job entries r
+    ⊎ (MeasureAccepts job entries × (places < shotCount job.coords) × (ShortCredits (shotCount job.coords) ≡ r))

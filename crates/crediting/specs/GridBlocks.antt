@@ -1,6 +1,7 @@
 -- The field grid cell by grid cell, as blocks of unit cells: the words of the functions that credit them.
 use mathlib.Core.List.{List}
 use Prim.Native.Nat.{ℕ, _+_, _*_, _/_, _%_}
+use Rattle.job.specs.Job.{Job}
 use Rattle.crediting_carving.specs.Blocks.{countIn}
 use Rattle.crediting_carving.specs.declared.blocks.Span.{Span}
 use Rattle.crediting_carving.specs.declared.blocks.Block.{Block}
@@ -15,5 +16,5 @@ blockOf F G cell =
     record { x = intervalOf (F / G) (cell / G / G); y = intervalOf (F / G) (cell / G % G); z = intervalOf (F / G) (cell % G) }
 
 -- of how many unit cells of a grid cell shot s is the lowest covering shot
-unfoldable pub cellCredits : ℕ → ℕ → ℕ → List ℕ → ℕ → ℕ → ℕ
-cellCredits F E G coords cell s = countIn (blockOf F G cell) (creditedTo E coords s)
+unfoldable pub cellCredits : Job → ℕ → ℕ → ℕ
+cellCredits job cell s = countIn (blockOf job.field job.grid cell) (creditedTo job s)

@@ -7,7 +7,7 @@ ghost use mathlib.Core.Path.{_≡_};
 ghost use mathlib.Core.List.{_++_};
 ghost use Prim.Native.Nat.{_+_, _*_, _/_, _≤_, _<_};
 ghost use lib.ListN.{length, drop, replicate};
-ghost use Rattle.job.specs.Job.{shotCount, Valid};
+ghost use Rattle.job.specs.Job.{jobOf, shotCount, Valid};
 ghost use Rattle.grid.specs.Grid.{Holds};
 ghost use Rattle.crediting_carving.specs.Blocks.{added, sizeOf, RoomFor};
 ghost use Rattle.crediting.specs.Credits.{creditsOf, CreditCall};
@@ -62,12 +62,12 @@ fn credit_cell(
     cell: usize,
     credits: &mut [u32],
 )
-    requires { ⌜ Valid field edge grid (now coords) ⌝ }
-    requires { ⌜ Holds field edge grid (now coords) (now work) ⌝ }
+    requires { ⌜ Valid (jobOf field edge grid (now coords)) ⌝ }
+    requires { ⌜ Holds (jobOf field edge grid (now coords)) (now work) ⌝ }
     requires { ⌜ cell < grid * grid * grid ⌝ }
     requires { ⌜ shotCount (now coords) ≤ length (now credits) ⌝ }
     requires { ⌜ RoomFor (sizeOf (blockOf field grid cell)) (now credits) ⌝ }
-    ensures { λ _. ⌜ now (credits .exit) ≡ added (now (credits .entry)) (cellCredits field edge grid (now (coords .entry)) cell) ⌝ }
+    ensures { λ _. ⌜ now (credits .exit) ≡ added (now (credits .entry)) (cellCredits (jobOf field edge grid (now (coords .entry))) cell) ⌝ }
 {
     let run = run_of(work, cells_of(grid), cell);
     carve(coords, edge, run, block_of(field, grid, cell), credits);
@@ -84,10 +84,10 @@ fn clear(credits: &mut [u32])
 
 // Puts in the credits of a list whose index the work slice holds: a place a shot.
 fn credit_shots(field: u16, edge: u16, grid: u16, coords: &[u16], work: &[u32], credits: &mut [u32])
-    requires { ⌜ Valid field edge grid (now coords) ⌝ }
-    requires { ⌜ Holds field edge grid (now coords) (now work) ⌝ }
+    requires { ⌜ Valid (jobOf field edge grid (now coords)) ⌝ }
+    requires { ⌜ Holds (jobOf field edge grid (now coords)) (now work) ⌝ }
     requires { ⌜ shotCount (now coords) ≡ length (now credits) ⌝ }
-    ensures { λ _. ⌜ now (credits .exit) ≡ creditsOf field edge (now (coords .entry)) ⌝ }
+    ensures { λ _. ⌜ now (credits .exit) ≡ creditsOf (jobOf field edge grid (now (coords .entry))) ⌝ }
 {
     clear(credits);
     for cell in 0..cells_of(grid) {
@@ -97,10 +97,10 @@ fn credit_shots(field: u16, edge: u16, grid: u16, coords: &[u16], work: &[u32], 
 
 // Puts them into the first places of a slice that has a place for each shot; later places keep their values.
 fn store(field: u16, edge: u16, grid: u16, coords: &[u16], work: &[u32], credits: &mut [u32])
-    requires { ⌜ Valid field edge grid (now coords) ⌝ }
-    requires { ⌜ Holds field edge grid (now coords) (now work) ⌝ }
+    requires { ⌜ Valid (jobOf field edge grid (now coords)) ⌝ }
+    requires { ⌜ Holds (jobOf field edge grid (now coords)) (now work) ⌝ }
     requires { ⌜ shotCount (now coords) ≤ length (now credits) ⌝ }
-    ensures { λ _. ⌜ now (credits .exit) ≡ creditsOf field edge (now (coords .entry)) ++ drop (shotCount (now (coords .entry))) (now (credits .entry)) ⌝ }
+    ensures { λ _. ⌜ now (credits .exit) ≡ creditsOf (jobOf field edge grid (now (coords .entry))) ++ drop (shotCount (now (coords .entry))) (now (credits .entry)) ⌝ }
 {
     let shots = shot::count(coords);
     credit_shots(field, edge, grid, coords, work, &mut credits[..shots]);
@@ -116,7 +116,7 @@ pub fn credit(
     work: &mut [u32],
     credits: &mut [u32],
 ) -> Checked
-    ensures { λ r. ⌜ CreditCall field edge grid (now (coords .entry)) (now (work .entry)) (now (credits .entry))
+    ensures { λ r. ⌜ CreditCall (jobOf field edge grid (now (coords .entry))) (now (work .entry)) (now (credits .entry))
         r (now (work .exit)) (now (credits .exit)) ⌝ }
 {
     let checked = indexed(field, edge, grid, coords, work);

@@ -9,7 +9,7 @@ use lib.Seq.{take-at, length-take-le}
 use Rattle.buffer.specs.Wrote.{Wrote}
 use Rattle.buffer.proofs.WroteLaws.{wrote-none, wrote-as, wrote-then}
 use Rattle.lattice.specs.Sums.{join}
-use Rattle.job.specs.Job.{shotCount, firstShots}
+use Rattle.job.specs.Job.{Job, jobOf, shots, shotCount, firstShots}
 use Rattle.job.specs.declared.Refusal.{Refusal}
 use Rattle.job.specs.declared.Checked.{Checked}
 use Rattle.job.specs.declared.Checked.the-variants.{Accepted, Refused}
@@ -58,34 +58,36 @@ module _ (credits out : List ℕ) where
 
 -- ---- a list
 
-module _ {F E G : ℕ} {coords work credits work' credits' : List ℕ} {c : Checked} (call : CreditCall F E G coords work credits c work' credits') where
-  list-is : {n : ℕ} {out out' : List ℕ} → Wrote out out' 0 n (creditedText c (creditsOf F E coords)) → ListCredited F E G coords work credits out n work' credits' out'
-  unfolding listText
-  list-is w = record { text = wrote-as (ap (λ d. creditedText d (creditsOf F E coords)) (call .answer)) w; index = call .index; credited = call .credited }
+module _ {job : Job} {work credits work' credits' : List ℕ} {c : Checked} (call : CreditCall job work credits c work' credits') where
+  open Job job using (coords)
 
-  pub list-refused : (r : Refusal) → c ≡ Refused r → {n : ℕ} {out out' : List ℕ} → Wrote out out' 0 n (refusalText r) → ListCredited F E G coords work credits out n work' credits' out'
-  list-refused r e w = list-is (wrote-as (ap (λ d. creditedText d (creditsOf F E coords)) (sym e)) w)
+  list-is : {n : ℕ} {out out' : List ℕ} → Wrote out out' 0 n (creditedText c (creditsOf job)) → ListCredited job work credits out n work' credits' out'
+  unfolding listText
+  list-is w = record { text = wrote-as (ap (λ d. creditedText d (creditsOf job)) (call .answer)) w; index = call .index; credited = call .credited }
+
+  pub list-refused : (r : Refusal) → c ≡ Refused r → {n : ℕ} {out out' : List ℕ} → Wrote out out' 0 n (refusalText r) → ListCredited job work credits out n work' credits' out'
+  list-refused r e w = list-is (wrote-as (ap (λ d. creditedText d (creditsOf job)) (sym e)) w)
 
   module _ (accepted : c ≡ Accepted) where
-    taken : CreditCall F E G coords work credits Accepted work' credits'
-    taken = subst (λ d. CreditCall F E G coords work credits d work' credits') accepted call
+    taken : CreditCall job work credits Accepted work' credits'
+    taken = subst (λ d. CreditCall job work credits d work' credits') accepted call
 
-    credits-long : length (creditsOf F E coords) ≡ shotCount coords
+    credits-long : length (creditsOf job) ≡ shotCount coords
     unfolding creditsOf
-    credits-long = singles-length (creditOf F E coords) (shotCount coords)
+    credits-long = singles-length (creditOf job) (shotCount coords)
 
     -- the shots' places hold their credits, and there are at most 4,096 shots
     pub shots-there : {n : ℕ} → n ≡ shotCount coords → n ≤ length credits'
-    shots-there e = omega (arith, e, ap length (credits-are taken), length-append (creditsOf F E coords) (drop (shotCount coords) credits), credits-long)
+    shots-there e = omega (arith, e, ap length (credits-are taken), length-append (creditsOf job) (drop (shotCount coords) credits), credits-long)
 
     pub shots-few : {n : ℕ} → n ≡ shotCount coords → {room : ℕ} → 172032 ≤ room → 42 * length (take n credits') ≤ room
     shots-few {n} e h = omega (arith, length-take-le n credits' (shots-there e), e, credit-valid taken .few)
 
-    front : {n : ℕ} → n ≡ shotCount coords → take n credits' ≡ creditsOf F E coords
-    front {n} e = ap (take n) (credits-are taken) ∙ take-at (creditsOf F E coords) (drop (shotCount coords) credits) n (credits-long ∙ sym e)
+    front : {n : ℕ} → n ≡ shotCount coords → take n credits' ≡ creditsOf job
+    front {n} e = ap (take n) (credits-are taken) ∙ take-at (creditsOf job) (drop (shotCount coords) credits) n (credits-long ∙ sym e)
 
-    pub list-credited : {n : ℕ} → n ≡ shotCount coords → {m : ℕ} {out out' : List ℕ} → Wrote out out' 0 m (creditLines (take n credits')) → ListCredited F E G coords work credits out m work' credits' out'
-    list-credited e w = list-is (wrote-as (ap creditLines (front e) ∙ ap (λ d. creditedText d (creditsOf F E coords)) (sym accepted)) w)
+    pub list-credited : {n : ℕ} → n ≡ shotCount coords → {m : ℕ} {out out' : List ℕ} → Wrote out out' 0 m (creditLines (take n credits')) → ListCredited job work credits out m work' credits' out'
+    list-credited e w = list-is (wrote-as (ap creditLines (front e) ∙ ap (λ d. creditedText d (creditsOf job)) (sym accepted)) w)
 
 -- ---- a file
 
@@ -101,14 +103,14 @@ module _ {bytes coords coords' : List ℕ} {a : ReadAnswer} (read : ReadCall byt
       }
 
   pub file-credited : {n : ℕ} {work work' credits credits' list out out' : List ℕ} (F E G shots : ℕ) → a ≡ Read F E G shots → list ≡ firstShots shots coords'
-      → ListCredited F E G list work credits out n work' credits' out' → FileCredited bytes coords work credits out n coords' work' credits' out'
+      → ListCredited (jobOf F E G list) work credits out n work' credits' out' → FileCredited bytes coords work credits out n coords' work' credits' out'
   file-credited {n} {work} {work'} {credits} F E G shots e l q =
       let f = accepted-file read e in
       let k = l ∙ f .stored in
       let is = sym (f .is) in
       record {
-        text = wrote-as (ap (λ c. listText F E G c (length work) (length credits)) k ∙ ap (λ (f : File). fileText f (length work) (length credits)) is) (q .text);
+        text = wrote-as (ap (λ c. listText (jobOf F E G c) (length work) (length credits)) k ∙ ap (λ (f : File). fileText f (length work) (length credits)) is) (q .text);
         coordinates = read .coordinates;
-        index = q .index ∙ ap (λ c. workAfter F E G c work) k ∙ ap (λ (f : File). indexAfter f work) is;
-        credited = q .credited ∙ ap (λ c. creditsAfter F E G c (length work) credits) k ∙ ap (λ (f : File). fileCredits f (length work) credits) is;
+        index = q .index ∙ ap (λ c. workAfter (jobOf F E G c) work) k ∙ ap (λ (f : File). indexAfter f work) is;
+        credited = q .credited ∙ ap (λ c. creditsAfter (jobOf F E G c) (length work) credits) k ∙ ap (λ (f : File). fileCredits f (length work) credits) is;
       }

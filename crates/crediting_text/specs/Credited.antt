@@ -5,7 +5,7 @@ use Prim.Native.Nat.{ℕ}
 use lib.ListN.{length, getD}
 use Rattle.buffer.specs.Wrote.{Wrote}
 use Rattle.lattice.specs.Sums.{join}
-use Rattle.job.specs.Job.{shotCount}
+use Rattle.job.specs.Job.{Job, jobOf, shot, shotCount}
 use Rattle.job.specs.declared.Checked.{Checked}
 use Rattle.job.specs.declared.Checked.the-variants.{Accepted, Refused}
 use Rattle.shotfile.specs.Files.{File, file, refused, fileIn}
@@ -29,25 +29,25 @@ creditedText Accepted credits = creditLines credits
 creditedText (Refused r) credits = refusalText r
 
 -- with so many work entries and credit places
-unfoldable pub listText : ℕ → ℕ → ℕ → List ℕ → ℕ → ℕ → List ℕ
-listText F E G coords entries places = creditedText (creditChecked F E G coords entries places) (creditsOf F E coords)
+unfoldable pub listText : Job → ℕ → ℕ → List ℕ
+listText job entries places = creditedText (creditChecked job entries places) (creditsOf job)
 
 -- the file is read, and the cells of the list that it holds are credited
 abbrev pub fileText : File → ℕ → ℕ → List ℕ
-fileText (file f coords) entries places = listText (f .first) (f .second) (f .third) coords entries places
+fileText (file f coords) entries places = listText (jobOf (f .first) (f .second) (f .third) coords) entries places
 fileText (refused r) entries places = refusalText r
 
 -- the credit slice then
 abbrev pub fileCredits : File → ℕ → List ℕ → List ℕ
-fileCredits (file f coords) entries credits = creditsAfter (f .first) (f .second) (f .third) coords entries credits
+fileCredits (file f coords) entries credits = creditsAfter (jobOf (f .first) (f .second) (f .third) coords) entries credits
 fileCredits (refused r) entries credits = credits
 
 -- ---- the promises
 -- of a list: the text at the front, the index and the credits
-pub record ListCredited (F E G : ℕ) (coords work credits out : List ℕ) (r : ℕ) (work' credits' out' : List ℕ) : Type 0 where
-  pub text : Wrote out out' 0 r (listText F E G coords (length work) (length credits))
-  pub index : work' ≡ workAfter F E G coords work
-  pub credited : credits' ≡ creditsAfter F E G coords (length work) credits
+pub record ListCredited (job : Job) (work credits out : List ℕ) (r : ℕ) (work' credits' out' : List ℕ) : Type 0 where
+  pub text : Wrote out out' 0 r (listText job (length work) (length credits))
+  pub index : work' ≡ workAfter job work
+  pub credited : credits' ≡ creditsAfter job (length work) credits
 
 -- of a file: also its coordinates. A refused file leaves all three slices as they were.
 pub record FileCredited (bytes coords work credits out : List ℕ) (r : ℕ) (coords' work' credits' out' : List ℕ) : Type 0 where

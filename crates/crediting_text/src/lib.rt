@@ -2,6 +2,7 @@
 // of a refusal. specs/Credited.antt says what the text is. Stands on `crediting`, on `shotfile` and `quoting`, and on `text_report`.
 ghost use Prim.Native.Nat.{_+_, _*_, _≤_};
 ghost use lib.ListN.{length};
+ghost use Rattle.job.specs.Job.{jobOf};
 ghost use Rattle.buffer.specs.Wrote.{Wrote};
 ghost use Rattle.crediting_text.specs.Credited.{creditLine, creditLines, ListCredited, FileCredited};
 use job::Checked;
@@ -44,7 +45,7 @@ fn credit_list(
     out: &mut [u8],
 ) -> usize
     requires { ⌜ 172032 ≤ length (now out) ⌝ }
-    ensures { λ r. ⌜ ListCredited field edge grid (now (coords .entry)) (now (work .entry)) (now (credits .entry)) (now (out .entry))
+    ensures { λ r. ⌜ ListCredited (jobOf field edge grid (now (coords .entry))) (now (work .entry)) (now (credits .entry)) (now (out .entry))
         r (now (work .exit)) (now (credits .exit)) (now (out .exit)) ⌝ }
 {
     let checked = crediting::credit(field, edge, grid, coords, work, credits);

@@ -6,7 +6,7 @@ use native.Mathlib.Nat.{mul-le-mul, mul-le-mul-right, add-mul, one-mul, add-zero
 use native.Mathlib.Omega.{arith}
 use lib.ListN.{length}
 use Rattle.lattice.specs.Sums.{join}
-use Rattle.job.specs.Job.{shotCount, shotAt, Valid}
+use Rattle.job.specs.Job.{Job, shot, shotCount, Valid}
 use Rattle.grid.specs.Numbers.{upTo}
 use Rattle.grid.specs.Grid.{touchesCell, touchesSlab, runOf, slabOf}
 use Rattle.grid.proofs.NumberLaws.{upTo-length, those-length, join-length-most, join-length-up}
@@ -31,15 +31,17 @@ square-most g h = mul-le-mul h h
 pub cube-most : (g : ℕ) → g ≤ 64 → g * g * g ≤ 262144
 cube-most g h = mul-le-mul (square-most g h) h
 
-module _ (F E G : ℕ) (coords : List ℕ) (v : Valid F E G coords) where
-  pub run-few : (cell : ℕ) → length (runOf F E G coords cell) ≤ 4096
+module _ (job : Job) (v : Valid job) where
+  open Job job using (field as F, grid as G, coords)
+
+  pub run-few : (cell : ℕ) → length (runOf job cell) ≤ 4096
   unfolding runOf
-  run-few cell = omega (arith, those-length (λ i. touchesCell F G cell (shotAt E coords i)) (upTo (shotCount coords)), upTo-length (shotCount coords), v .few)
+  run-few cell = omega (arith, those-length (λ i. touchesCell F G cell (shot job i)) (upTo (shotCount coords)), upTo-length (shotCount coords), v .few)
 
-  pub slab-few : (gx : ℕ) → length (slabOf F E G coords gx) ≤ 4096
+  pub slab-few : (gx : ℕ) → length (slabOf job gx) ≤ 4096
   unfolding slabOf
-  slab-few gx = omega (arith, those-length (λ i. touchesSlab (F / G) gx (shotAt E coords i)) (upTo (shotCount coords)), upTo-length (shotCount coords), v .few)
+  slab-few gx = omega (arith, those-length (λ i. touchesSlab (F / G) gx (shot job i)) (upTo (shotCount coords)), upTo-length (shotCount coords), v .few)
 
-  pub runs-few : (c : ℕ) → c ≤ G * G * G → length (join c (runOf F E G coords)) ≤ 1073741824
+  pub runs-few : (c : ℕ) → c ≤ G * G * G → length (join c (runOf job)) ≤ 1073741824
   runs-few c h =
-      omega (arith, join-length-up (runOf F E G coords) c (G * G * G) h, join-length-most (runOf F E G coords) 4096 run-few (G * G * G), cube-most G (v .grid-most))
+      omega (arith, join-length-up (runOf job) c (G * G * G) h, join-length-most (runOf job) 4096 run-few (G * G * G), cube-most G (v .grid-most))

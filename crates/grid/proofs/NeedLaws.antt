@@ -11,7 +11,7 @@ use borrow.Author.Tests.{le-leb}
 use Rattle.lattice.specs.Sums.{total}
 use Rattle.lattice.specs.Cells.{bit}
 use Rattle.lattice.specs.Shots.{Shot}
-use Rattle.job.specs.Job.{shotCount, shotAt, Valid}
+use Rattle.job.specs.Job.{Job, jobOf, shot, shotCount, shotAt, Valid}
 use Rattle.job.proofs.Shots.{stay-at}
 use Rattle.grid.specs.Numbers.{Quotients}
 use Rattle.grid.specs.Grid.{meets, touches, touchesCell, spanOf, pairsOf, pairs, need}
@@ -101,25 +101,27 @@ pub pairs-of-spans : (F G : ℕ) (t : Shot) {a b c : ℕ} → a ≡ spanOf G (F 
 pairs-of-spans F G t x y z = rw (x, y, z) (pairs-product F G t)
 
 -- a span that stays in the field of a valid list stays in its intervals, and the quotients up to the field's side tell it
-pub span-asked : {F E G s : ℕ} {coords table : List ℕ} → Valid F E G coords → s ≡ F / G → Quotients s (F + 1) table → (c e : ℕ) → c + e ≤ F → (1 ≤ s) × ((c + e ≤ G * s) × Quotients s (c + e + 1) table)
-span-asked {F} {E} {G} {s} v w t c e h = (omega (arith, width-least v), (omega (arith, width-times v, ap (λ (n : ℕ). G * n) w), quotients-fewer s (F + 1) t (c + e + 1) (omega arith)))
+pub span-asked : {job : Job} {s : ℕ} {table : List ℕ} → Valid job → s ≡ job.field / job.grid → Quotients s (job.field + 1) table → (c e : ℕ) → c + e ≤ job.field → (1 ≤ s) × ((c + e ≤ job.grid * s) × Quotients s (c + e + 1) table)
+span-asked {job} {s} v w t c e h = (omega (arith, width-least v), (omega (arith, width-times v, ap (λ (n : ℕ). job.grid * n) w), quotients-fewer s (job.field + 1) t (c + e + 1) (omega arith)))
 
-module _ (F E G : ℕ) (coords : List ℕ) where
+module _ (job : Job) where
+  open Job job using (field as F, grid as G, coords)
+
   -- the pairs counted by shots are the pairs counted by grid cells
-  pairs-by-shots : total (shotCount coords) (pairsOf F E G coords) ≡ pairs F E G coords
+  pairs-by-shots : total (shotCount coords) (pairsOf job) ≡ pairs job
   unfolding pairs
-  pairs-by-shots = total-swap (shotCount coords) (G * G * G) (λ i cell. bit (touchesCell F G cell (shotAt E coords i)))
+  pairs-by-shots = total-swap (shotCount coords) (G * G * G) (λ i cell. bit (touchesCell F G cell (shot job i)))
 
-  pub pairs-none : 0 ≡ total 0 (pairsOf F E G coords)
+  pub pairs-none : 0 ≡ total 0 (pairsOf job)
   unfolding total
   pairs-none = refl
 
-  pub pairs-next : (n : ℕ) {a b : ℕ} → a ≡ total n (pairsOf F E G coords) → b ≡ pairsOf F E G coords n → a + b ≡ total (n + 1) (pairsOf F E G coords)
+  pub pairs-next : (n : ℕ) {a b : ℕ} → a ≡ total n (pairsOf job) → b ≡ pairsOf job n → a + b ≡ total (n + 1) (pairsOf job)
   unfolding total
   pairs-next n e e' = rw (add-one n, e, e')
 
-  pub pairs-few : G ≤ 64 → (n : ℕ) → total n (pairsOf F E G coords) ≤ n * 262144
-  pairs-few h n = total-most n 262144 (pairsOf F E G coords) λ i l. rw (← pairs-product F G (shotAt E coords i)) (few (shotAt E coords i))
+  pub pairs-few : G ≤ 64 → (n : ℕ) → total n (pairsOf job) ≤ n * 262144
+  pairs-few h n = total-most n 262144 (pairsOf job) λ i l. rw (← pairs-product F G (shot job i)) (few (shot job i))
     where
       few : (t : Shot) → spanOf G (F / G) (t .x) (t .edge) * spanOf G (F / G) (t .y) (t .edge) * spanOf G (F / G) (t .z) (t .edge) ≤ 262144
       few t = product-few _ _ _ (one (t .x) (t .edge)) (one (t .y) (t .edge)) (one (t .z) (t .edge))
@@ -127,13 +129,13 @@ module _ (F E G : ℕ) (coords : List ℕ) where
           one : (c e : ℕ) → spanOf G (F / G) c e ≤ 64
           one c e = omega (arith, span-most G (F / G) c e)
 
-  pub pairs-all : {a : ℕ} (n : ℕ) → n ≡ shotCount coords → a ≡ total n (pairsOf F E G coords) → a ≡ pairs F E G coords
+  pub pairs-all : {a : ℕ} (n : ℕ) → n ≡ shotCount coords → a ≡ total n (pairsOf job) → a ≡ pairs job
   pairs-all n e p = p ∙ rw (e, pairs-by-shots)
 
-  pub pairs-most : Valid F E G coords → pairs F E G coords ≤ 1073741824
+  pub pairs-most : Valid job → pairs job ≤ 1073741824
   pairs-most v = omega (arith, pairs-by-shots, pairs-few (v .grid-most) (shotCount coords), v .few)
 
-  pub need-by-pairs : {cells a : ℕ} → cells ≡ G * G * G → a ≡ pairs F E G coords → cells + 1 + a ≡ need F E G coords
+  pub need-by-pairs : {cells a : ℕ} → cells ≡ G * G * G → a ≡ pairs job → cells + 1 + a ≡ need job
   unfolding need
   need-by-pairs c p = rw (c, p)
 
@@ -148,7 +150,7 @@ unfolding meets
 whole-meets F c e h = rw (le-leb (0 * (F / 1)) (c + e) (omega arith), le-leb c ((0 + 1) * (F / 1)) (omega arith))
 
 -- every shot belongs to it: an entry a shot, and the two starting places
-pub one-cell-need : {F E : ℕ} {coords : List ℕ} → Valid F E 1 coords → need F E 1 coords ≡ shotCount coords + 2
+pub one-cell-need : {F E : ℕ} {coords : List ℕ} → Valid (jobOf F E 1 coords) → need (jobOf F E 1 coords) ≡ shotCount coords + 2
 unfolding need pairs total
 one-cell-need {F} {E} {coords} v = omega (arith, total-agree (shotCount coords) _ _ touched ∙ total-ones (shotCount coords))
   where

@@ -6,7 +6,7 @@ use Prim.Native.Nat.{ℕ, zero, suc, _+_, _-_, _*_, _/_, _≤_, _<_}
 use native.Mathlib.Nat.{div-add-mod, div-mul-le-self, lt-div-mul-add, div-lt-iff-lt-mul, add-mul, one-mul, mul-zero, mul-pos}
 use native.Mathlib.Omega.{arith}
 use borrow.Author.Tests.{le-leb}
-use Rattle.job.specs.Job.{Valid}
+use Rattle.job.specs.Job.{Job, Valid}
 use Rattle.grid.specs.Grid.{meets}
 
 -- ---- the lowest interval that a span meets
@@ -26,7 +26,9 @@ module _ (s c e : ℕ) (h : 1 ≤ s) where
 
 -- ---- a valid list
 
-module _ {F E G : ℕ} {coords : List ℕ} (v : Valid F E G coords) where
+module _ {job : Job} (v : Valid job) where
+  open Job job using (field as F, grid as G)
+
   pub width-times : G * (F / G) ≡ F
   width-times = omega (arith, div-add-mod F G, v .grid-divides)
 

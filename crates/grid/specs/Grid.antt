@@ -9,7 +9,7 @@ use lib.ListN.{length, getD, take, drop}
 use Rattle.lattice.specs.Sums.{total, join}
 use Rattle.lattice.specs.Cells.{bit}
 use Rattle.lattice.specs.Shots.{Shot}
-use Rattle.job.specs.Job.{shotCount, xAt, yAt, zAt, edgeAt, shotAt}
+use Rattle.job.specs.Job.{Job, shot, shotCount, xAt, yAt, zAt, edgeAt}
 use Rattle.grid.specs.Numbers.{upTo, those}
 
 -- interval g of width s, with both its ends, shares a point with the e units from c, with both their ends
@@ -25,8 +25,8 @@ abbrev pub touchesCell : ℕ → ℕ → ℕ → Shot → Bool
 touchesCell F G cell t = touches (F / G) (cell / G / G) (cell / G % G) (cell % G) t
 
 -- the shots that pass a test, by their numbers, rising
-abbrev pub shotsThat : (Shot → Bool) → ℕ → List ℕ → List ℕ
-shotsThat f E coords = those (λ i. f (shotAt E coords i)) (upTo (shotCount coords))
+abbrev pub shotsThat : (Shot → Bool) → Job → List ℕ
+shotsThat f job = those (λ i. f (shot job i)) (upTo (shotCount job.coords))
 
 -- the coordinate of shot number i on an axis: 0 is x, 1 is y, 2 is z
 abbrev pub onAxis : ℕ → List ℕ → ℕ → ℕ
@@ -38,57 +38,61 @@ onAxis (suc (suc n)) coords i = zAt coords i
 abbrev pub meetsOn : ℕ → ℕ → ℕ → ℕ → List ℕ → ℕ → Bool
 meetsOn axis s g E coords i = meets s g (onAxis axis coords i) (edgeAt E coords i)
 
+-- how many grid cells there are
+abbrev pub gridCells : Job → ℕ
+gridCells job = job.grid * job.grid * job.grid
+
 -- the run of a grid cell: the shots that belong to it
-unfoldable pub runOf : ℕ → ℕ → ℕ → List ℕ → ℕ → List ℕ
-runOf F E G coords cell = shotsThat (touchesCell F G cell) E coords
+unfoldable pub runOf : Job → ℕ → List ℕ
+runOf job cell = shotsThat (touchesCell job.field job.grid cell) job
 
 -- where the first n runs of a series start, counted from the first run entry
 unfoldable pub starts : (ℕ → List ℕ) → ℕ → List ℕ
 starts run n = join n λ cell. length (join cell run) ∷ []
 
 -- the starting places of the runs, the last being the number of pairs; then the runs
-unfoldable pub indexOf : ℕ → ℕ → ℕ → List ℕ → List ℕ
-indexOf F E G coords = starts (runOf F E G coords) (G * G * G + 1) ++ join (G * G * G) (runOf F E G coords)
+unfoldable pub indexOf : Job → List ℕ
+indexOf job = starts (runOf job) (gridCells job + 1) ++ join (gridCells job) (runOf job)
 
 -- pairs of a grid cell and a shot that belongs to it
-unfoldable pub pairs : ℕ → ℕ → ℕ → List ℕ → ℕ
-pairs F E G coords = total (G * G * G) λ cell. total (shotCount coords) λ i. bit (touchesCell F G cell (shotAt E coords i))
+unfoldable pub pairs : Job → ℕ
+pairs job = total (gridCells job) λ cell. total (shotCount job.coords) λ i. bit (touchesCell job.field job.grid cell (shot job i))
 
 -- the entries that the index needs
-unfoldable pub need : ℕ → ℕ → ℕ → List ℕ → ℕ
-need F E G coords = G * G * G + 1 + pairs F E G coords
+unfoldable pub need : Job → ℕ
+need job = gridCells job + 1 + pairs job
 
 -- a slice with the index at its front: the entries past the index keep their values
-abbrev pub withIndex : ℕ → ℕ → ℕ → List ℕ → List ℕ → List ℕ
-withIndex F E G coords work = indexOf F E G coords ++ drop (need F E G coords) work
+abbrev pub withIndex : Job → List ℕ → List ℕ
+withIndex job work = indexOf job ++ drop (need job) work
 
 -- how many of the G intervals of width s a span meets
 abbrev pub spanOf : ℕ → ℕ → ℕ → ℕ → ℕ
 spanOf G s c e = total G λ g. bit (meets s g c e)
 
 -- how many grid cells shot number i belongs to
-abbrev pub pairsOf : ℕ → ℕ → ℕ → List ℕ → ℕ → ℕ
-pairsOf F E G coords i = total (G * G * G) λ cell. bit (touchesCell F G cell (shotAt E coords i))
+abbrev pub pairsOf : Job → ℕ → ℕ
+pairsOf job i = total (gridCells job) λ cell. bit (touchesCell job.field job.grid cell (shot job i))
 
 -- the shots that touch slab gx: those that belong to some grid cell (gx, gy, gz)
 abbrev pub touchesSlab : ℕ → ℕ → Shot → Bool
 touchesSlab s gx t = meets s gx (t .x) (t .edge)
 
-unfoldable pub slabOf : ℕ → ℕ → ℕ → List ℕ → ℕ → List ℕ
-slabOf F E G coords gx = shotsThat (touchesSlab (F / G) gx) E coords
+unfoldable pub slabOf : Job → ℕ → List ℕ
+slabOf job gx = shotsThat (touchesSlab (job.field / job.grid) gx) job
 
 -- the shots that touch row number line = gx * G + gy: those that belong to some grid cell (gx, gy, gz)
-unfoldable pub rowOf : ℕ → ℕ → ℕ → List ℕ → ℕ → List ℕ
-rowOf F E G coords line = shotsThat (λ t. meets (F / G) (line / G) (t .x) (t .edge) && meets (F / G) (line % G) (t .y) (t .edge)) E coords
+unfoldable pub rowOf : Job → ℕ → List ℕ
+rowOf job line = shotsThat (λ t. meets (job.field / job.grid) (line / job.grid) (t .x) (t .edge) && meets (job.field / job.grid) (line % job.grid) (t .y) (t .edge)) job
 
 -- the number of the grid cell that holds the unit cell (i, j, k)
 abbrev pub holding : ℕ → ℕ → ℕ → ℕ → ℕ → ℕ
 holding F G i j k = (i / (F / G) * G + j / (F / G)) * G + k / (F / G)
 
 -- a slice that holds the index of a list, and then anything
-pub record Holds (F E G : ℕ) (coords work : List ℕ) : Type 0 where
+pub record Holds (job : Job) (work : List ℕ) : Type 0 where
   pub rest : List ℕ
-  pub is : work ≡ indexOf F E G coords ++ rest
+  pub is : work ≡ indexOf job ++ rest
 
 -- the runs of the grid cells from first on and before last, as they stand in a slice that begins with the starting places of this many cells
 unfoldable pub between : List ℕ → ℕ → ℕ → ℕ → List ℕ

@@ -1,7 +1,7 @@
 // How many entries the index of a list needs, before anything is stored. docs/SCOPE.md, 'The grid index'.
 ghost use mathlib.Core.Path.{_≡_};
 ghost use Prim.Native.Nat.{_+_, _*_, _/_, _≤_, _<_};
-ghost use Rattle.job.specs.Job.{shotCount, Valid};
+ghost use Rattle.job.specs.Job.{jobOf, shotCount, Valid};
 ghost use Rattle.grid.specs.Numbers.{Quotients};
 ghost use Rattle.grid.specs.Grid.{pairsOf, pairs, need};
 use crate::intervals::cells_of;
@@ -29,11 +29,11 @@ fn pairs_of(
     table: &[u16],
     shot: usize,
 ) -> usize
-    requires { ⌜ Valid field edge grid (now coords) ⌝ }
+    requires { ⌜ Valid (jobOf field edge grid (now coords)) ⌝ }
     requires { ⌜ width ≡ field / grid ⌝ }
     requires { ⌜ Quotients width (field + 1) (now table) ⌝ }
     requires { ⌜ shot < shotCount (now coords) ⌝ }
-    ensures { λ r. ⌜ r ≡ pairsOf field edge grid (now (coords .entry)) shot ⌝ }
+    ensures { λ r. ⌜ r ≡ pairsOf (jobOf field edge grid (now (coords .entry))) shot ⌝ }
 {
     let side = shot::edge_of(edge, coords, shot);
     let x = span(grid, width, table, shot::x_of(coords, shot), side);
@@ -44,10 +44,10 @@ fn pairs_of(
 
 // The pairs of a grid cell and a shot that belongs to it, counted shot by shot.
 fn pairs(field: u16, edge: u16, grid: u16, coords: &[u16], width: u16, table: &[u16]) -> usize
-    requires { ⌜ Valid field edge grid (now coords) ⌝ }
+    requires { ⌜ Valid (jobOf field edge grid (now coords)) ⌝ }
     requires { ⌜ width ≡ field / grid ⌝ }
     requires { ⌜ Quotients width (field + 1) (now table) ⌝ }
-    ensures { λ r. ⌜ r ≡ pairs field edge grid (now (coords .entry)) ⌝ }
+    ensures { λ r. ⌜ r ≡ pairs (jobOf field edge grid (now (coords .entry))) ⌝ }
 {
     let mut sum = 0;
     for shot in 0..shot::count(coords) {
@@ -58,8 +58,8 @@ fn pairs(field: u16, edge: u16, grid: u16, coords: &[u16], width: u16, table: &[
 
 // The entries that the index of a list needs. A shot's spans are looked up in a table of quotients, filled once.
 pub fn need(field: u16, edge: u16, grid: u16, coords: &[u16]) -> usize
-    requires { ⌜ Valid field edge grid (now coords) ⌝ }
-    ensures { λ r. ⌜ r ≡ need field edge grid (now (coords .entry)) ⌝ }
+    requires { ⌜ Valid (jobOf field edge grid (now coords)) ⌝ }
+    ensures { λ r. ⌜ r ≡ need (jobOf field edge grid (now (coords .entry))) ⌝ }
 {
     let width = field / grid;
     let mut table: [u16; 1025] = [0; 1025];

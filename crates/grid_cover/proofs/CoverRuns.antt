@@ -12,7 +12,7 @@ use borrow.Author.Tests.{le-leb, lt-ltb, leb-true, ltb-true, ltb-false}
 use Rattle.lattice.specs.Cells.{Cells, below, up}
 use Rattle.lattice.specs.Pattern.{around}
 use Rattle.lattice.specs.Shots.{Shot, spans, covers, any, cells}
-use Rattle.job.specs.Job.{shotsOf, shotCount, shotAt, Valid}
+use Rattle.job.specs.Job.{Job, shots, shot, shotsOf, shotCount, shotAt, Valid}
 use Rattle.job.proofs.Shots.{any-at, at-any}
 use Rattle.job.proofs.Tests.{or-left, or-right, and-true}
 use Rattle.lattice.proofs.ShotLaws.{or-elim}
@@ -97,28 +97,32 @@ near-meets s g i e a n h =
     let d : ltb i (a + e) ≡ true = and-true (leb a i) (ltb i (a + e)) h .1 in
     rw (le-leb (g * s) (a + e) (omega (arith, ltb-true i (a + e) d)), le-leb a ((g + 1) * s) (omega (arith, leb-true a i c)))
 
-module _ (F E G : ℕ) (coords : List ℕ) (gx gy gz : ℕ) (hy : gy < G) (hz : gz < G) (i j k : ℕ) (nx : Near (F / G) gx i) (ny : Near (F / G) gy j) (nz : Near (F / G) gz k) where
-  covering-touches : (s : ℕ) → shotCovers E coords s i j k ≡ true → touchesCell F G ((gx * G + gy) * G + gz) (shotAt E coords s) ≡ true
+module _ (job : Job) (gx gy gz : ℕ) (hy : gy < job.grid) (hz : gz < job.grid) (i j k : ℕ) (nx : Near (job.field / job.grid) gx i) (ny : Near (job.field / job.grid) gy j) (nz : Near (job.field / job.grid) gz k) where
+  open Job job using (field as F, edge as E, grid as G, coords)
+
+  covering-touches : (s : ℕ) → shotCovers E coords s i j k ≡ true → touchesCell F G ((gx * G + gy) * G + gz) (shot job s) ≡ true
   unfolding shotCovers
   covering-touches s h =
-      let t : Shot = shotAt E coords s in
-      let c = and-true (ltb s (shotCount coords)) (covers (shotAt E coords s) i j k) h .1 in
+      let t : Shot = shot job s in
+      let c = and-true (ltb s (shotCount coords)) (covers (shot job s) i j k) h .1 in
       let x = and-true (spans (t .edge) (t .x) i) (spans (t .edge) (t .y) j && spans (t .edge) (t .z) k) c in
       let yz = and-true (spans (t .edge) (t .y) j) (spans (t .edge) (t .z) k) (x .1) in
       rw (digit-high G (gx * G + gy) gz hz, digit-low G (gx * G + gy) gz hz, digit-high G gx gy hy, digit-low G gx gy hy, near-meets (F / G) gx i (t .edge) (t .x) nx (x .0), near-meets (F / G) gy j (t .edge) (t .y) ny (yz .0), near-meets (F / G) gz k (t .edge) (t .z) nz (yz .1))
 
   -- the run of a grid cell names the list's lowest covering shot of a unit cell that touches it
-  pub run-names : firstCovering E coords (runOf F E G coords ((gx * G + gy) * G + gz)) i j k ≡ lowestCovering E coords i j k
+  pub run-names : firstCovering E coords (runOf job ((gx * G + gy) * G + gz)) i j k ≡ lowestCovering E coords i j k
   unfolding firstCovering lowestCovering runOf
   run-names = first-among _ _ covering-touches (upTo (shotCount coords))
 
   -- and so covers the unit cell exactly if the list does
-  pub run-covers : runCovers E coords (runOf F E G coords ((gx * G + gy) * G + gz)) i j k ≡ cells (shotsOf E coords) i j k
+  pub run-covers : runCovers E coords (runOf job ((gx * G + gy) * G + gz)) i j k ≡ cells (shots job) i j k
   run-covers = ap isSome run-names ∙ lowest-covers E coords i j k
 
 -- ---- the grid cell that holds a unit cell
 
-module _ {F E G : ℕ} {coords : List ℕ} (v : Valid F E G coords) where
+module _ {job : Job} (v : Valid job) where
+  open Job job using (field as F, edge as E, grid as G, coords)
+
   near-holding : (i : ℕ) → Near (F / G) (i / (F / G)) i
   near-holding i =
       record {
@@ -134,12 +138,12 @@ module _ {F E G : ℕ} {coords : List ℕ} (v : Valid F E G coords) where
     holding-in = digits-below G _ _ (interval-below k hk) (G * G) (digits-below G _ _ (interval-below j hj) G (interval-below i hi))
 
     -- its run names the list's lowest covering shot of the unit cell
-    pub holding-names : firstCovering E coords (runOf F E G coords (holding F G i j k)) i j k ≡ lowestCovering E coords i j k
-    holding-names = run-names F E G coords _ _ _ (interval-below j hj) (interval-below k hk) i j k (near-holding i) (near-holding j) (near-holding k)
+    pub holding-names : firstCovering E coords (runOf job (holding F G i j k)) i j k ≡ lowestCovering E coords i j k
+    holding-names = run-names job _ _ _ (interval-below j hj) (interval-below k hk) i j k (near-holding i) (near-holding j) (near-holding k)
 
     -- and covers it exactly if the list does
-    pub holding-covers : runCovers E coords (runOf F E G coords (holding F G i j k)) i j k ≡ cells (shotsOf E coords) i j k
-    holding-covers = run-covers F E G coords _ _ _ (interval-below j hj) (interval-below k hk) i j k (near-holding i) (near-holding j) (near-holding k)
+    pub holding-covers : runCovers E coords (runOf job (holding F G i j k)) i j k ≡ cells (shots job) i j k
+    holding-covers = run-covers job _ _ _ (interval-below j hj) (interval-below k hk) i j k (near-holding i) (near-holding j) (near-holding k)
 
 -- ---- the eight cells about a lattice point of a closed box
 
@@ -159,8 +163,10 @@ pub record OnInterval (s g x : ℕ) : Type 0 where
   pub low : g * s ≤ x
   pub high : x ≤ (g + 1) * s
 
-module _ (F E G : ℕ) (coords : List ℕ) (gx gy gz : ℕ) (hy : gy < G) (hz : gz < G) where
-  pub run-around : (x y z : ℕ) → OnInterval (F / G) gx x → OnInterval (F / G) gy y → OnInterval (F / G) gz z → (a b c : Bool) → around (runCovers E coords (runOf F E G coords ((gx * G + gy) * G + gz))) x y z a b c ≡ around (cells (shotsOf E coords)) x y z a b c
+module _ (job : Job) (gx gy gz : ℕ) (hy : gy < job.grid) (hz : gz < job.grid) where
+  open Job job using (field as F, edge as E, grid as G, coords)
+
+  pub run-around : (x y z : ℕ) → OnInterval (F / G) gx x → OnInterval (F / G) gy y → OnInterval (F / G) gz z → (a b c : Bool) → around (runCovers E coords (runOf job ((gx * G + gy) * G + gz))) x y z a b c ≡ around (cells (shots job)) x y z a b c
   run-around x y z nx ny nz a b c =
       below-agree _ _ (up a x) (up b y) (up c z) λ i j k ei ej ek.
-      run-covers F E G coords gx gy gz hy hz i j k (near-point (F / G) gx x (nx .low) (nx .high) a i ei) (near-point (F / G) gy y (ny .low) (ny .high) b j ej) (near-point (F / G) gz z (nz .low) (nz .high) c k ek)
+      run-covers job gx gy gz hy hz i j k (near-point (F / G) gx x (nx .low) (nx .high) a i ei) (near-point (F / G) gy y (ny .low) (ny .high) b j ej) (near-point (F / G) gz z (nz .low) (nz .high) c k ek)

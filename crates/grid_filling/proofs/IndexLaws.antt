@@ -11,7 +11,7 @@ use mir.Val.{Fits}
 use mir.Syntax.{w32}
 use Rattle.lattice.specs.Sums.{total, join}
 use Rattle.lattice.specs.Cells.{bit}
-use Rattle.job.specs.Job.{shotCount, shotAt, Valid}
+use Rattle.job.specs.Job.{Job, shot, shotCount, Valid}
 use Rattle.grid.specs.Numbers.{upTo, those}
 use Rattle.grid.specs.Grid.{touchesCell, runOf, starts, indexOf, pairs, need, withIndex}
 use Rattle.grid_filling.specs.Filling.{runPlace, Ready, Grew}
@@ -34,22 +34,24 @@ those-count f (suc n) =
     one true = refl
     one false = refl
 
-module _ (F E G : ℕ) (coords : List ℕ) where
+module _ (job : Job) where
+  open Job job using (field as F, grid as G, coords)
+
   -- the pairs are the entries of the runs
-  pairs-runs : pairs F E G coords ≡ length (join (G * G * G) (runOf F E G coords))
+  pairs-runs : pairs job ≡ length (join (G * G * G) (runOf job))
   unfolding pairs runOf
   pairs-runs =
-      sym (length-join (G * G * G) (runOf F E G coords) ∙ ap (total (G * G * G)) (fun-ext λ cell. those-count (λ i. touchesCell F G cell (shotAt E coords i)) (shotCount coords)))
+      sym (length-join (G * G * G) (runOf job) ∙ ap (total (G * G * G)) (fun-ext λ cell. those-count (λ i. touchesCell F G cell (shot job i)) (shotCount coords)))
 
-  pub need-place : need F E G coords ≡ runPlace (runOf F E G coords) (G * G * G) (G * G * G)
+  pub need-place : need job ≡ runPlace (runOf job) (G * G * G) (G * G * G)
   unfolding need
   need-place = ap (λ (n : ℕ). G * G * G + 1 + n) pairs-runs
 
   -- the need is the length of the index
-  pub need-length : need F E G coords ≡ length (indexOf F E G coords)
+  pub need-length : need job ≡ length (indexOf job)
   unfolding indexOf
   need-length =
-      omega (arith, need-place, length-append (starts (runOf F E G coords) (G * G * G + 1)) (join (G * G * G) (runOf F E G coords)), starts-length (runOf F E G coords) (G * G * G + 1))
+      omega (arith, need-place, length-append (starts (runOf job) (G * G * G + 1)) (join (G * G * G) (runOf job)), starts-length (runOf job) (G * G * G + 1))
 
 -- ---- a filled slice
 
@@ -69,17 +71,19 @@ upTo-part n h e = rw e (upTo-front n 4096 h)
 pub upTo-part-count : (n : ℕ) {all : List ℕ} → n ≤ 4096 → all ≡ upTo 4096 → n ≡ length (take n all)
 upTo-part-count n h e = sym (ap length (upTo-part n h e) ∙ upTo-length n)
 
-module _ (F E G : ℕ) (coords : List ℕ) (w : List ℕ) (room : need F E G coords ≤ length w) where
-  pub build-ready : {cells : ℕ} → cells ≡ G * G * G → Ready (runOf F E G coords) (G * G * G) 0 (cells + 1) w
+module _ (job : Job) (w : List ℕ) (room : need job ≤ length w) where
+  open Job job using (grid as G)
+
+  pub build-ready : {cells : ℕ} → cells ≡ G * G * G → Ready (runOf job) (G * G * G) 0 (cells + 1) w
   unfolding join
-  build-ready e = record { next = omega arith; room = omega (arith, need-place F E G coords) }
+  build-ready e = record { next = omega arith; room = omega (arith, need-place job) }
 
-  pub build-fits : Valid F E G coords → {cells r : ℕ} {w' : List ℕ} → cells ≡ G * G * G → Grew (runOf F E G coords) (G * G * G) 0 (G * G * G) w w' r → Fits w32 (r - (cells + 1))
-  build-fits v e a = record { fits = omega (arith, a .next, runs-few F E G coords v (G * G * G) (le-refl (G * G * G))) }
+  pub build-fits : Valid job → {cells r : ℕ} {w' : List ℕ} → cells ≡ G * G * G → Grew (runOf job) (G * G * G) 0 (G * G * G) w w' r → Fits w32 (r - (cells + 1))
+  build-fits v e a = record { fits = omega (arith, a .next, runs-few job v (G * G * G) (le-refl (G * G * G))) }
 
-  pub build-last : {cells r : ℕ} {w' : List ℕ} → cells ≡ G * G * G → Grew (runOf F E G coords) (G * G * G) 0 (G * G * G) w w' r → set w' cells (r - (cells + 1)) ≡ withIndex F E G coords w
+  pub build-last : {cells r : ℕ} {w' : List ℕ} → cells ≡ G * G * G → Grew (runOf job) (G * G * G) 0 (G * G * G) w w' r → set w' cells (r - (cells + 1)) ≡ withIndex job w
   unfolding indexOf
   build-last {cells} {r} {w'} e a =
-      let last : r - (cells + 1) ≡ length (join (G * G * G) (runOf F E G coords)) = omega (arith, a .next) in
-      rw (last, e, need-place F E G coords)
-      (index-whole (runOf F E G coords) (G * G * G) w w' (a .fills w (runs-in-none (runOf F E G coords) (G * G * G) w (omega (arith, need-place F E G coords)))))
+      let last : r - (cells + 1) ≡ length (join (G * G * G) (runOf job)) = omega (arith, a .next) in
+      rw (last, e, need-place job)
+      (index-whole (runOf job) (G * G * G) w w' (a .fills w (runs-in-none (runOf job) (G * G * G) w (omega (arith, need-place job)))))

@@ -4,23 +4,25 @@ use mathlib.Core.Bool.{Bool, _&&_, and-assoc}
 use mathlib.Core.List.{List}
 use Prim.Native.Nat.{ℕ, _+_, _*_, _/_, _%_, _≤_, _<_}
 use native.Mathlib.Omega.{arith}
-use Rattle.job.specs.Job.{shotCount, Valid}
+use Rattle.job.specs.Job.{Job, shotCount, Valid}
 use Rattle.grid.specs.Numbers.{upTo, AllBelow}
 use Rattle.grid.specs.Grid.{meetsOn, runOf, rowOf, slabOf}
 use Rattle.grid_filling.specs.Filling.{narrowed, Ready}
 use Rattle.grid.proofs.NumberLaws.{those-those, those-agree, below-upTo, below-those}
 use Rattle.grid.proofs.CellLaws.{digit-high, digit-low, cube-most, runs-few}
 
-module _ (F E G : ℕ) (coords : List ℕ) where
-  pub slab-narrow : (gx : ℕ) → slabOf F E G coords gx ≡ narrowed 0 (F / G) gx E coords (upTo (shotCount coords))
+module _ (job : Job) where
+  open Job job using (field as F, edge as E, grid as G, coords)
+
+  pub slab-narrow : (gx : ℕ) → slabOf job gx ≡ narrowed 0 (F / G) gx E coords (upTo (shotCount coords))
   unfolding slabOf
   slab-narrow gx = refl
 
-  pub row-narrow : (gx gy : ℕ) → gy < G → rowOf F E G coords (gx * G + gy) ≡ narrowed 1 (F / G) gy E coords (slabOf F E G coords gx)
+  pub row-narrow : (gx gy : ℕ) → gy < G → rowOf job (gx * G + gy) ≡ narrowed 1 (F / G) gy E coords (slabOf job gx)
   unfolding rowOf slabOf
   row-narrow gx gy h = rw (digit-high G gx gy h, digit-low G gx gy h) (sym (those-those _ _ (upTo (shotCount coords))))
 
-  pub run-narrow : (line gz : ℕ) → gz < G → runOf F E G coords (line * G + gz) ≡ narrowed 2 (F / G) gz E coords (rowOf F E G coords line)
+  pub run-narrow : (line gz : ℕ) → gz < G → runOf job (line * G + gz) ≡ narrowed 2 (F / G) gz E coords (rowOf job line)
   unfolding runOf rowOf
   run-narrow line gz h =
       rw (digit-high G line gz h, digit-low G line gz h)
@@ -33,14 +35,16 @@ module _ (F E G : ℕ) (coords : List ℕ) where
       cell = meetsOn 2 (F / G) gz E coords
 
   -- slabs and rows name shots of the list
-  pub slab-below : (gx : ℕ) → AllBelow (shotCount coords) (slabOf F E G coords gx)
+  pub slab-below : (gx : ℕ) → AllBelow (shotCount coords) (slabOf job gx)
   unfolding slabOf
   slab-below gx = below-those (shotCount coords) _ (upTo (shotCount coords)) (below-upTo (shotCount coords))
 
-  pub row-below : (line : ℕ) → AllBelow (shotCount coords) (rowOf F E G coords line)
+  pub row-below : (line : ℕ) → AllBelow (shotCount coords) (rowOf job line)
   unfolding rowOf
   row-below line = below-those (shotCount coords) _ (upTo (shotCount coords)) (below-upTo (shotCount coords))
 
-module _ (F E G : ℕ) (coords : List ℕ) (v : Valid F E G coords) where
-  pub place-fits : (c at : ℕ) {w : List ℕ} → c ≤ G * G * G → Ready (runOf F E G coords) (G * G * G) c at w → at < 4294967296
-  place-fits c at h p = omega (arith, p .next, runs-few F E G coords v c h, cube-most G (v .grid-most))
+module _ (job : Job) (v : Valid job) where
+  open Job job using (grid as G)
+
+  pub place-fits : (c at : ℕ) {w : List ℕ} → c ≤ G * G * G → Ready (runOf job) (G * G * G) c at w → at < 4294967296
+  place-fits c at h p = omega (arith, p .next, runs-few job v c h, cube-most G (v .grid-most))

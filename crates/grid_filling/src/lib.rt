@@ -7,7 +7,7 @@ ghost use mathlib.Core.Path.{_≡_};
 ghost use Prim.Native.Nat.{_+_, _-_, _*_, _≤_, _<_};
 ghost use lib.ListN.{length, set};
 ghost use Rattle.lattice.specs.Cells.{bit};
-ghost use Rattle.job.specs.Job.{shotCount, Valid};
+ghost use Rattle.job.specs.Job.{jobOf, shotCount, Valid};
 ghost use Rattle.buffer.specs.Wrote.{Wrote};
 ghost use Rattle.grid.specs.Numbers.{upTo, AllBelow};
 ghost use Rattle.grid.specs.Grid.{runOf, rowOf, slabOf, need, withIndex};
@@ -98,12 +98,12 @@ fn fill_cells(
     work: &mut [u32],
     at: usize,
 ) -> usize
-    requires { ⌜ Valid field edge grid (now coords) ⌝ }
+    requires { ⌜ Valid (jobOf field edge grid (now coords)) ⌝ }
     requires { ⌜ line < grid * grid ⌝ }
-    requires { ⌜ now row ≡ rowOf field edge grid (now coords) line ⌝ }
+    requires { ⌜ now row ≡ rowOf (jobOf field edge grid (now coords)) line ⌝ }
     requires { ⌜ length (now row) ≤ length (now run) ⌝ }
-    requires { ⌜ Ready (runOf field edge grid (now coords)) (grid * grid * grid) (line * grid) at (now work) ⌝ }
-    ensures { λ r. ⌜ Grew (runOf field edge grid (now (coords .entry))) (grid * grid * grid)
+    requires { ⌜ Ready (runOf (jobOf field edge grid (now coords))) (grid * grid * grid) (line * grid) at (now work) ⌝ }
+    ensures { λ r. ⌜ Grew (runOf (jobOf field edge grid (now (coords .entry)))) (grid * grid * grid)
         (line * grid) (line * grid + grid) (now (work .entry)) (now (work .exit)) r ⌝ }
 {
     let width = field / grid;
@@ -130,13 +130,13 @@ fn fill_row(
     work: &mut [u32],
     at: usize,
 ) -> usize
-    requires { ⌜ Valid field edge grid (now coords) ⌝ }
+    requires { ⌜ Valid (jobOf field edge grid (now coords)) ⌝ }
     requires { ⌜ gx < grid ⌝ }
     requires { ⌜ gy < grid ⌝ }
-    requires { ⌜ now slab ≡ slabOf field edge grid (now coords) gx ⌝ }
+    requires { ⌜ now slab ≡ slabOf (jobOf field edge grid (now coords)) gx ⌝ }
     requires { ⌜ (4096 ≤ length (now row)) × (4096 ≤ length (now run)) ⌝ }
-    requires { ⌜ Ready (runOf field edge grid (now coords)) (grid * grid * grid) ((gx * grid + gy) * grid) at (now work) ⌝ }
-    ensures { λ r. ⌜ Grew (runOf field edge grid (now (coords .entry))) (grid * grid * grid)
+    requires { ⌜ Ready (runOf (jobOf field edge grid (now coords))) (grid * grid * grid) ((gx * grid + gy) * grid) at (now work) ⌝ }
+    ensures { λ r. ⌜ Grew (runOf (jobOf field edge grid (now (coords .entry)))) (grid * grid * grid)
         ((gx * grid + gy) * grid) ((gx * grid + gy) * grid + grid) (now (work .entry)) (now (work .exit)) r ⌝ }
 {
     let n = narrow(coords, edge, 1, field / grid, gy, slab, row);
@@ -157,12 +157,12 @@ fn fill_rows(
     work: &mut [u32],
     at: usize,
 ) -> usize
-    requires { ⌜ Valid field edge grid (now coords) ⌝ }
+    requires { ⌜ Valid (jobOf field edge grid (now coords)) ⌝ }
     requires { ⌜ gx < grid ⌝ }
-    requires { ⌜ now slab ≡ slabOf field edge grid (now coords) gx ⌝ }
+    requires { ⌜ now slab ≡ slabOf (jobOf field edge grid (now coords)) gx ⌝ }
     requires { ⌜ (4096 ≤ length (now row)) × (4096 ≤ length (now run)) ⌝ }
-    requires { ⌜ Ready (runOf field edge grid (now coords)) (grid * grid * grid) (gx * grid * grid) at (now work) ⌝ }
-    ensures { λ r. ⌜ Grew (runOf field edge grid (now (coords .entry))) (grid * grid * grid)
+    requires { ⌜ Ready (runOf (jobOf field edge grid (now coords))) (grid * grid * grid) (gx * grid * grid) at (now work) ⌝ }
+    ensures { λ r. ⌜ Grew (runOf (jobOf field edge grid (now (coords .entry)))) (grid * grid * grid)
         (gx * grid * grid) ((gx + 1) * grid * grid) (now (work .entry)) (now (work .exit)) r ⌝ }
 {
     let mut next = at;
@@ -195,11 +195,11 @@ fn fill_slab(
     work: &mut [u32],
     at: usize,
 ) -> usize
-    requires { ⌜ Valid field edge grid (now coords) ⌝ }
+    requires { ⌜ Valid (jobOf field edge grid (now coords)) ⌝ }
     requires { ⌜ gx < grid ⌝ }
     requires { ⌜ now all ≡ upTo (shotCount (now coords)) ⌝ }
-    requires { ⌜ Ready (runOf field edge grid (now coords)) (grid * grid * grid) (gx * grid * grid) at (now work) ⌝ }
-    ensures { λ r. ⌜ Grew (runOf field edge grid (now (coords .entry))) (grid * grid * grid)
+    requires { ⌜ Ready (runOf (jobOf field edge grid (now coords))) (grid * grid * grid) (gx * grid * grid) at (now work) ⌝ }
+    ensures { λ r. ⌜ Grew (runOf (jobOf field edge grid (now (coords .entry)))) (grid * grid * grid)
         (gx * grid * grid) ((gx + 1) * grid * grid) (now (work .entry)) (now (work .exit)) r ⌝ }
 {
     let mut slab: [u32; 4096] = [0; 4096];
@@ -230,10 +230,10 @@ fn fill_slabs(
     work: &mut [u32],
     at: usize,
 ) -> usize
-    requires { ⌜ Valid field edge grid (now coords) ⌝ }
+    requires { ⌜ Valid (jobOf field edge grid (now coords)) ⌝ }
     requires { ⌜ now all ≡ upTo (shotCount (now coords)) ⌝ }
-    requires { ⌜ Ready (runOf field edge grid (now coords)) (grid * grid * grid) 0 at (now work) ⌝ }
-    ensures { λ r. ⌜ Grew (runOf field edge grid (now (coords .entry))) (grid * grid * grid)
+    requires { ⌜ Ready (runOf (jobOf field edge grid (now coords))) (grid * grid * grid) 0 at (now work) ⌝ }
+    ensures { λ r. ⌜ Grew (runOf (jobOf field edge grid (now (coords .entry)))) (grid * grid * grid)
         0 (grid * grid * grid) (now (work .entry)) (now (work .exit)) r ⌝ }
 {
     let mut next = at;
@@ -255,9 +255,9 @@ fn number(places: &mut [u32])
 
 // Puts the index of a list into the work slice; the entries past the index keep their values.
 pub fn build(field: u16, edge: u16, grid: u16, coords: &[u16], work: &mut [u32])
-    requires { ⌜ Valid field edge grid (now coords) ⌝ }
-    requires { ⌜ need field edge grid (now coords) ≤ length (now work) ⌝ }
-    ensures { λ _. ⌜ now (work .exit) ≡ withIndex field edge grid (now (coords .entry)) (now (work .entry)) ⌝ }
+    requires { ⌜ Valid (jobOf field edge grid (now coords)) ⌝ }
+    requires { ⌜ need (jobOf field edge grid (now coords)) ≤ length (now work) ⌝ }
+    ensures { λ _. ⌜ now (work .exit) ≡ withIndex (jobOf field edge grid (now (coords .entry))) (now (work .entry)) ⌝ }
 {
     let mut all: [u32; 4096] = [0; 4096];
     number(&mut all);

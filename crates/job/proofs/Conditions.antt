@@ -15,60 +15,62 @@ use Rattle.lattice.proofs.ShotLaws.{cells-within}
 use Rattle.job.specs.declared.Refusal.{Refusal}
 use Rattle.job.specs.declared.Refusal.the-variants.{BrokenShot, TooManyShots, FieldRange, EdgeRange, GridRange, OutsideField}
 use Rattle.job.specs.declared.Checked.the-variants.{Accepted, Refused}
-use Rattle.job.specs.Job.{shotsOf, shotCount, shotAt, Valid}
+use Rattle.job.specs.Job.{Job, shots, shot, shotCount, Valid}
 use Rattle.job.specs.Checking.{outside, leaves, firstLeaving, settingTests, shotTests, tests, checked}
 use Rattle.job.specs.Conditions.{FirstOutside, Condition, broken-shot, too-many-shots, field-range, edge-range, grid-range, outside-field, Each, Says, First}
 use Rattle.job.proofs.Tests.{within, out, is-out, settled, or-false, or-true, or-true-left, or-true-right}
 use Rattle.job.proofs.Shots.{shots-count, shots-at, any-leaves, stays, stays-not, all-stay, first-leaves, earlier-stays, stay-at}
 use Rattle.job.proofs.Places.{passes, first-iff, none-each, none-iff}
 
-module _ (F E G : ℕ) (coords : List ℕ) where
-  abbrev found : ℕ
-  found = firstLeaving F (shotsOf E coords)
+module _ (job : Job) where
+  open Job job using (field as F, edge as E, grid as G, coords)
 
-  leaving : any (leaves F) (shotsOf E coords) ≡ ltb found (shotCount coords)
-  leaving = rw (← shots-count E coords) (any-leaves F (shotsOf E coords))
+  abbrev found : ℕ
+  found = firstLeaving F (shots job)
+
+  leaving : any (leaves F) (shots job) ≡ ltb found (shotCount coords)
+  leaving = rw (← shots-count E coords) (any-leaves F (shots job))
 
   -- the first shot that leaves the field is the one that the search finds
-  found-outside : found < shotCount coords → FirstOutside F E coords found
+  found-outside : found < shotCount coords → FirstOutside job found
   found-outside h =
-      let o = shotAt E coords 0 in
+      let o = shot job 0 in
       record {
         is-shot = h;
-        leaves-field = rw (shots-at E coords found o h) at (stays-not F _ (first-leaves F (shotsOf E coords) o (omega (arith, shots-count E coords))));
-        earlier-stay = λ i l. rw (shots-at E coords i o (omega arith)) at (stays F _ (earlier-stays F (shotsOf E coords) o i l));
+        leaves-field = rw (shots-at E coords found o h) at (stays-not F _ (first-leaves F (shots job) o (omega (arith, shots-count E coords))));
+        earlier-stay = λ i l. rw (shots-at E coords i o (omega arith)) at (stays F _ (earlier-stays F (shots job) o i l));
       }
 
   -- ---- each test says the condition of its refusal
-  says-broken : Says (Condition F E G coords) (record { holds = not (eqb (length coords % 3) 0); gives = BrokenShot })
+  says-broken : Says (Condition job) (record { holds = not (eqb (length coords % 3) 0); gives = BrokenShot })
   says-broken = (λ e. broken-shot (to (eqb (length coords % 3) 0) refl e), from)
     where
       to : (b : Bool) → eqb (length coords % 3) 0 ≡ b → not b ≡ true → ¬ (length coords % 3 ≡ 0)
       to true h e = absurd (true≢false (sym e))
       to false h e = eqb-false (length coords % 3) 0 h
 
-      from : Condition F E G coords BrokenShot → not (eqb (length coords % 3) 0) ≡ true
+      from : Condition job BrokenShot → not (eqb (length coords % 3) 0) ≡ true
       from (broken-shot h) = rw (ne-eqb (length coords % 3) 0 h)
 
-  says-many : Says (Condition F E G coords) (record { holds = ltb 4096 (shotCount coords); gives = TooManyShots 0 })
+  says-many : Says (Condition job) (record { holds = ltb 4096 (shotCount coords); gives = TooManyShots 0 })
   says-many = (λ e. too-many-shots (ltb-true 4096 (shotCount coords) e), from)
     where
-      from : Condition F E G coords (TooManyShots 0) → ltb 4096 (shotCount coords) ≡ true
+      from : Condition job (TooManyShots 0) → ltb 4096 (shotCount coords) ≡ true
       from (too-many-shots h) = lt-ltb 4096 (shotCount coords) h
 
-  says-field : Says (Condition F E G coords) (record { holds = outside 1 1024 F; gives = FieldRange })
+  says-field : Says (Condition job) (record { holds = outside 1 1024 F; gives = FieldRange })
   says-field = (λ e. field-range (out 1 1024 F e), from)
     where
-      from : Condition F E G coords FieldRange → outside 1 1024 F ≡ true
+      from : Condition job FieldRange → outside 1 1024 F ≡ true
       from (field-range h) = is-out 1 1024 F h
 
-  says-edge : Says (Condition F E G coords) (record { holds = outside 1 F E; gives = EdgeRange })
+  says-edge : Says (Condition job) (record { holds = outside 1 F E; gives = EdgeRange })
   says-edge = (λ e. edge-range (out 1 F E e), from)
     where
-      from : Condition F E G coords EdgeRange → outside 1 F E ≡ true
+      from : Condition job EdgeRange → outside 1 F E ≡ true
       from (edge-range h) = is-out 1 F E h
 
-  says-grid : Says (Condition F E G coords) (record { holds = outside 1 64 G || not (eqb (F % G) 0); gives = GridRange })
+  says-grid : Says (Condition job) (record { holds = outside 1 64 G || not (eqb (F % G) 0); gives = GridRange })
   says-grid = (λ e. grid-range (⊎-elim ranged divided (or-true (outside 1 64 G) _ e)), from)
     where
       ranged : outside 1 64 G ≡ true → (G < 1) ⊎ ((64 < G) ⊎ ¬ (F % G ≡ 0))
@@ -81,30 +83,30 @@ module _ (F E G : ℕ) (coords : List ℕ) where
           unequal true h e = absurd (true≢false (sym e))
           unequal false h e = eqb-false (F % G) 0 h
 
-      from : Condition F E G coords GridRange → outside 1 64 G || not (eqb (F % G) 0) ≡ true
+      from : Condition job GridRange → outside 1 64 G || not (eqb (F % G) 0) ≡ true
       from (grid-range (inl l)) = or-true-left (outside 1 64 G) _ (is-out 1 64 G (inl l))
       from (grid-range (inr (inl l))) = or-true-left (outside 1 64 G) _ (is-out 1 64 G (inr l))
       from (grid-range (inr (inr n))) = or-true-right (outside 1 64 G) _ (rw (ne-eqb (F % G) 0 n))
 
-  says-outside : Says (Condition F E G coords) (record { holds = any (leaves F) (shotsOf E coords); gives = OutsideField found })
+  says-outside : Says (Condition job) (record { holds = any (leaves F) (shots job); gives = OutsideField found })
   says-outside = (λ e. outside-field (found-outside (ltb-true found (shotCount coords) (sym leaving ∙ e))), from)
     where
-      from : Condition F E G coords (OutsideField found) → any (leaves F) (shotsOf E coords) ≡ true
+      from : Condition job (OutsideField found) → any (leaves F) (shots job) ≡ true
       from (outside-field f) = leaving ∙ lt-ltb found (shotCount coords) (f .is-shot)
 
-  pub tests-say : Each (Says (Condition F E G coords)) (tests F E G coords)
+  pub tests-say : Each (Says (Condition job)) (tests job)
   unfolding tests settingTests shotTests
   tests-say = (says-broken, (says-many, (says-field, (says-edge, (says-grid, (says-outside, tt))))))
 
   -- a refusal is given if and only if its condition holds and that of no test before it does
-  pub refused-iff : (r : Refusal) → (checked F E G coords ≡ Refused r) ↔ First (Condition F E G coords) (tests F E G coords) r
-  refused-iff r = first-iff (Condition F E G coords) (tests F E G coords) tests-say r
+  pub refused-iff : (r : Refusal) → (checked job ≡ Refused r) ↔ First (Condition job) (tests job) r
+  refused-iff r = first-iff (Condition job) (tests job) tests-say r
 
   -- ---- a list is accepted if and only if it is valid
-  valid-if : checked F E G coords ≡ Accepted → Valid F E G coords
+  valid-if : checked job ≡ Accepted → Valid job
   unfolding tests settingTests shotTests
   valid-if e =
-      let p = passes (tests F E G coords) .0 e in
+      let p = passes (tests job) .0 e in
       let field = p .1 .1 .0 in
       let edge = p .1 .1 .1 .0 in
       let grid = p .1 .1 .1 .1 .0 in
@@ -119,11 +121,11 @@ module _ (F E G : ℕ) (coords : List ℕ) where
         grid-least = within 1 64 G (g .0) .0;
         grid-most = within 1 64 G (g .0) .1;
         grid-divides = settled (F % G) 0 (λ n. true≢false (sym (says-grid .1 (grid-range (inr (inr n)))) ∙ grid));
-        inside = all-stay F (shotsOf E coords) (omega (arith, shots-count E coords, ltb-false found (shotCount coords) (sym leaving ∙ p .1 .1 .1 .1 .1 .0)));
+        inside = all-stay F (shots job) (omega (arith, shots-count E coords, ltb-false found (shotCount coords) (sym leaving ∙ p .1 .1 .1 .1 .1 .0)));
       }
 
   -- no condition holds of a valid list
-  pub valid-none : Valid F E G coords → (q : Refusal) → ¬ Condition F E G coords q
+  pub valid-none : Valid job → (q : Refusal) → ¬ Condition job q
   valid-none v q (broken-shot h) = h (v .threes)
   valid-none v q (too-many-shots h) = omega (arith, v .few)
   valid-none v q (field-range h) = ⊎-elim (λ m. omega (arith, v .field-least)) (λ m. omega (arith, v .field-most)) h
@@ -131,13 +133,13 @@ module _ (F E G : ℕ) (coords : List ℕ) where
   valid-none v q (grid-range h) = ⊎-elim (λ m. omega (arith, v .grid-least)) (⊎-elim (λ m. omega (arith, v .grid-most)) (λ n. n (v .grid-divides))) h
   valid-none v q (outside-field f) = f .leaves-field (stay-at F E coords (v .inside) _ (f .is-shot))
 
-  pub accepted-valid : (checked F E G coords ≡ Accepted) ↔ Valid F E G coords
-  accepted-valid = (valid-if, λ v. none-iff (Condition F E G coords) (tests F E G coords) tests-say .1 (none-each (Condition F E G coords) (valid-none v) (tests F E G coords)))
+  pub accepted-valid : (checked job ≡ Accepted) ↔ Valid job
+  accepted-valid = (valid-if, λ v. none-iff (Condition job) (tests job) tests-say .1 (none-each (Condition job) (valid-none v) (tests job)))
 
   -- a list is accepted if and only if no condition holds
-  pub accepted-iff : (checked F E G coords ≡ Accepted) ↔ ((q : Refusal) → ¬ Condition F E G coords q)
-  accepted-iff = (λ e. valid-none (valid-if e), λ n. none-iff (Condition F E G coords) (tests F E G coords) tests-say .1 (none-each (Condition F E G coords) n (tests F E G coords)))
+  pub accepted-iff : (checked job ≡ Accepted) ↔ ((q : Refusal) → ¬ Condition job q)
+  accepted-iff = (λ e. valid-none (valid-if e), λ n. none-iff (Condition job) (tests job) tests-say .1 (none-each (Condition job) n (tests job)))
 
 -- the cells of a valid list lie in the field
-pub valid-within : {F E G : ℕ} {coords : List ℕ} → Valid F E G coords → Within F (cells (shotsOf E coords))
-valid-within {F} {E} {G} {coords} v = cells-within F (shotsOf E coords) (v .inside)
+pub valid-within : {job : Job} → Valid job → Within job.field (cells (shots job))
+valid-within {job} v = cells-within job.field (shots job) (v .inside)

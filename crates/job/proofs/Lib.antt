@@ -5,3 +5,4 @@ pub mod Places
 pub mod Answers
 pub mod Conditions
 pub mod OneMore
+pub mod Deciding

@@ -11,7 +11,7 @@ use Rattle.job.specs.declared.Refusal.{Refusal}
 use Rattle.job.specs.declared.Refusal.the-variants.{BrokenShot, TooManyShots, FieldRange, EdgeRange, GridRange, OutsideField}
 use Rattle.job.specs.declared.Checked.{Checked}
 use Rattle.job.specs.declared.Checked.the-variants.{Accepted, Refused}
-use Rattle.job.specs.Job.{shotsOf, shotCount}
+use Rattle.job.specs.Job.{Job, shots, shotCount}
 use Rattle.job.specs.Refusals.{numberOf, detailOf, Numbers, checkedNumbers}
 
 -- a is below least or above most
@@ -42,25 +42,25 @@ firstOf [] = Accepted
 firstOf (t ∷ ts) = cond (t .holds) (Refused (t .gives)) (firstOf ts)
 
 -- the tests of the settings and of the coordinates' count: 1, 2, 6, 7, 8
-unfoldable pub settingTests : ℕ → ℕ → ℕ → List ℕ → List Test
-settingTests F E G coords =
-    record { holds = not (eqb (length coords % 3) 0); gives = BrokenShot }
-    ∷ record { holds = ltb 4096 (shotCount coords); gives = TooManyShots 0 }
-    ∷ record { holds = outside 1 1024 F; gives = FieldRange }
-    ∷ record { holds = outside 1 F E; gives = EdgeRange }
-    ∷ record { holds = outside 1 64 G || not (eqb (F % G) 0); gives = GridRange }
+unfoldable pub settingTests : Job → List Test
+settingTests job =
+    record { holds = not (eqb (length job.coords % 3) 0); gives = BrokenShot }
+    ∷ record { holds = ltb 4096 (shotCount job.coords); gives = TooManyShots 0 }
+    ∷ record { holds = outside 1 1024 job.field; gives = FieldRange }
+    ∷ record { holds = outside 1 job.field job.edge; gives = EdgeRange }
+    ∷ record { holds = outside 1 64 job.grid || not (eqb (job.field % job.grid) 0); gives = GridRange }
     ∷ []
 
 -- the tests of the shots: 9
-unfoldable pub shotTests : ℕ → ℕ → List ℕ → List Test
-shotTests F E coords = record { holds = any (leaves F) (shotsOf E coords); gives = OutsideField (firstLeaving F (shotsOf E coords)) } ∷ []
+unfoldable pub shotTests : ℕ → List Shot → List Test
+shotTests F ts = record { holds = any (leaves F) ts; gives = OutsideField (firstLeaving F ts) } ∷ []
 
--- the tests of a list and its settings; a call's own tests come after them
-unfoldable pub tests : ℕ → ℕ → ℕ → List ℕ → List Test
-tests F E G coords = settingTests F E G coords ++ shotTests F E coords
+-- the tests of a job; a call's own tests come after them
+unfoldable pub tests : Job → List Test
+tests job = settingTests job ++ shotTests job.field (shots job)
 
-abbrev pub checked : ℕ → ℕ → ℕ → List ℕ → Checked
-checked F E G coords = firstOf (tests F E G coords)
+abbrev pub checked : Job → Checked
+checked job = firstOf (tests job)
 
 -- ---- what is answered
 -- the number and detail of the first test that holds; 0 and 0 where none does

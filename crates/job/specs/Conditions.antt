@@ -8,23 +8,24 @@ use lib.ListN.{length}
 use Rattle.lattice.specs.Shots.{InField}
 use Rattle.job.specs.declared.Refusal.{Refusal}
 use Rattle.job.specs.declared.Refusal.the-variants.{BrokenShot, TooManyShots, FieldRange, EdgeRange, GridRange, OutsideField}
-use Rattle.job.specs.Job.{shotCount, shotAt}
-use Rattle.job.specs.Checking.{Test}
+use Rattle.job.specs.Job.{Job, shot, shotCount}
+use Rattle.job.specs.declared.Checked.the-variants.{Accepted, Refused}
+use Rattle.job.specs.Checking.{Test, firstOf}
 
 -- this shot leaves the field, and no earlier one does
-pub record FirstOutside (F E : ℕ) (coords : List ℕ) (shot : ℕ) : Type 0 where
-  pub is-shot : shot < shotCount coords
-  pub leaves-field : ¬ InField F (shotAt E coords shot)
-  pub earlier-stay : (i : ℕ) → i < shot → InField F (shotAt E coords i)
+pub record FirstOutside (job : Job) (n : ℕ) : Type 0 where
+  pub is-shot : n < shotCount job.coords
+  pub leaves-field : ¬ InField job.field (shot job n)
+  pub earlier-stay : (i : ℕ) → i < n → InField job.field (shot job i)
 
 -- the condition of each refusal of a list, with its detail; the checks of a list give no other refusals
-pub data Condition (F E G : ℕ) (coords : List ℕ) : Refusal → Type 0 where
-  broken-shot : ¬ (length coords % 3 ≡ 0) → Condition F E G coords BrokenShot
-  too-many-shots : 4096 < shotCount coords → Condition F E G coords (TooManyShots 0)
-  field-range : (F < 1) ⊎ (1024 < F) → Condition F E G coords FieldRange
-  edge-range : (E < 1) ⊎ (F < E) → Condition F E G coords EdgeRange
-  grid-range : (G < 1) ⊎ ((64 < G) ⊎ ¬ (F % G ≡ 0)) → Condition F E G coords GridRange
-  outside-field : {shot : ℕ} → FirstOutside F E coords shot → Condition F E G coords (OutsideField shot)
+pub data Condition (job : Job) : Refusal → Type 0 where
+  broken-shot : ¬ (length job.coords % 3 ≡ 0) → Condition job BrokenShot
+  too-many-shots : 4096 < shotCount job.coords → Condition job (TooManyShots 0)
+  field-range : (job.field < 1) ⊎ (1024 < job.field) → Condition job FieldRange
+  edge-range : (job.edge < 1) ⊎ (job.field < job.edge) → Condition job EdgeRange
+  grid-range : (job.grid < 1) ⊎ ((64 < job.grid) ⊎ ¬ (job.field % job.grid ≡ 0)) → Condition job GridRange
+  outside-field : {n : ℕ} → FirstOutside job n → Condition job (OutsideField n)
 
 -- of each test of a list
 abbrev pub Each : (Test → Type 0) → List Test → Type 0
@@ -44,3 +45,8 @@ pub record First (condition : Refusal → Type 0) (ts : List Test) (r : Refusal)
   pub none-before : Each (λ t. ¬ condition (t .gives)) before
   pub gives-it : here .gives ≡ r
   pub holds : condition r
+
+-- these tests accept exactly so, and refuse exactly so
+pub record Decides (ts : List Test) (accepts : Type 0) (refuses : Refusal → Type 0) : Type 0 where
+  pub accepted : (firstOf ts ≡ Accepted) ↔ accepts
+  pub refused : (r : Refusal) → (firstOf ts ≡ Refused r) ↔ refuses r

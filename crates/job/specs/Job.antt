@@ -1,9 +1,19 @@
--- A list: a field side F, a shot edge E, a grid size G and coordinates, three numbers a shot. docs/SCOPE.md, 'The job'.
+-- A job: a list with its settings, and the door to its shots. docs/SCOPE.md, 'The job'.
 use mathlib.Core.Path.{_≡_}
 use mathlib.Core.List.{List, [], _∷_}
 use Prim.Native.Nat.{ℕ, _+_, _*_, _/_, _%_, _≤_}
 use lib.ListN.{length, getD, take}
 use Rattle.lattice.specs.Shots.{Shot, AllInField}
+
+-- a list with its settings: field side F, shot edge E, grid size G, and the coordinates, three numbers a shot
+pub record Job : Type 0 where
+  pub field : ℕ
+  pub edge : ℕ
+  pub grid : ℕ
+  pub coords : List ℕ
+
+abbrev pub jobOf : ℕ → ℕ → ℕ → List ℕ → Job
+jobOf F E G coords = record { field = F; edge = E; grid = G; coords = coords }
 
 -- the shots of a coordinate list: today every shot has the list's edge
 unfoldable pub shotsOf : ℕ → List ℕ → List Shot
@@ -45,15 +55,22 @@ numbersOf x y z = x ∷ y ∷ z ∷ []
 abbrev pub firstShots : ℕ → List ℕ → List ℕ
 firstShots n coords = take (placeOf n) coords
 
--- a valid list: F is 1 to 1,024, E is 1 to F, G is 1 to 64 and divides F, there are 0 to 4,096 shots, and each stays in the field
-pub record Valid (F E G : ℕ) (coords : List ℕ) : Type 0 where
-  pub threes : length coords % 3 ≡ 0
-  pub few : length coords / 3 ≤ 4096
-  pub field-least : 1 ≤ F
-  pub field-most : F ≤ 1024
-  pub edge-least : 1 ≤ E
-  pub edge-most : E ≤ F
-  pub grid-least : 1 ≤ G
-  pub grid-most : G ≤ 64
-  pub grid-divides : F % G ≡ 0
-  pub inside : AllInField F (shotsOf E coords)
+-- the shots of a job, and shot i of it; what stands above does not ask where a shot's edge comes from
+abbrev pub shots : Job → List Shot
+shots job = shotsOf job.edge job.coords
+
+abbrev pub shot : Job → ℕ → Shot
+shot job i = shotAt job.edge job.coords i
+
+-- a valid job: F is 1 to 1,024, E is 1 to F, G is 1 to 64 and divides F, there are 0 to 4,096 shots, and each stays in the field
+pub record Valid (job : Job) : Type 0 where
+  pub threes : length job.coords % 3 ≡ 0
+  pub few : length job.coords / 3 ≤ 4096
+  pub field-least : 1 ≤ job.field
+  pub field-most : job.field ≤ 1024
+  pub edge-least : 1 ≤ job.edge
+  pub edge-most : job.edge ≤ job.field
+  pub grid-least : 1 ≤ job.grid
+  pub grid-most : job.grid ≤ 64
+  pub grid-divides : job.field % job.grid ≡ 0
+  pub inside : AllInField job.field (shots job)

@@ -3,7 +3,7 @@
 // specs/Checking.antt is what `check` answers; proofs/Conditions.antt when, exactly. Stands on `buffer`, and on `lattice`, whose shots
 // and cells the definitions use.
 ghost use mathlib.Core.Path.{_≡_};
-ghost use Rattle.job.specs.Job.{shotsOf};
+ghost use Rattle.job.specs.Job.{jobOf, shotsOf};
 ghost use Rattle.job.specs.Refusals.{numberOf, detailOf, metAt};
 ghost use Rattle.job.specs.Checking.{outside, past, leaves, firstLeaving, settingTests, shotTests, tests, Checks};
 
@@ -189,7 +189,7 @@ fn is_outside(least: u16, most: u16, a: u16) -> bool
 
 // Checks the settings of a list and how many coordinates it has, by refusals 1, 2, 6, 7 and 8 in this order.
 pub fn check_settings(field: u16, edge: u16, grid: u16, coords: &[u16]) -> Checked
-    ensures { λ r. ⌜ Checks (settingTests field edge grid (now (coords .entry))) r ⌝ }
+    ensures { λ r. ⌜ Checks (settingTests (jobOf field edge grid (now (coords .entry)))) r ⌝ }
 {
     if coords.len() % 3 != 0 {
         return Checked::Refused(Refusal::BrokenShot);
@@ -214,7 +214,7 @@ pub fn check_settings(field: u16, edge: u16, grid: u16, coords: &[u16]) -> Check
 
 // Checks that the shots of a list stay in the field, by refusal 9.
 pub fn check_shots(field: u16, edge: u16, coords: &[u16]) -> Checked
-    ensures { λ r. ⌜ Checks (shotTests field edge (now (coords .entry))) r ⌝ }
+    ensures { λ r. ⌜ Checks (shotTests field (shotsOf edge (now (coords .entry)))) r ⌝ }
 {
     let shot = first_leaving(field, edge, coords);
     if shot < count(coords) {
@@ -225,7 +225,7 @@ pub fn check_shots(field: u16, edge: u16, coords: &[u16]) -> Checked
 
 // Checks a list and its settings, by refusals 1, 2, 6, 7, 8 and 9 in this order.
 pub fn check(field: u16, edge: u16, grid: u16, coords: &[u16]) -> Checked
-    ensures { λ r. ⌜ Checks (tests field edge grid (now (coords .entry))) r ⌝ }
+    ensures { λ r. ⌜ Checks (tests (jobOf field edge grid (now (coords .entry)))) r ⌝ }
 {
     let settings = check_settings(field, edge, grid, coords);
     match settings {

@@ -4,6 +4,7 @@ use mathlib.Core.List.{List, [], _∷_, _++_}
 use Prim.Native.Nat.{ℕ, _*_, _/_, _≤_, _<_}
 use native.Mathlib.Omega.{arith}
 use lib.ListN.{length, drop}
+use Rattle.job.specs.Job.{Job}
 use Rattle.lattice.specs.Cells.{Cells, Within}
 use Rattle.lattice.specs.Listing.{corners, cornerCount, listing}
 use Rattle.lattice_sums.specs.CornerSums.{sumsOf, totalsOf, Whole}
@@ -68,25 +69,27 @@ unfolding totalsOf
 totals-corners n s e = ap (λ (t : Totals). t .corners) e
 
 -- ---- the listing call, after the intake
-module _ {F E G : ℕ} {coords work work' : List ℕ} {c : Checked} (call : IndexCall F E G coords work c work') (buffer : List ℕ) where
-  list-is : {d : Checked} {m : Measured} {buffer' : List ℕ} → d ≡ listChecked F E G coords (length work) (length buffer)
-      → m ≡ answerOf d F (solid E coords) → buffer' ≡ left F (solid E coords) buffer d → ListCall F E G coords work buffer m work' buffer'
+module _ {job : Job} {work work' : List ℕ} {c : Checked} (call : IndexCall job work c work') (buffer : List ℕ) where
+  open Job job using (field as F)
+
+  list-is : {d : Checked} {m : Measured} {buffer' : List ℕ} → d ≡ listChecked job (length work) (length buffer)
+      → m ≡ answerOf d F (solid job) → buffer' ≡ left F (solid job) buffer d → ListCall job work buffer m work' buffer'
   unfolding listAnswer listNumbers listingAfter left
   list-is h e k =
-      let a = e ∙ ap (λ c. answerOf c F (solid E coords)) h in
+      let a = e ∙ ap (λ c. answerOf c F (solid job)) h in
       record {
         answer = a;
-        numbers = ap measuredNumbers a ∙ answer-numbers (listChecked F E G coords (length work) (length buffer)) F (solid E coords);
+        numbers = ap measuredNumbers a ∙ answer-numbers (listChecked job (length work) (length buffer)) F (solid job);
         index = call .index;
-        listing = k ∙ ap (left F (solid E coords) buffer) h;
+        listing = k ∙ ap (left F (solid job) buffer) h;
       }
 
-  pub refused-list : (r : Refusal) → c ≡ Refused r → ListCall F E G coords work buffer (Unmeasured r) work' buffer
+  pub refused-list : (r : Refusal) → c ≡ Refused r → ListCall job work buffer (Unmeasured r) work' buffer
   unfolding listTests left
   refused-list r k =
-      list-is (sym (first-stopped (shortListing F (solid E coords) (length buffer) ∷ []) (measureTests F E G coords (length work)) (sym (call .answer) ∙ k))) refl refl
+      list-is (sym (first-stopped (shortListing F (solid job) (length buffer) ∷ []) (measureTests job (length work)) (sym (call .answer) ∙ k))) refl refl
 
-  pub accepted-list : {m : Measured} {buffer' : List ℕ} → c ≡ Accepted → CornersListed F (solid E coords) buffer m buffer' → ListCall F E G coords work buffer m work' buffer'
+  pub accepted-list : {m : Measured} {buffer' : List ℕ} → c ≡ Accepted → CornersListed F (solid job) buffer m buffer' → ListCall job work buffer m work' buffer'
   unfolding listTests left
   accepted-list k l =
-      list-is (sym (first-passed (shortListing F (solid E coords) (length buffer) ∷ []) (measureTests F E G coords (length work)) (sym (call .answer) ∙ k))) (l .answer) (l .listing)
+      list-is (sym (first-passed (shortListing F (solid job) (length buffer) ∷ []) (measureTests job (length work)) (sym (call .answer) ∙ k))) (l .answer) (l .listing)

@@ -14,6 +14,7 @@ use lib.Dec.{T}
 use lib.IntN.{natAbs, _+ℤ_}
 use lib.ListN.{length, take, drop}
 use lib.Seq.{take-at}
+use Rattle.job.specs.Job.{Job, jobOf}
 use Rattle.lattice.specs.Cells.{Cells, Within, lengthBy, eitherEdge}
 use Rattle.lattice.specs.Figures.{Figure, EdgeLength, InnerLength, term}
 use Rattle.lattice.specs.Shots.{Shot, covers}
@@ -36,58 +37,64 @@ use Rattle.measure.proofs.AnswerLaws.{totals-corners}
 use Rattle.measure.proofs.AcceptedLaws.{Accepted, measure-accepted, list-accepted, list-stored}
 
 -- ---- 1. totals = cell counts = corner sums, and the corner count = the number of corner points
-module _ {F E G : ℕ} {coords work' : List ℕ} {t : Totals} (a : Accepted F E G coords t work') where
-  within : Within F (solid E coords)
+module _ {job : Job} {work' : List ℕ} {t : Totals} (a : Accepted job t work') where
+  open Job job using (field as F)
+
+  within : Within F (solid job)
   within = valid-within (a .valid)
 
-  value-sums : (f : Figure) → value f t ≡ cornerSum (term f) (corners F (solid E coords))
+  value-sums : (f : Figure) → value f t ≡ cornerSum (term f) (corners F (solid job))
   unfolding sumsOf
   value-sums f =
-      let vs = corners F (solid E coords) in
-      ap (value f) (a .totals-are) ∙ sym (sums-whole F (solid E coords) within .figure-is f) ∙ sum-by f (λ f. cornerSum (term f) vs) (length vs)
+      let vs = corners F (solid job) in
+      ap (value f) (a .totals-are) ∙ sym (sums-whole F (solid job) within .figure-is f) ∙ sum-by f (λ f. cornerSum (term f) vs) (length vs)
 
-  count-corners : t .corners ≡ length (corners F (solid E coords))
-  count-corners = totals-corners F (solid E coords) (a .totals-are) ∙ sym (agreement.count-is F (solid E coords) within)
+  count-corners : t .corners ≡ length (corners F (solid job))
+  count-corners = totals-corners F (solid job) (a .totals-are) ∙ sym (agreement.count-is F (solid job) within)
 
-  totals-agree : Agrees F (solid E coords) t
+  totals-agree : Agrees F (solid job) t
   totals-agree = record {
-    counts = λ f. value-sums f ∙ agreement.corner-sums F (solid E coords) within f;
+    counts = λ f. value-sums f ∙ agreement.corner-sums F (solid job) within f;
     sums = value-sums;
-    corners-count = totals-corners F (solid E coords) (a .totals-are);
+    corners-count = totals-corners F (solid job) (a .totals-are);
     corners-listed = count-corners;
-    outside-weighs-nothing = agreement.outside-weighs-nothing F (solid E coords) within;
+    outside-weighs-nothing = agreement.outside-weighs-nothing F (solid job) within;
   }
 
-module _ {F E G : ℕ} {coords work work' : List ℕ} {t : Totals} (call : MeasureCall F E G coords work (Quote t) work') where
-  pub measure-agrees : Agrees F (solid E coords) t
+module _ {job : Job} {work work' : List ℕ} {t : Totals} (call : MeasureCall job work (Quote t) work') where
+  open Job job using (field as F)
+
+  pub measure-agrees : Agrees F (solid job) t
   measure-agrees = totals-agree (measure-accepted call)
 
-  pub measure-holds : Holds F E G coords work'
+  pub measure-holds : Holds job work'
   measure-holds = measure-accepted call .holds-index
 
-module _ {F E G : ℕ} {coords work buffer work' buffer' : List ℕ} {t : Totals} (call : ListCall F E G coords work buffer (Quote t) work' buffer') where
-  pub list-agrees : Agrees F (solid E coords) t
+module _ {job : Job} {work buffer work' buffer' : List ℕ} {t : Totals} (call : ListCall job work buffer (Quote t) work' buffer') where
+  open Job job using (field as F)
+
+  pub list-agrees : Agrees F (solid job) t
   list-agrees = totals-agree (list-accepted call)
 
-  pub list-holds : Holds F E G coords work'
+  pub list-holds : Holds job work'
   list-holds = list-accepted call .holds-index
 
   -- ---- 2. the listing bytes: the buffer's first bytes at exit, 7 times the corner count of them; the rest of the buffer keeps its values
   abbrev pub listingBytes : List ℕ
   listingBytes = take (7 * t .corners) buffer'
 
-  listing-long : length (listing F (solid E coords)) ≡ 7 * t .corners
-  listing-long = agreement.listing-length F (solid E coords) (within (list-accepted call)) ∙ ap (λ n. 7 * n) (sym (list-agrees .corners-count))
+  listing-long : length (listing F (solid job)) ≡ 7 * t .corners
+  listing-long = agreement.listing-length F (solid job) (within (list-accepted call)) ∙ ap (λ n. 7 * n) (sym (list-agrees .corners-count))
 
-  pub bytes-are : listingBytes ≡ listing F (solid E coords)
-  bytes-are = ap (take (7 * t .corners)) (list-stored call) ∙ take-at (listing F (solid E coords)) (drop (7 * t .corners) buffer) (7 * t .corners) listing-long
+  pub bytes-are : listingBytes ≡ listing F (solid job)
+  bytes-are = ap (take (7 * t .corners)) (list-stored call) ∙ take-at (listing F (solid job)) (drop (7 * t .corners) buffer) (7 * t .corners) listing-long
 
   pub rest-kept : buffer' ≡ listingBytes ++ drop (7 * t .corners) buffer
   rest-kept = list-stored call ∙ ap (λ l. l ++ drop (7 * t .corners) buffer) (sym bytes-are)
 
-  pub list-lists : Lists F (solid E coords) t listingBytes
+  pub list-lists : Lists F (solid job) t listingBytes
   list-lists =
-      let s : Cells = solid E coords in
+      let s : Cells = solid job in
       let w = within (list-accepted call) in
       rw bytes-are
       (record {
@@ -97,22 +104,26 @@ module _ {F E G : ℕ} {coords work buffer work' buffer' : List ℕ} {t : Totals
       })
 
 -- ---- 3. two lists that `list` accepts, whatever their fields, edges, grids and orders: the same bytes exactly when they cover the same cells
-module _ {F E G : ℕ} {coords work buffer work' buffer' : List ℕ} {t : Totals} (one : ListCall F E G coords work buffer (Quote t) work' buffer')
-    {F₂ E₂ G₂ : ℕ} {coords₂ work₂ buffer₂ work₂' buffer₂' : List ℕ} {t₂ : Totals} (two : ListCall F₂ E₂ G₂ coords₂ work₂ buffer₂ (Quote t₂) work₂' buffer₂') where
-  pub same-bytes : SameBytes (take (7 * t .corners) buffer') (take (7 * t₂ .corners) buffer₂') ↔ SameCells (solid E coords) (solid E₂ coords₂)
+module _ {job : Job} {work buffer work' buffer' : List ℕ} {t : Totals} (one : ListCall job work buffer (Quote t) work' buffer')
+    {job₂ : Job} {work₂ buffer₂ work₂' buffer₂' : List ℕ} {t₂ : Totals} (two : ListCall job₂ work₂ buffer₂ (Quote t₂) work₂' buffer₂') where
+  open Job job using (field as F)
+
+  pub same-bytes : SameBytes (take (7 * t .corners) buffer') (take (7 * t₂ .corners) buffer₂') ↔ SameCells (solid job) (solid job₂)
   same-bytes = rw (bytes-are one, bytes-are two)
-      (agreement.same-listing F F₂ (solid E coords) (solid E₂ coords₂) (within (list-accepted one)) (within (list-accepted two)))
+      (agreement.same-listing F job₂.field (solid job) (solid job₂) (within (list-accepted one)) (within (list-accepted two)))
 
 -- ---- corollaries: edge and inner length together are the length by a count that takes one and three covered cells alike
 pub lengths-together : {F : ℕ} {s : Cells} {t : Totals} → Agrees F s t → t .edge + t .inner ≡ lengthBy eitherEdge F s
 lengths-together {F} {s} a = ap natAbs (ap₂ _+ℤ_ (a .counts EdgeLength) (a .counts InnerLength)) ∙ sym (either-length F s)
 
 -- ---- lists that cover the same cells, in the same field or another, have the same totals
-module _ {F E G : ℕ} {coords work' : List ℕ} {t : Totals} (one : Accepted F E G coords t work')
-    {F₂ E₂ G₂ : ℕ} {coords₂ work₂' : List ℕ} {t₂ : Totals} (two : Accepted F₂ E₂ G₂ coords₂ t₂ work₂')
-    (same : SameCells (solid E coords) (solid E₂ coords₂)) where
-  corners-same : corners F (solid E coords) ≡ corners F₂ (solid E₂ coords₂)
-  corners-same = same-corners F F₂ (solid E coords) (solid E₂ coords₂) (within one) (within two) same
+module _ {job : Job} {work' : List ℕ} {t : Totals} (one : Accepted job t work')
+    {job₂ : Job} {work₂' : List ℕ} {t₂ : Totals} (two : Accepted job₂ t₂ work₂')
+    (same : SameCells (solid job) (solid job₂)) where
+  open Job job using (field as F)
+
+  corners-same : corners F (solid job) ≡ corners job₂.field (solid job₂)
+  corners-same = same-corners F job₂.field (solid job) (solid job₂) (within one) (within two) same
 
   pub figure-same : (f : Figure) → value f t ≡ value f t₂
   figure-same f = value-sums one f ∙ ap (cornerSum (term f)) corners-same ∙ sym (value-sums two f)
@@ -122,26 +133,25 @@ module _ {F E G : ℕ} {coords work' : List ℕ} {t : Totals} (one : Accepted F 
 
 -- the grid does not matter: one field, edge and shots, in any two grids that a call accepts, have the same totals and corner count, and
 -- the same listing bytes
-module _ {F E : ℕ} {coords : List ℕ} {G : ℕ} {work work' : List ℕ} {t : Totals} (one : MeasureCall F E G coords work (Quote t) work')
-    {G₂ : ℕ} {work₂ work₂' : List ℕ} {t₂ : Totals} (two : MeasureCall F E G₂ coords work₂ (Quote t₂) work₂') where
+module _ {F E G : ℕ} {coords work work' : List ℕ} {t : Totals} (one : MeasureCall (jobOf F E G coords) work (Quote t) work')
+    {G₂ : ℕ} {work₂ work₂' : List ℕ} {t₂ : Totals} (two : MeasureCall (jobOf F E G₂ coords) work₂ (Quote t₂) work₂') where
   pub measured-any-grid : t ≡ t₂
   measured-any-grid = measure-accepted one .totals-are ∙ sym (measure-accepted two .totals-are)
 
-module _ {F E : ℕ} {coords : List ℕ} {G : ℕ} {work buffer work' buffer' : List ℕ} {t : Totals} (one : ListCall F E G coords work buffer (Quote t) work' buffer')
-    {G₂ : ℕ} {work₂ buffer₂ work₂' buffer₂' : List ℕ} {t₂ : Totals} (two : ListCall F E G₂ coords work₂ buffer₂ (Quote t₂) work₂' buffer₂') where
+module _ {F E G : ℕ} {coords work buffer work' buffer' : List ℕ} {t : Totals} (one : ListCall (jobOf F E G coords) work buffer (Quote t) work' buffer')
+    {G₂ : ℕ} {work₂ buffer₂ work₂' buffer₂' : List ℕ} {t₂ : Totals} (two : ListCall (jobOf F E G₂ coords) work₂ buffer₂ (Quote t₂) work₂' buffer₂') where
   pub totals-any-grid : t ≡ t₂
   totals-any-grid = list-accepted one .totals-are ∙ sym (list-accepted two .totals-are)
 
   pub listing-any-grid : take (7 * t .corners) buffer' ≡ take (7 * t₂ .corners) buffer₂'
   listing-any-grid = bytes-are one ∙ sym (bytes-are two)
 
--- neither order nor repeats change the cells: two lists of one edge cover the same cells if each has every shot of the other
-module _ (E : ℕ) (coords coords₂ : List ℕ) where
-  covers-among : (c d : List ℕ) → Among E c d → (i j k : ℕ) → T (solid E c i j k) → T (solid E d i j k)
-  covers-among c d h i j k t =
-      let r = any-at E (λ t. covers t i j k) c t in
-      let m = h (r .0) (r .1) in
-      at-any E (λ t. covers t i j k) d (m .0) (m .1) (subst (λ (t : Shot). T (covers t i j k)) (m .2) (r .2))
+-- neither order nor repeats change the cells: two lists cover the same cells if each has every shot of the other
+covers-among : (one two : Job) → Among one two → (i j k : ℕ) → T (solid one i j k) → T (solid two i j k)
+covers-among one two h i j k t =
+    let r = any-at one.edge (λ t. covers t i j k) one.coords t in
+    let m = h (r .0) (r .1) in
+    at-any two.edge (λ t. covers t i j k) two.coords (m .0) (m .1) (subst (λ (t : Shot). T (covers t i j k)) (m .2) (r .2))
 
-  pub same-shots : Among E coords coords₂ → Among E coords₂ coords → SameCells (solid E coords) (solid E coords₂)
-  same-shots h h₂ i j k = bool-ext (solid E coords i j k) (solid E coords₂ i j k) (covers-among coords coords₂ h i j k) (covers-among coords₂ coords h₂ i j k)
+pub same-shots : (one two : Job) → Among one two → Among two one → SameCells (solid one) (solid two)
+same-shots one two h h₂ i j k = bool-ext (solid one i j k) (solid two i j k) (covers-among one two h i j k) (covers-among two one h₂ i j k)

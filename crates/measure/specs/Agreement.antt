@@ -12,7 +12,7 @@ use Rattle.lattice.specs.Pattern.{around, corner}
 use Rattle.lattice.specs.Listing.{Corner, corners, cornerCount, IsCorner, Rising, readBack, cornerSum, listedSum}
 use Rattle.lattice_sums.specs.CornerSums.{value}
 use Rattle.lattice_sums.specs.declared.sums.Totals.{Totals}
-use Rattle.job.specs.Job.{shotCount, shotAt}
+use Rattle.job.specs.Job.{Job, shot, shotCount}
 
 -- totals = cell counts = corner sums, and the corner count = the number of lattice points with a nonzero weight
 pub record Agrees (F : ℕ) (s : Cells) (t : Totals) : Type 0 where
@@ -40,5 +40,5 @@ abbrev pub SameCells : Cells → Cells → Type 0
 SameCells s u = (i j k : ℕ) → s i j k ≡ u i j k
 
 -- every shot of the first list is one of the second
-abbrev pub Among : ℕ → List ℕ → List ℕ → Type 0
-Among E c d = (i : ℕ) → i < shotCount c → (j : ℕ) × (j < shotCount d) × (shotAt E c i ≡ shotAt E d j)
+abbrev pub Among : Job → Job → Type 0
+Among one two = (i : ℕ) → i < shotCount one.coords → (j : ℕ) × (j < shotCount two.coords) × (shot one i ≡ shot two j)

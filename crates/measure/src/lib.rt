@@ -9,7 +9,7 @@ ghost use Prim.Native.Nat.{_*_, _≤_};
 ghost use lib.ListN.{length};
 ghost use Rattle.lattice.specs.Listing.{cornerCount};
 ghost use Rattle.lattice_sums.specs.CornerSums.{totalsOf};
-ghost use Rattle.job.specs.Job.{Valid};
+ghost use Rattle.job.specs.Job.{jobOf, Valid};
 ghost use Rattle.grid.specs.Grid.{Holds};
 ghost use Rattle.measure_intake.specs.Intake.{solid, MeasureCall};
 ghost use Rattle.measure.specs.Answers.{listingOver, CornersListed, ListCall};
@@ -21,8 +21,8 @@ use measure_intake::indexed;
 
 // The totals of a valid list whose index stands in the work slice.
 fn count(field: u16, edge: u16, grid: u16, coords: &[u16], work: &[u32]) -> Totals
-    requires { ⌜ Valid field edge grid (now coords) × Holds field edge grid (now coords) (now work) ⌝ }
-    ensures { λ r. ⌜ r ≡ totalsOf field (solid edge (now (coords .entry))) ⌝ }
+    requires { ⌜ Valid (jobOf field edge grid (now coords)) × Holds (jobOf field edge grid (now coords)) (now work) ⌝ }
+    ensures { λ r. ⌜ r ≡ totalsOf field (solid (jobOf field edge grid (now (coords .entry)))) ⌝ }
 {
     let mut no_room = [0u8; 1];
     let sums = sweep::sweep(field, edge, grid, coords, work, &mut no_room);
@@ -31,9 +31,9 @@ fn count(field: u16, edge: u16, grid: u16, coords: &[u16], work: &[u32]) -> Tota
 
 // Puts the listing of a valid list whose index stands in the work slice into a buffer that has room for it.
 fn store(field: u16, edge: u16, grid: u16, coords: &[u16], work: &[u32], buffer: &mut [u8])
-    requires { ⌜ Valid field edge grid (now coords) × Holds field edge grid (now coords) (now work) ⌝ }
-    requires { ⌜ 7 * cornerCount field (solid edge (now coords)) ≤ length (now buffer) ⌝ }
-    ensures { λ _. ⌜ now (buffer .exit) ≡ listingOver field (solid edge (now (coords .entry))) (now (buffer .entry)) ⌝ }
+    requires { ⌜ Valid (jobOf field edge grid (now coords)) × Holds (jobOf field edge grid (now coords)) (now work) ⌝ }
+    requires { ⌜ 7 * cornerCount field (solid (jobOf field edge grid (now coords))) ≤ length (now buffer) ⌝ }
+    ensures { λ _. ⌜ now (buffer .exit) ≡ listingOver field (solid (jobOf field edge grid (now (coords .entry)))) (now (buffer .entry)) ⌝ }
 {
     sweep::sweep(field, edge, grid, coords, work, buffer);
 }
@@ -47,8 +47,8 @@ fn list_corners(
     work: &[u32],
     buffer: &mut [u8],
 ) -> Measured
-    requires { ⌜ Valid field edge grid (now coords) × Holds field edge grid (now coords) (now work) ⌝ }
-    ensures { λ r. ⌜ CornersListed field (solid edge (now (coords .entry))) (now (buffer .entry)) r (now (buffer .exit)) ⌝ }
+    requires { ⌜ Valid (jobOf field edge grid (now coords)) × Holds (jobOf field edge grid (now coords)) (now work) ⌝ }
+    ensures { λ r. ⌜ CornersListed field (solid (jobOf field edge grid (now (coords .entry)))) (now (buffer .entry)) r (now (buffer .exit)) ⌝ }
 {
     let totals = count(field, edge, grid, coords, work);
     let corners = totals.corners;
@@ -62,7 +62,7 @@ fn list_corners(
 // Measures a list: gives its four totals and its corner count, and leaves its index in the work slice. Refusals 1, 2, 6, 7, 8, 9, 10,
 // in this order, change nothing.
 pub fn measure(field: u16, edge: u16, grid: u16, coords: &[u16], work: &mut [u32]) -> Measured
-    ensures { λ r. ⌜ MeasureCall field edge grid (now (coords .entry)) (now (work .entry)) r (now (work .exit)) ⌝ }
+    ensures { λ r. ⌜ MeasureCall (jobOf field edge grid (now (coords .entry))) (now (work .entry)) r (now (work .exit)) ⌝ }
 {
     let checked = indexed(field, edge, grid, coords, work);
     match checked {
@@ -81,7 +81,7 @@ pub fn list(
     work: &mut [u32],
     buffer: &mut [u8],
 ) -> Measured
-    ensures { λ r. ⌜ ListCall field edge grid (now (coords .entry)) (now (work .entry)) (now (buffer .entry))
+    ensures { λ r. ⌜ ListCall (jobOf field edge grid (now (coords .entry))) (now (work .entry)) (now (buffer .entry))
         r (now (work .exit)) (now (buffer .exit)) ⌝ }
 {
     let checked = indexed(field, edge, grid, coords, work);

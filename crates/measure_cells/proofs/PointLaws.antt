@@ -12,7 +12,7 @@ use Rattle.lattice.specs.Pattern.{around, byte, ofByte}
 use Rattle.lattice.specs.Shots.{cells}
 use Rattle.lattice.proofs.PatternLaws.{ofByte-byte}
 use Rattle.lattice_sums.specs.declared.sums.Totals.{Totals}
-use Rattle.job.specs.Job.{shotsOf, shotCount, Valid}
+use Rattle.job.specs.Job.{Job, shots, shotCount, Valid}
 use Rattle.grid.specs.Numbers.{upTo, those, AllBelow}
 use Rattle.grid.specs.Grid.{runOf, between, Starts, Holds}
 use Rattle.grid_cover.specs.Cover.{runCovers}
@@ -118,7 +118,9 @@ module _ (F G x : ℕ) (grid : 1 ≤ G) (width : 1 ≤ F / G) (whole : G * (F / 
 
 -- ---- the patterns of points from the run of their grid cell
 
-module _ (F E G : ℕ) (coords : List ℕ) (v : Valid F E G coords) (x y gx gy gz : ℕ) (hx : InInterval (F / G) G gx x) (hy : InInterval (F / G) G gy y) (hz : gz < G) where
+module _ (job : Job) (v : Valid job) (x y gx gy gz : ℕ) (hx : InInterval (job.field / job.grid) job.grid gx x) (hy : InInterval (job.field / job.grid) job.grid gy y) (hz : gz < job.grid) where
+  open Job job using (field as F, edge as E, grid as G, coords)
+
   line-in : gx * G + gy < G * G
   line-in = digits-below G gx gy (hy .below) G (hx .below)
 
@@ -129,38 +131,40 @@ module _ (F E G : ℕ) (coords : List ℕ) (v : Valid F E G coords) (x y gx gy g
   pub cell-small : (gx * G + gy ≤ 4096) × ((gx * G + gy) * G + gz < 262144)
   cell-small = (omega (arith, line-in, square-most G (v .grid-most)), omega (arith, cell-in, cube-most G (v .grid-most)))
 
-  module _ (w : List ℕ) (h : Holds F E G coords w) {n : ℕ} (e : n ≡ G * G * G) where
+  module _ (w : List ℕ) (h : Holds job w) {n : ℕ} (e : n ≡ G * G * G) where
     pub cell-starts : Starts w n ((gx * G + gy) * G + gz) ((gx * G + gy) * G + gz + 1)
-    cell-starts = rw e (holds-starts F E G coords w h ((gx * G + gy) * G + gz) 1 (omega (arith, cell-in)))
+    cell-starts = rw e (holds-starts job w h ((gx * G + gy) * G + gz) 1 (omega (arith, cell-in)))
 
     module _ {run : List ℕ} (er : run ≡ between w n ((gx * G + gy) * G + gz) ((gx * G + gy) * G + gz + 1)) where
-      run-is : run ≡ runOf F E G coords ((gx * G + gy) * G + gz)
-      run-is = er ∙ rw e (holds-run F E G coords w h ((gx * G + gy) * G + gz) (omega (arith, cell-in)))
+      run-is : run ≡ runOf job ((gx * G + gy) * G + gz)
+      run-is = er ∙ rw e (holds-run job w h ((gx * G + gy) * G + gz) (omega (arith, cell-in)))
 
       -- it names few shots, all of the list
       pub run-asked : {few : ℕ} → few ≡ 4096 → AllBelow (shotCount coords) run × (length run ≤ few)
       unfolding runOf
-      run-asked k = (rw run-is (below-those (shotCount coords) _ (upTo (shotCount coords)) (below-upTo (shotCount coords))), omega (arith, ap length run-is, run-few F E G coords v ((gx * G + gy) * G + gz)))
+      run-asked k = (rw run-is (below-those (shotCount coords) _ (upTo (shotCount coords)) (below-upTo (shotCount coords))), omega (arith, ap length run-is, run-few job v ((gx * G + gy) * G + gz)))
 
-      point-pattern : (z : ℕ) → OnInterval (F / G) gz z → around (runCovers E coords (those (reachesLine E coords x y) run)) x y z ≡ around (cells (shotsOf E coords)) x y z
+      point-pattern : (z : ℕ) → OnInterval (F / G) gz z → around (runCovers E coords (those (reachesLine E coords x y) run)) x y z ≡ around (cells (shots job)) x y z
       point-pattern z hk =
           narrowed-around E coords run x y z
-          ∙ rw run-is (fun-ext λ a. fun-ext λ b. fun-ext λ c. run-around F E G coords gx gy gz (hy .below) hz x y z (on hx) (on hy) hk a b c)
+          ∙ rw run-is (fun-ext λ a. fun-ext λ b. fun-ext λ c. run-around job gx gy gz (hy .below) hz x y z (on hx) (on hy) hk a b c)
         where
           on : {g x : ℕ} → InInterval (F / G) G g x → OnInterval (F / G) g x
           on i = record { low = i .low; high = i .high }
 
-      pub points-are : (from points : ℕ) → Between (F / G) G gz from points → {few : List ℕ} → few ≡ those (reachesLine E coords x y) run → (t : Totals) {r : Totals} → r ≡ plus t (lineFrom (runCovers E coords few) x y from points) → r ≡ plus t (lineFrom (cells (shotsOf E coords)) x y from points)
+      pub points-are : (from points : ℕ) → Between (F / G) G gz from points → {few : List ℕ} → few ≡ those (reachesLine E coords x y) run → (t : Totals) {r : Totals} → r ≡ plus t (lineFrom (runCovers E coords few) x y from points) → r ≡ plus t (lineFrom (cells (shots job)) x y from points)
       points-are from points b ef t k =
           k ∙ rw ef (ap (plus t) (sum-agree points _ _ λ i l. ap atPattern (point-pattern (from + i) (record { low = omega (arith, b .low); high = omega (arith, b .high) }))))
 
 -- the points of an interval are below 1,025
-pub between-most : {F E G : ℕ} {coords : List ℕ} → Valid F E G coords → (g from points : ℕ) → Between (F / G) G g from points → from + points ≤ 1025
-between-most {F} {E} {G} v g from points b = omega (arith, b .high, mul-le-mul-right {m = g + 1} {n = G} (F / G) (omega (arith, b .below)), width-times v, v .field-most)
+pub between-most : {job : Job} → Valid job → (g from points : ℕ) → Between (job.field / job.grid) job.grid g from points → from + points ≤ 1025
+between-most {job} v g from points b = omega (arith, b .high, mul-le-mul-right {m = g + 1} {n = job.grid} (job.field / job.grid) (omega (arith, b .below)), width-times v, v .field-most)
 
 -- ---- interval by interval
 
-module _ {F E G : ℕ} {coords : List ℕ} (v : Valid F E G coords) (g : ℕ) (h : g < G) where
+module _ {job : Job} (v : Valid job) (g : ℕ) (h : g < job.grid) where
+  open Job job using (field as F, grid as G)
+
   interval-ends : g * (F / G) + F / G ≤ F
   interval-ends = omega (arith, mul-le-mul-right {m = g + 1} {n = G} (F / G) (omega arith), width-times v, add-mul g 1 (F / G), one-mul (F / G))
 
@@ -171,12 +175,12 @@ module _ {F E G : ℕ} {coords : List ℕ} (v : Valid F E G coords) (g : ℕ) (h
   interval-between = record { below = h; low = omega arith; high = omega (arith, add-mul g 1 (F / G), one-mul (F / G)) }
 
 -- the point of the far side
-pub last-between : {F E G : ℕ} {coords : List ℕ} → Valid F E G coords → Between (F / G) G (G - 1) F 1
-last-between {F} {E} {G} v =
-    let g : G - 1 + 1 ≡ G = omega (arith, v .grid-least) in
+pub last-between : {job : Job} → Valid job → Between (job.field / job.grid) job.grid (job.grid - 1) job.field 1
+last-between {job} v =
+    let g : job.grid - 1 + 1 ≡ job.grid = omega (arith, v .grid-least) in
     record {
       below = omega (arith, v .grid-least);
-      low = omega (arith, width-times v, mul-le-mul-right {m = G - 1} {n = G} (F / G) (omega arith));
+      low = omega (arith, width-times v, mul-le-mul-right {m = job.grid - 1} {n = job.grid} (job.field / job.grid) (omega arith));
       high = rw g (omega (arith, width-times v));
     }
 

@@ -6,6 +6,7 @@ pub mod lines;
 pub mod points;
 pub mod tallies;
 
+ghost use Rattle.job.specs.Job.{jobOf};
 ghost use Rattle.measure_intake.specs.Intake.{MeasureCall};
 use crate::points::count_field;
 use job::Checked;
@@ -14,7 +15,7 @@ use measure_intake::indexed;
 
 // Counts a list: the answer and the index of the measuring call, by counting.
 pub fn recount(field: u16, edge: u16, grid: u16, coords: &[u16], work: &mut [u32]) -> Measured
-    ensures { λ r. ⌜ MeasureCall field edge grid (now (coords .entry)) (now (work .entry)) r (now (work .exit)) ⌝ }
+    ensures { λ r. ⌜ MeasureCall (jobOf field edge grid (now (coords .entry))) (now (work .entry)) r (now (work .exit)) ⌝ }
 {
     let checked = indexed(field, edge, grid, coords, work);
     match checked {

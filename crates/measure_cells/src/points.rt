@@ -7,7 +7,7 @@ ghost use lib.ListN.{length};
 ghost use Rattle.lattice.specs.Cells.{bit, below};
 ghost use Rattle.lattice.specs.Shots.{cells};
 ghost use Rattle.lattice_sums.specs.CornerSums.{totalsOf};
-ghost use Rattle.job.specs.Job.{shotsOf, Valid};
+ghost use Rattle.job.specs.Job.{jobOf, shotsOf, Valid};
 ghost use Rattle.grid.specs.Grid.{Holds};
 ghost use Rattle.grid_cover.specs.Cover.{runCovers};
 ghost use Rattle.measure_cells.specs.Points.{plus, lineFrom, lineTo, planeTo, planesTo, quad, InInterval, Between, AtMost};
@@ -113,8 +113,8 @@ fn count_interval(
     few: &mut [u32],
     t: Totals,
 ) -> Totals
-    requires { ⌜ Valid field edge grid (now coords) ⌝ }
-    requires { ⌜ Holds field edge grid (now coords) (now work) ⌝ }
+    requires { ⌜ Valid (jobOf field edge grid (now coords)) ⌝ }
+    requires { ⌜ Holds (jobOf field edge grid (now coords)) (now work) ⌝ }
     requires { ⌜ x ≤ field ⌝ }
     requires { ⌜ y ≤ field ⌝ }
     requires { ⌜ Between (field / grid) grid gz from points ⌝ }
@@ -143,8 +143,8 @@ fn count_intervals(
     few: &mut [u32],
     t: Totals,
 ) -> Totals
-    requires { ⌜ Valid field edge grid (now coords) ⌝ }
-    requires { ⌜ Holds field edge grid (now coords) (now work) ⌝ }
+    requires { ⌜ Valid (jobOf field edge grid (now coords)) ⌝ }
+    requires { ⌜ Holds (jobOf field edge grid (now coords)) (now work) ⌝ }
     requires { ⌜ x ≤ field ⌝ }
     requires { ⌜ y ≤ field ⌝ }
     requires { ⌜ length (now few) ≡ 4096 ⌝ }
@@ -184,8 +184,8 @@ fn count_line(
     few: &mut [u32],
     t: Totals,
 ) -> Totals
-    requires { ⌜ Valid field edge grid (now coords) ⌝ }
-    requires { ⌜ Holds field edge grid (now coords) (now work) ⌝ }
+    requires { ⌜ Valid (jobOf field edge grid (now coords)) ⌝ }
+    requires { ⌜ Holds (jobOf field edge grid (now coords)) (now work) ⌝ }
     requires { ⌜ x ≤ field ⌝ }
     requires { ⌜ y ≤ field ⌝ }
     requires { ⌜ length (now few) ≡ 4096 ⌝ }
@@ -220,8 +220,8 @@ fn count_plane(
     few: &mut [u32],
     t: Totals,
 ) -> Totals
-    requires { ⌜ Valid field edge grid (now coords) ⌝ }
-    requires { ⌜ Holds field edge grid (now coords) (now work) ⌝ }
+    requires { ⌜ Valid (jobOf field edge grid (now coords)) ⌝ }
+    requires { ⌜ Holds (jobOf field edge grid (now coords)) (now work) ⌝ }
     requires { ⌜ x ≤ field ⌝ }
     requires { ⌜ length (now few) ≡ 4096 ⌝ }
     requires { ⌜ AtMost 576460752303423488 t ⌝ }
@@ -247,8 +247,8 @@ pub fn count_planes(
     to: u16,
     t: Totals,
 ) -> Totals
-    requires { ⌜ Valid field edge grid (now coords) ⌝ }
-    requires { ⌜ Holds field edge grid (now coords) (now work) ⌝ }
+    requires { ⌜ Valid (jobOf field edge grid (now coords)) ⌝ }
+    requires { ⌜ Holds (jobOf field edge grid (now coords)) (now work) ⌝ }
     requires { ⌜ from ≤ to ⌝ }
     requires { ⌜ to ≤ field + 1 ⌝ }
     requires { ⌜ t ≡ planesTo field (cells (shotsOf edge (now coords))) from ⌝ }
@@ -264,8 +264,8 @@ pub fn count_planes(
 
 // The totals and the corner count of a list whose index the work slice holds.
 pub fn count_field(field: u16, edge: u16, grid: u16, coords: &[u16], work: &[u32]) -> Totals
-    requires { ⌜ Valid field edge grid (now coords) ⌝ }
-    requires { ⌜ Holds field edge grid (now coords) (now work) ⌝ }
+    requires { ⌜ Valid (jobOf field edge grid (now coords)) ⌝ }
+    requires { ⌜ Holds (jobOf field edge grid (now coords)) (now work) ⌝ }
     ensures { λ r. ⌜ r ≡ totalsOf field (cells (shotsOf edge (now (coords .entry)))) ⌝ }
 {
     let none = Totals {

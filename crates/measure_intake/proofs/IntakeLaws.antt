@@ -7,7 +7,7 @@ use lib.ListN.{length, drop}
 use Rattle.lattice.specs.Cells.{Cells}
 use Rattle.lattice_sums.specs.CornerSums.{totalsOf}
 use Rattle.lattice_sums.specs.declared.sums.Totals.{Totals}
-use Rattle.job.specs.Job.{Valid}
+use Rattle.job.specs.Job.{Job, Valid}
 use Rattle.job.specs.Checking.{tests, checked}
 use Rattle.job.specs.declared.Refusal.{Refusal}
 use Rattle.job.specs.declared.Refusal.the-variants.{ShortWork}
@@ -15,56 +15,55 @@ use Rattle.job.specs.declared.Checked.{Checked}
 use Rattle.job.specs.declared.Checked.the-variants.{Accepted, Refused}
 use Rattle.job.proofs.Conditions.{accepted-valid}
 use Rattle.job.proofs.Places.{first-stopped, checks}
-use Rattle.grid.specs.Grid.{indexOf, need, Holds}
+use Rattle.grid.specs.Grid.{need, withIndex, Holds}
 use Rattle.measure_intake.specs.Intake.{solid, shortWork, measureTests, measureChecked, answerOf, measureAnswer, measuredNumbers, numbersAfter, measureNumbers, sliceAfter, workAfter, IndexCall, MeasureCall}
 use Rattle.measure_intake.specs.declared.Measured.{Measured}
 use Rattle.measure_intake.specs.declared.Measured.the-variants.{Quote, Refused as Unmeasured}
-use Rattle.job.proofs.OneMore.{too-short, long-enough, more-accepted}
+use Rattle.job.proofs.OneMore.{too-short, long-enough}
+use Rattle.job.proofs.Deciding.{call-accepts}
+use Rattle.measure_intake.proofs.Refused.{measure-decides}
 
 -- ---- the intake
-module _ (F E G : ℕ) (coords work : List ℕ) where
+module _ (job : Job) (work : List ℕ) where
   -- the work slice after these checks
   left : Checked → List ℕ
-  left c = sliceAfter c work (indexOf F E G coords ++ drop (need F E G coords) work)
+  left c = sliceAfter c work (withIndex job work)
 
-  intake-is : {c : Checked} {work' : List ℕ} → c ≡ measureChecked F E G coords (length work) → work' ≡ left c → IndexCall F E G coords work c work'
+  intake-is : {c : Checked} {work' : List ℕ} → c ≡ measureChecked job (length work) → work' ≡ left c → IndexCall job work c work'
   unfolding workAfter left
-  intake-is e k = record { answer = e; numbers = checks (measureTests F E G coords (length work)) e .numbers; index = k ∙ ap left e }
+  intake-is e k = record { answer = e; numbers = checks (measureTests job (length work)) e .numbers; index = k ∙ ap left e }
 
   -- a list that the checks refuse
-  pub refused-intake : {c : Checked} (r : Refusal) → c ≡ checked F E G coords → c ≡ Refused r → IndexCall F E G coords work c work
+  pub refused-intake : {c : Checked} (r : Refusal) → c ≡ checked job → c ≡ Refused r → IndexCall job work c work
   unfolding measureTests left
   refused-intake r e k =
-      intake-is (k ∙ sym (first-stopped (shortWork F E G coords (length work) ∷ []) (tests F E G coords) (sym e ∙ k))) (sym (ap left k))
+      intake-is (k ∙ sym (first-stopped (shortWork job (length work) ∷ []) (tests job) (sym e ∙ k))) (sym (ap left k))
 
   -- one that they accept, and a work slice that is too short or long enough
-  module _ (accepted : checked F E G coords ≡ Accepted) where
-    pub valid : Valid F E G coords
-    valid = accepted-valid F E G coords .0 accepted
+  module _ (accepted : checked job ≡ Accepted) where
+    pub valid : Valid job
+    valid = accepted-valid job .0 accepted
 
-    pub short-intake : {n : ℕ} → n ≡ need F E G coords → length work < n → IndexCall F E G coords work (Refused (ShortWork n)) work
+    pub short-intake : {n : ℕ} → n ≡ need job → length work < n → IndexCall job work (Refused (ShortWork n)) work
     unfolding measureTests left
     short-intake e h =
-        intake-is (ap (λ n. Refused (ShortWork n)) e ∙ sym (too-short (tests F E G coords) (length work) (need F E G coords) (ShortWork (need F E G coords)) accepted (omega (arith, e)))) refl
+        intake-is (ap (λ n. Refused (ShortWork n)) e ∙ sym (too-short (tests job) (length work) (need job) (ShortWork (need job)) accepted (omega (arith, e)))) refl
 
-    pub long-intake : {n : ℕ} {work' : List ℕ} → n ≡ need F E G coords → n ≤ length work → work' ≡ indexOf F E G coords ++ drop (need F E G coords) work
-        → IndexCall F E G coords work Accepted work'
+    pub long-intake : {n : ℕ} {work' : List ℕ} → n ≡ need job → n ≤ length work → work' ≡ withIndex job work
+        → IndexCall job work Accepted work'
     unfolding measureTests left
-    long-intake e h k = intake-is (sym (long-enough (tests F E G coords) (length work) (need F E G coords) (ShortWork (need F E G coords)) accepted (omega (arith, e)))) k
+    long-intake e h k = intake-is (sym (long-enough (tests job) (length work) (need job) (ShortWork (need job)) accepted (omega (arith, e)))) k
 
 -- ---- an accepted list: it is valid, and the work slice holds its index
-module _ {F E G : ℕ} {coords work work' : List ℕ} {c : Checked} (call : IndexCall F E G coords work c work') (k : c ≡ Accepted) where
-  pub accepted-list : Valid F E G coords
-  unfolding measureTests
-  accepted-list =
-      accepted-valid F E G coords .0
-      (more-accepted (tests F E G coords) (length work) (need F E G coords) (ShortWork (need F E G coords)) .0 (sym (call .answer) ∙ k) .0)
+module _ {job : Job} {work work' : List ℕ} {c : Checked} (call : IndexCall job work c work') (k : c ≡ Accepted) where
+  pub accepted-list : Valid job
+  accepted-list = call-accepts (measure-decides job (length work)) (call .answer) .0 k .0
 
-  pub accepted-holds : Holds F E G coords work'
+  pub accepted-holds : Holds job work'
   unfolding workAfter left
   accepted-holds = record {
-    rest = drop (need F E G coords) work;
-    is = call .index ∙ ap (left F E G coords work) (sym (call .answer) ∙ k);
+    rest = drop (need job) work;
+    is = call .index ∙ ap (left job work) (sym (call .answer) ∙ k);
   }
 
 -- ---- the numbers of an answer
@@ -74,19 +73,21 @@ answer-numbers Accepted F s = refl
 answer-numbers (Refused r) F s = refl
 
 -- ---- measuring, after the intake
-module _ {F E G : ℕ} {coords work work' : List ℕ} {c : Checked} (call : IndexCall F E G coords work c work') where
-  measure-is : {m : Measured} → m ≡ answerOf c F (solid E coords) → MeasureCall F E G coords work m work'
+module _ {job : Job} {work work' : List ℕ} {c : Checked} (call : IndexCall job work c work') where
+  open Job job using (field as F)
+
+  measure-is : {m : Measured} → m ≡ answerOf c F (solid job) → MeasureCall job work m work'
   unfolding measureAnswer measureNumbers
   measure-is e =
-      let k = e ∙ ap (λ c. answerOf c F (solid E coords)) (call .answer) in
+      let k = e ∙ ap (λ c. answerOf c F (solid job)) (call .answer) in
       record {
         answer = k;
-        numbers = ap measuredNumbers k ∙ answer-numbers (measureChecked F E G coords (length work)) F (solid E coords);
+        numbers = ap measuredNumbers k ∙ answer-numbers (measureChecked job (length work)) F (solid job);
         index = call .index;
       }
 
-  pub refused-measure : (r : Refusal) → c ≡ Refused r → MeasureCall F E G coords work (Unmeasured r) work'
-  refused-measure r k = measure-is (ap (λ c. answerOf c F (solid E coords)) (sym k))
+  pub refused-measure : (r : Refusal) → c ≡ Refused r → MeasureCall job work (Unmeasured r) work'
+  refused-measure r k = measure-is (ap (λ c. answerOf c F (solid job)) (sym k))
 
-  pub accepted-measure : {t : Totals} → c ≡ Accepted → t ≡ totalsOf F (solid E coords) → MeasureCall F E G coords work (Quote t) work'
-  accepted-measure k e = measure-is (ap Quote e ∙ ap (λ c. answerOf c F (solid E coords)) (sym k))
+  pub accepted-measure : {t : Totals} → c ≡ Accepted → t ≡ totalsOf F (solid job) → MeasureCall job work (Quote t) work'
+  accepted-measure k e = measure-is (ap Quote e ∙ ap (λ c. answerOf c F (solid job)) (sym k))

@@ -1,2 +1,2 @@
-pub mod IntakeLaws
 pub mod Refused
+pub mod IntakeLaws

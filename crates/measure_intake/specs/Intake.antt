@@ -6,12 +6,12 @@ use mathlib.Core.List.{List, [], _∷_, _++_}
 use mathlib.Core.Logic.{_⊎_}
 use Prim.Native.Nat.{ℕ, _≤_, _<_}
 use lib.Dec.{ltb}
-use lib.ListN.{length, drop}
+use lib.ListN.{length}
 use Rattle.lattice.specs.Cells.{Cells}
 use Rattle.lattice.specs.Shots.{cells}
 use Rattle.lattice_sums.specs.CornerSums.{totalsOf}
 use Rattle.lattice_sums.specs.declared.sums.Totals.{Totals}
-use Rattle.job.specs.Job.{shotsOf, Valid}
+use Rattle.job.specs.Job.{Job, shots, Valid}
 use Rattle.job.specs.Refusals.{numberOf, detailOf, checkedNumbers}
 use Rattle.job.specs.Checking.{Test, firstOf, firstNumbers, tests}
 use Rattle.job.specs.Conditions.{Condition, First}
@@ -19,13 +19,13 @@ use Rattle.job.specs.declared.Refusal.{Refusal}
 use Rattle.job.specs.declared.Refusal.the-variants.{ShortWork}
 use Rattle.job.specs.declared.Checked.{Checked}
 use Rattle.job.specs.declared.Checked.the-variants.{Accepted, Refused}
-use Rattle.grid.specs.Grid.{indexOf, need}
+use Rattle.grid.specs.Grid.{need, withIndex}
 use Rattle.measure_intake.specs.declared.Measured.{Measured}
 use Rattle.measure_intake.specs.declared.Measured.the-variants.{Quote, Refused as Unmeasured}
 
 -- the cells that a list covers
-abbrev pub solid : ℕ → List ℕ → Cells
-solid E coords = cells (shotsOf E coords)
+abbrev pub solid : Job → Cells
+solid job = cells (shots job)
 
 -- ---- the numbers of an answer
 -- the refusal's number and detail, 0 and 0 where there is none, and what is measured
@@ -48,15 +48,15 @@ measuredNumbers (Unmeasured r) = refusedNumbers r
 
 -- ---- the checks
 -- refusal 10: a work slice of so many entries is shorter than needed
-abbrev pub shortWork : ℕ → ℕ → ℕ → List ℕ → ℕ → Test
-shortWork F E G coords entries = record { holds = ltb entries (need F E G coords); gives = ShortWork (need F E G coords) }
+abbrev pub shortWork : Job → ℕ → Test
+shortWork job entries = record { holds = ltb entries (need job); gives = ShortWork (need job) }
 
 -- the tests of measuring: 1, 2, 6, 7, 8, 9 of the list, and then 10
-unfoldable pub measureTests : ℕ → ℕ → ℕ → List ℕ → ℕ → List Test
-measureTests F E G coords entries = tests F E G coords ++ shortWork F E G coords entries ∷ []
+unfoldable pub measureTests : Job → ℕ → List Test
+measureTests job entries = tests job ++ shortWork job entries ∷ []
 
-abbrev pub measureChecked : ℕ → ℕ → ℕ → List ℕ → ℕ → Checked
-measureChecked F E G coords entries = firstOf (measureTests F E G coords entries)
+abbrev pub measureChecked : Job → ℕ → Checked
+measureChecked job entries = firstOf (measureTests job entries)
 
 -- ---- what is answered and left, by the checks
 -- a refusal, or the totals
@@ -74,36 +74,35 @@ abbrev pub sliceAfter : Checked → List ℕ → List ℕ → List ℕ
 sliceAfter Accepted kept done = done
 sliceAfter (Refused r) kept done = kept
 
-unfoldable pub measureAnswer : ℕ → ℕ → ℕ → List ℕ → ℕ → Measured
-measureAnswer F E G coords entries = answerOf (measureChecked F E G coords entries) F (solid E coords)
+unfoldable pub measureAnswer : Job → ℕ → Measured
+measureAnswer job entries = answerOf (measureChecked job entries) job.field (solid job)
 
-unfoldable pub measureNumbers : ℕ → ℕ → ℕ → List ℕ → ℕ → MeasuredNumbers
-measureNumbers F E G coords entries = numbersAfter (measureChecked F E G coords entries) F (solid E coords)
+unfoldable pub measureNumbers : Job → ℕ → MeasuredNumbers
+measureNumbers job entries = numbersAfter (measureChecked job entries) job.field (solid job)
 
 -- the finished index and the entries past it; refusal 11 comes after it
-unfoldable pub workAfter : ℕ → ℕ → ℕ → List ℕ → List ℕ → List ℕ
-workAfter F E G coords work =
-    sliceAfter (measureChecked F E G coords (length work)) work (indexOf F E G coords ++ drop (need F E G coords) work)
+unfoldable pub workAfter : Job → List ℕ → List ℕ
+workAfter job work = sliceAfter (measureChecked job (length work)) work (withIndex job work)
 
 -- ---- the promises
 -- the intake of a list: what it answers of the list and a work slice, and what the slice is then
-pub record IndexCall (F E G : ℕ) (coords work : List ℕ) (r : Checked) (work' : List ℕ) : Type 0 where
-  pub answer : r ≡ measureChecked F E G coords (length work)
-  pub numbers : checkedNumbers r ≡ firstNumbers (measureTests F E G coords (length work))
-  pub index : work' ≡ workAfter F E G coords work
+pub record IndexCall (job : Job) (work : List ℕ) (r : Checked) (work' : List ℕ) : Type 0 where
+  pub answer : r ≡ measureChecked job (length work)
+  pub numbers : checkedNumbers r ≡ firstNumbers (measureTests job (length work))
+  pub index : work' ≡ workAfter job work
 
 -- measuring a list
-pub record MeasureCall (F E G : ℕ) (coords work : List ℕ) (r : Measured) (work' : List ℕ) : Type 0 where
-  pub answer : r ≡ measureAnswer F E G coords (length work)
-  pub numbers : measuredNumbers r ≡ measureNumbers F E G coords (length work)
-  pub index : work' ≡ workAfter F E G coords work
+pub record MeasureCall (job : Job) (work : List ℕ) (r : Measured) (work' : List ℕ) : Type 0 where
+  pub answer : r ≡ measureAnswer job (length work)
+  pub numbers : measuredNumbers r ≡ measureNumbers job (length work)
+  pub index : work' ≡ workAfter job work
 
 -- ---- when a list is accepted, and when it is refused
-abbrev pub MeasureAccepts : ℕ → ℕ → ℕ → List ℕ → ℕ → Type 0
-MeasureAccepts F E G coords entries = Valid F E G coords × (need F E G coords ≤ entries)
+abbrev pub MeasureAccepts : Job → ℕ → Type 0
+MeasureAccepts job entries = Valid job × (need job ≤ entries)
 
 -- by the first of 1, 2, 6, 7, 8, 9 whose condition holds; by 10 if none does and the work slice is short
-abbrev pub MeasureRefuses : ℕ → ℕ → ℕ → List ℕ → ℕ → Refusal → Type 0
-MeasureRefuses F E G coords entries r =
-    First (Condition F E G coords) (tests F E G coords) r
-    ⊎ (Valid F E G coords × (entries < need F E G coords) × (ShortWork (need F E G coords) ≡ r))
+abbrev pub MeasureRefuses : Job → ℕ → Refusal → Type 0
+MeasureRefuses job entries r =
+    First (Condition job) (tests job) r
+    ⊎ (Valid job × (entries < need job) × (ShortWork (need job) ≡ r))

@@ -2,6 +2,7 @@
 //
 // specs/Intake.antt says what a list's intake answers and leaves, and what measuring answers then: the totals of the cells that the
 // list covers, or the first refusal of 1, 2, 6, 7, 8, 9, 10. Stands on `job`, `grid` and `grid_filling`.
+ghost use Rattle.job.specs.Job.{jobOf};
 ghost use Rattle.measure_intake.specs.Intake.{IndexCall};
 use job::Checked;
 use job::Refusal;
@@ -15,7 +16,7 @@ pub enum Measured {
 
 // Checks a list and puts its index into the work slice. A refusal changes nothing.
 pub fn indexed(field: u16, edge: u16, grid: u16, coords: &[u16], work: &mut [u32]) -> Checked
-    ensures { λ r. ⌜ IndexCall field edge grid (now (coords .entry)) (now (work .entry)) r (now (work .exit)) ⌝ }
+    ensures { λ r. ⌜ IndexCall (jobOf field edge grid (now (coords .entry))) (now (work .entry)) r (now (work .exit)) ⌝ }
 {
     let checked = job::check(field, edge, grid, coords);
     let Checked::Accepted = checked else {

@@ -5,7 +5,7 @@ ghost use mathlib.Core.Path.{_≡_};
 ghost use Prim.Native.Nat.{_+_, _≤_, _<_};
 ghost use Rattle.lattice.specs.Shots.{cells};
 ghost use Rattle.lattice_sums.specs.CornerSums.{totalsOf};
-ghost use Rattle.job.specs.Job.{shotsOf, Valid};
+ghost use Rattle.job.specs.Job.{jobOf, shotsOf, Valid};
 ghost use Rattle.grid.specs.Grid.{Holds};
 ghost use Rattle.measure_intake.specs.Intake.{MeasureCall};
 use job::Checked;
@@ -78,8 +78,8 @@ fn count_shown(
     coords: &[u16],
     work: &[u32],
 ) -> Totals
-    requires { ⌜ Valid field edge grid (now coords) ⌝ }
-    requires { ⌜ Holds field edge grid (now coords) (now work) ⌝ }
+    requires { ⌜ Valid (jobOf field edge grid (now coords)) ⌝ }
+    requires { ⌜ Holds (jobOf field edge grid (now coords)) (now work) ⌝ }
     ensures { λ r. ⌜ r ≡ totalsOf field (cells (shotsOf edge (now (coords .entry)))) ⌝ }
 {
     let planes = piece(terminal);
@@ -103,7 +103,7 @@ fn count_shown(
 
 // Counts a list: the answer and the index of the measuring call, by counting, shown on standard error.
 pub fn recount(field: u16, edge: u16, grid: u16, coords: &[u16], work: &mut [u32]) -> Measured
-    ensures { λ r. ⌜ MeasureCall field edge grid (now (coords .entry)) (now (work .entry)) r (now (work .exit)) ⌝ }
+    ensures { λ r. ⌜ MeasureCall (jobOf field edge grid (now (coords .entry))) (now (work .entry)) r (now (work .exit)) ⌝ }
 {
     let checked = indexed(field, edge, grid, coords, work);
     let terminal = libc::isatty(STDERR_FILENO) == 1;

@@ -5,7 +5,7 @@ use mathlib.Core.List.{List}
 use Prim.Native.Nat.{ℕ, _/_, _≤_}
 use Rattle.buffer.specs.Wrote.{Wrote}
 use Rattle.buffer.proofs.WroteLaws.{wrote-as}
-use Rattle.job.specs.Job.{shotCount, firstShots}
+use Rattle.job.specs.Job.{Job, jobOf, shots, shotCount, firstShots}
 use Rattle.job.specs.declared.Refusal.{Refusal}
 use Rattle.shotfile.specs.Files.{settingFields, File, file}
 use Rattle.shotfile.specs.Calls.{ReadCall}
@@ -20,8 +20,8 @@ use Rattle.quoting.specs.Quoting.{refusalText, answerText, quoteText, vo
 use Rattle.quoting.specs.Answered.{ShotsThere, answeredFile, Quoted}
 
 -- ---- a list
-pub list-quoted : {F E G n : ℕ} {coords work work' out out' : List ℕ} {m a : Measured}
-    → MeasureCall F E G coords work m work' → m ≡ a → Wrote out out' 0 n (answerText a) → ListQuoted F E G coords work out n work' out'
+pub list-quoted : {job : Job} {n : ℕ} {work work' out out' : List ℕ} {m a : Measured}
+    → MeasureCall job work m work' → m ≡ a → Wrote out out' 0 n (answerText a) → ListQuoted job work out n work' out'
 list-quoted call e w = record { text = wrote-as (ap answerText (sym e ∙ call .answer)) w; index = call .index }
 
 -- ---- what reading answers
@@ -34,7 +34,7 @@ module _ (coords : List ℕ) {a : ReadAnswer} where
   answer-refused r e w = quoted-as (ap (λ (b : ReadAnswer). answeredFile b coords) (sym e)) (record { text = w; index = refl })
 
   pub answer-quoted : {n : ℕ} {work work' out out' list : List ℕ} (F E G shots : ℕ) → a ≡ Read F E G shots → list ≡ firstShots shots coords
-      → ListQuoted F E G list work out n work' out' → Quoted (answeredFile a coords) work out n work' out'
+      → ListQuoted (jobOf F E G list) work out n work' out' → Quoted (answeredFile a coords) work out n work' out'
   answer-quoted F E G shots e l q =
       quoted-as (ap (file (settingFields F E G)) l ∙ ap (λ (b : ReadAnswer). answeredFile b coords) (sym e)) (record { text = q .text; index = q .index })
 

@@ -5,7 +5,7 @@ use mathlib.Core.List.{List}
 use Prim.Native.Nat.{ℕ}
 use lib.ListN.{length}
 use Rattle.buffer.specs.Wrote.{Wrote}
-use Rattle.job.specs.Job.{shotCount}
+use Rattle.job.specs.Job.{Job, jobOf, shotCount}
 use Rattle.job.specs.Refusals.{numberOf, detailOf}
 use Rattle.job.specs.declared.Refusal.{Refusal}
 use Rattle.shotfile.specs.Files.{File, file, refused, fileIn}
@@ -26,7 +26,7 @@ answerText (Refused r) = refusalText r
 
 -- the file is read, and the list that it holds is measured
 abbrev pub quotedText : File → ℕ → List ℕ
-quotedText (file f coords) entries = answerText (measureAnswer (f .first) (f .second) (f .third) coords entries)
+quotedText (file f coords) entries = answerText (measureAnswer (jobOf (f .first) (f .second) (f .third) coords) entries)
 quotedText (refused r) entries = refusalText r
 
 -- with places for so many shots, and so many work entries
@@ -39,14 +39,14 @@ voxText bytes places entries = quotedText (voxIn places bytes) entries
 
 -- the work slice then: the index of the list, if neither the file nor the list is refused
 abbrev pub indexAfter : File → List ℕ → List ℕ
-indexAfter (file f coords) work = workAfter (f .first) (f .second) (f .third) coords work
+indexAfter (file f coords) work = workAfter (jobOf (f .first) (f .second) (f .third) coords) work
 indexAfter (refused r) work = work
 
 -- ---- the promises
 -- quoting a list: the text at the front, and the index
-pub record ListQuoted (F E G : ℕ) (coords work out : List ℕ) (r : ℕ) (work' out' : List ℕ) : Type 0 where
-  pub text : Wrote out out' 0 r (answerText (measureAnswer F E G coords (length work)))
-  pub index : work' ≡ workAfter F E G coords work
+pub record ListQuoted (job : Job) (work out : List ℕ) (r : ℕ) (work' out' : List ℕ) : Type 0 where
+  pub text : Wrote out out' 0 r (answerText (measureAnswer job (length work)))
+  pub index : work' ≡ workAfter job work
 
 -- quoting a file: also its coordinates. A refused file leaves both slices as they were.
 pub record FileQuoted (bytes coords work out : List ℕ) (r : ℕ) (coords' work' out' : List ℕ) : Type 0 where

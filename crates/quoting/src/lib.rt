@@ -3,6 +3,7 @@
 // `shotfile`, `vox`, `measure`, `measure_shown` and `text_report`.
 ghost use Prim.Native.Nat.{_≤_};
 ghost use lib.ListN.{length};
+ghost use Rattle.job.specs.Job.{jobOf};
 ghost use Rattle.buffer.specs.Wrote.{Wrote};
 ghost use Rattle.measure_intake.specs.Intake.{MeasureCall};
 ghost use Rattle.quoting.specs.Quoting.{refusalText, ListQuoted, FileQuoted, VoxQuoted};
@@ -29,7 +30,7 @@ fn figures(
     coords: &[u16],
     work: &mut [u32],
 ) -> Measured
-    ensures { λ r. ⌜ MeasureCall field edge grid (now (coords .entry)) (now (work .entry)) r (now (work .exit)) ⌝ }
+    ensures { λ r. ⌜ MeasureCall (jobOf field edge grid (now (coords .entry))) (now (work .entry)) r (now (work .exit)) ⌝ }
 {
     if again {
         return measure_shown::recount(field, edge, grid, coords, work);
@@ -48,7 +49,7 @@ fn quote_list(
     out: &mut [u8],
 ) -> usize
     requires { ⌜ 256 ≤ length (now out) ⌝ }
-    ensures { λ r. ⌜ ListQuoted field edge grid (now (coords .entry)) (now (work .entry)) (now (out .entry))
+    ensures { λ r. ⌜ ListQuoted (jobOf field edge grid (now (coords .entry))) (now (work .entry)) (now (out .entry))
         r (now (work .exit)) (now (out .exit)) ⌝ }
 {
     let measured = figures(again, field, edge, grid, coords, work);

@@ -11,7 +11,7 @@ use Rattle.buffer.specs.Wrote.{inFront}
 use Rattle.job.specs.declared.Refusal.{Refusal}
 use Rattle.job.specs.declared.Checked.{Checked}
 use Rattle.job.specs.declared.Checked.the-variants.{Accepted, Refused as Turned}
-use Rattle.job.specs.Job.{shotCount, placeOf, firstShots, Valid}
+use Rattle.job.specs.Job.{Job, shotCount, placeOf, firstShots, Valid}
 use Rattle.job.specs.Checking.{firstOf}
 use Rattle.shotfile.specs.declared.reader.ReadAnswer.{ReadAnswer}
 use Rattle.shotfile.specs.declared.reader.ReadAnswer.the-variants.{Read, Refused as Unread}
@@ -22,7 +22,7 @@ use Rattle.shotfile.specs.Calls.{readAnswer, readCoords, ReadCall, write
 use Rattle.shotfile.proofs.Coords.{places-fit}
 use Rattle.shotfile.proofs.ShotsRead.{reads-whole, reads-room}
 use Rattle.shotfile.proofs.Shortest.{file-parts}
-use Rattle.shotfile.proofs.Writing.{tests-accepted}
+use Rattle.shotfile.proofs.Writing.{write-decides}
 
 -- ---- reading
 -- the coordinates of an accepted file are whole shots, and each has its place
@@ -96,26 +96,26 @@ module _ {s before after : List ℕ} {r : ReadAnswer} (c : ReadCall s before r a
 
 -- ---- writing
 -- a list that `write` accepts, and its file in the byte buffer
-pub record AcceptedList (F E G : ℕ) (coords before : List ℕ) (n : ℕ) (after : List ℕ) : Type 0 where
-  pub valid : Valid F E G coords
-  pub long : n ≡ length (fileOf F E G coords)
-  pub room : length (fileOf F E G coords) ≤ length before
-  pub leaves : after ≡ inFront (fileOf F E G coords) before
+pub record AcceptedList (job : Job) (before : List ℕ) (n : ℕ) (after : List ℕ) : Type 0 where
+  pub valid : Valid job
+  pub long : n ≡ length (fileOf job)
+  pub room : length (fileOf job) ≤ length before
+  pub leaves : after ≡ inFront (fileOf job) before
 
-pub accepted-list : {F E G : ℕ} {coords before after : List ℕ} {w : WriteAnswer} → WriteCall F E G coords before w after → {n : ℕ} → w ≡ Written n
-    → AcceptedList F E G coords before n after
+pub accepted-list : {job : Job} {before after : List ℕ} {w : WriteAnswer} → WriteCall job before w after → {n : ℕ} → w ≡ Written n
+    → AcceptedList job before n after
 unfolding writeAnswer writeBytes
-accepted-list {F} {E} {G} {coords} {before} {after} c {n} e = go (firstOf (writeTests F E G coords (length before))) refl (sym (c .answer) ∙ e)
+accepted-list {job} {before} {after} c {n} e = go (firstOf (writeTests job (length before))) refl (sym (c .answer) ∙ e)
   where
-    go : (k : Checked) → firstOf (writeTests F E G coords (length before)) ≡ k → ifWritten k Unwritten (Written (length (fileOf F E G coords))) ≡ Written n
-        → AcceptedList F E G coords before n after
+    go : (k : Checked) → firstOf (writeTests job (length before)) ≡ k → ifWritten k Unwritten (Written (length (fileOf job))) ≡ Written n
+        → AcceptedList job before n after
     go (Turned r) q e = let z : _≡_ {A = ℕ} 0 1 = cc in absurd (omega arith)
     go Accepted q e =
-        let m : length (fileOf F E G coords) ≡ n = cc in
-        let (v, r) = tests-accepted F E G coords (length before) .0 q in
+        let m : length (fileOf job) ≡ n = cc in
+        let (v, r) = write-decides job (length before) .accepted .0 q in
         record {
           valid = v;
           long = sym m;
           room = r;
-          leaves = c .file ∙ ap (λ (k : Checked). ifWritten k (λ r. before) (inFront (fileOf F E G coords) before)) q;
+          leaves = c .file ∙ ap (λ (k : Checked). ifWritten k (λ r. before) (inFront (fileOf job) before)) q;
         }

@@ -2,18 +2,15 @@
 -- where none of its conditions holds. Stated of the definitions, and of the calls by their contracts. Assumes nothing.
 use mathlib.Core.Path.{_≡_, sym, ap, _∙_}
 use mathlib.Core.List.{List, [], _∷_, _++_}
-use mathlib.Core.Logic.{_↔_, _⊎_, inl, inr}
+use mathlib.Core.Logic.{_↔_}
 use Prim.Native.Nat.{ℕ, _<_}
 use native.Mathlib.Omega.{arith}
 use lib.ListN.{length}
 use Rattle.job.specs.declared.Refusal.{Refusal}
-use Rattle.job.specs.declared.Refusal.the-variants.{ShortFile}
 use Rattle.job.specs.declared.Checked.{Checked}
 use Rattle.job.specs.declared.Checked.the-variants.{Accepted, Refused as Turned}
-use Rattle.job.specs.Job.{shotCount}
-use Rattle.job.specs.Checking.{firstOf, tests, checked}
-use Rattle.job.proofs.Conditions.{accepted-valid, refused-iff}
-use Rattle.job.proofs.OneMore.{more-refused}
+use Rattle.job.specs.Job.{Job, shotCount}
+use Rattle.job.specs.Checking.{firstOf}
 use Rattle.shotfile_records.specs.declared.Fields.{Fields}
 use Rattle.shotfile.specs.declared.reader.ReadAnswer.{ReadAnswer}
 use Rattle.shotfile.specs.declared.reader.ReadAnswer.the-variants.{Read, Refused as Unread}
@@ -23,7 +20,7 @@ use Rattle.shotfile.specs.Files.{file, refused, fileIn, fileOf}
 use Rattle.shotfile.specs.Calls.{readAnswer, ReadCall, longFile, writeTests, ifWritten, writeAnswer, WriteCall}
 use Rattle.shotfile.specs.Conditions.{FirstFault, Faultless, WriteAccepts, WriteRefuses}
 use Rattle.shotfile.proofs.Faults.{Outcome, accepted, turned-down, outcome, first-fault-one}
-use Rattle.shotfile.proofs.Writing.{tests-accepted}
+use Rattle.shotfile.proofs.Writing.{write-decides}
 use Rattle.shotfile.proofs.Accepted.{accepted-file, refused-file, accepted-list}
 
 -- ---- reading
@@ -74,42 +71,23 @@ module _ {s before after : List ℕ} {r : ReadAnswer} (c : ReadCall s before r a
       from h = let (f, coords, e) = file-reads (shotCount before) s .1 h in (f .first, f .second, f .third, shotCount coords, c .answer ∙ ap readAnswer e)
 
 -- ---- writing
-module _ (F E G : ℕ) (coords : List ℕ) (room : ℕ) where
-  pub tests-refused : (r : Refusal) → (firstOf (writeTests F E G coords room) ≡ Turned r) ↔ WriteRefuses F E G coords room r
-  unfolding writeTests
-  tests-refused r = (λ e. to (more .0 e), λ h. more .1 (from h))
-    where
-      n : ℕ
-      n = length (fileOf F E G coords)
-
-      more : (firstOf (tests F E G coords ++ longFile F E G coords room ∷ []) ≡ Turned r) ↔ ((checked F E G coords ≡ Turned r) ⊎ ((checked F E G coords ≡ Accepted) × (room < n) × (ShortFile n ≡ r)))
-      more = more-refused (tests F E G coords) room n (ShortFile n) r
-
-      to : (checked F E G coords ≡ Turned r) ⊎ ((checked F E G coords ≡ Accepted) × (room < n) × (ShortFile n ≡ r)) → WriteRefuses F E G coords room r
-      to (inl e) = inl (refused-iff F E G coords r .0 e)
-      to (inr (a, l, g)) = inr (accepted-valid F E G coords .0 a, l, g)
-
-      from : WriteRefuses F E G coords room r → (checked F E G coords ≡ Turned r) ⊎ ((checked F E G coords ≡ Accepted) × (room < n) × (ShortFile n ≡ r))
-      from (inl f) = inl (refused-iff F E G coords r .1 f)
-      from (inr (v, l, g)) = inr (accepted-valid F E G coords .1 v, l, g)
-
-module _ {F E G : ℕ} {coords before after : List ℕ} {w : WriteAnswer} (c : WriteCall F E G coords before w after) where
+module _ {job : Job} {before after : List ℕ} {w : WriteAnswer} (c : WriteCall job before w after) where
   -- a refusal is given if and only if its condition is the first that holds
-  pub write-refuses : (r : Refusal) → (w ≡ Unwritten r) ↔ WriteRefuses F E G coords (length before) r
+  pub write-refuses : (r : Refusal) → (w ≡ Unwritten r) ↔ WriteRefuses job (length before) r
   unfolding writeAnswer
   write-refuses r = (
-    λ e. tests-refused F E G coords (length before) r .0 (stopped (firstOf (writeTests F E G coords (length before))) (sym (c .answer) ∙ e)),
-    λ h. c .answer ∙ ap (λ (k : Checked). ifWritten k Unwritten (Written (length (fileOf F E G coords)))) (tests-refused F E G coords (length before) r .1 h),
+    λ e. write-decides job (length before) .refused r .0 (stopped (firstOf (writeTests job (length before))) (sym (c .answer) ∙ e)),
+    λ h. c .answer ∙ ap (λ (k : Checked). ifWritten k Unwritten (Written (length (fileOf job)))) (write-decides job (length before) .refused r .1 h),
   )
     where
-      stopped : (k : Checked) → ifWritten k Unwritten (Written (length (fileOf F E G coords))) ≡ Unwritten r → k ≡ Turned r
+      stopped : (k : Checked) → ifWritten k Unwritten (Written (length (fileOf job))) ≡ Unwritten r → k ≡ Turned r
       stopped Accepted e = let z : _≡_ {A = ℕ} 0 1 = cc in absurd (omega arith)
       stopped (Turned q) e = let same : q ≡ r = cc in ap Turned same
 
   -- a list is written if and only if it is valid and its file fits
-  pub write-accepts : ((n : ℕ) × (w ≡ Written n)) ↔ WriteAccepts F E G coords (length before)
+  pub write-accepts : ((n : ℕ) × (w ≡ Written n)) ↔ WriteAccepts job (length before)
   unfolding writeAnswer
   write-accepts = (
     λ h. let a = accepted-list c (h .1) in (a .valid, a .room),
-    λ h. (length (fileOf F E G coords), c .answer ∙ ap (λ (k : Checked). ifWritten k Unwritten (Written (length (fileOf F E G coords)))) (tests-accepted F E G coords (length before) .1 h)),
+    λ h. (length (fileOf job), c .answer ∙ ap (λ (k : Checked). ifWritten k Unwritten (Written (length (fileOf job)))) (write-decides job (length before) .accepted .1 h)),
   )

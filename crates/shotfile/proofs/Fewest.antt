@@ -8,7 +8,7 @@ use lib.Dec.{eqb}
 use lib.ListN.{length, getD}
 use borrow.Author.Tests.{eqb-true, eqb-false}
 use Rattle.lattice.specs.Shots.{Shot}
-use Rattle.job.specs.Job.{shotsOf}
+use Rattle.job.specs.Job.{jobOf, shotsOf}
 use Rattle.shotfile_records.specs.declared.Fields.{Fields}
 use Rattle.shotfile_records.specs.declared.Taken.the-variants.{Whole}
 use Rattle.shotfile.specs.declared.reader.Cursor.{Cursor}
@@ -89,7 +89,7 @@ shots-tight e {s} {left} {places} {c} (shot {f = f} {end = end} {coords = coords
     ap (λ (b : Bool). b && onShot (stepAt s c) true (tightFrom n s)) here
     ∙ (ap (λ (k : Step). onShot k true (tightFrom n s)) step ∙ shots-tight e r (p .room) (omega (arith, l, least, size)) n)
 
-pub file-fewest : (s : List ℕ) (places : ℕ) {f : Fields} {coords : List ℕ} → fileIn places s ≡ file f coords → length s ≤ length (fileOf (f .first) (f .second) (f .third) coords) → shortest s ≡ true
+pub file-fewest : (s : List ℕ) (places : ℕ) {f : Fields} {coords : List ℕ} → fileIn places s ≡ file f coords → length s ≤ length (fileOf (jobOf (f .first) (f .second) (f .third) coords)) → shortest s ≡ true
 unfolding shortest
 file-fewest s places {f} {coords} e l =
     let q = file-parts s places e in
@@ -178,11 +178,11 @@ module _ (s : List ℕ) (places : ℕ) {f : Fields} {coords : List ℕ} (b : Byt
       zeros-small = record { first-small = omega arith; second-small = omega arith; third-small = omega arith }
 
   -- is made of bytes, and is read to the same
-  pub again-bytes : Bytes (fileOf (f .first) (f .second) (f .third) coords)
+  pub again-bytes : Bytes (fileOf (jobOf (f .first) (f .second) (f .third) coords))
   unfolding fileOf
-  again-bytes = all-bytes (fileOf (f .first) (f .second) (f .third) coords) (all-append (recordOf headerAbsent f) (shotRecords firstAbsent (shotsOf (f .second) coords)) (record-bytes headerAbsent f header-small) (records-bytes firstAbsent (shotsOf (f .second) coords) list-small))
+  again-bytes = all-bytes (fileOf (jobOf (f .first) (f .second) (f .third) coords)) (all-append (recordOf headerAbsent f) (shotRecords firstAbsent (shotsOf (f .second) coords)) (record-bytes headerAbsent f header-small) (records-bytes firstAbsent (shotsOf (f .second) coords) list-small))
 
-  pub again-read : fileIn places (fileOf (f .first) (f .second) (f .third) coords) ≡ file f coords
+  pub again-read : fileIn places (fileOf (jobOf (f .first) (f .second) (f .third) coords)) ≡ file f coords
   again-read =
       let r = file-parts s places e .rest in
-      file-read (f .first) (f .second) (f .third) coords places header-small list-small (reads-whole r) (reads-few r) (reads-room r)
+      file-read (jobOf (f .first) (f .second) (f .third) coords) places header-small list-small (reads-whole r) (reads-few r) (reads-room r)

@@ -9,7 +9,7 @@ use lib.ListN.{length, getD, length-append}
 use lib.Seq.{getD-append-seam, getD-append-add}
 use borrow.Author.Tests.{eqb-true, eqb-false}
 use Rattle.lattice.specs.Shots.{Shot}
-use Rattle.job.specs.Job.{shotsOf, shotCount, placeOf}
+use Rattle.job.specs.Job.{Job, shotsOf, shotCount, placeOf}
 use Rattle.job.proofs.Shots.{shots-count}
 use Rattle.shotfile_records.specs.declared.Fields.{Fields}
 use Rattle.shotfile_records.specs.declared.Taken.the-variants.{Whole}
@@ -197,22 +197,22 @@ module _ (s : List ℕ) where
       (shots-read left places (pre ++ recordOf p f) f ts (e ∙ sym (append-assoc pre (recordOf p f) (shotRecords f ts))) (omega arith) (omega arith) (small .1))
 
 -- the whole file
-pub file-read : (F E G : ℕ) (coords : List ℕ) (places : ℕ) → SmallFields (settingFields F E G) → SmallShots (shotsOf E coords)
-    → length coords ≡ placeOf (shotCount coords) → shotCount coords ≤ 4096 → shotCount coords ≤ places
-    → fileIn places (fileOf F E G coords) ≡ file (settingFields F E G) coords
+pub file-read : (job : Job) (places : ℕ) → SmallFields (settingFields job.field job.edge job.grid) → SmallShots (shotsOf job.edge job.coords)
+    → length job.coords ≡ placeOf (shotCount job.coords) → shotCount job.coords ≤ 4096 → shotCount job.coords ≤ places
+    → fileIn places (fileOf job) ≡ file (settingFields job.field job.edge job.grid) job.coords
 unfolding fileIn fileOf
-file-read F E G coords places header-small small t l r = ap (λ t. onHeader t (λ end. shotsFrom 4096 places s (firstShot end))) header ∙ ap (withSettings f) rest
+file-read job places header-small small t l r = ap (λ t. onHeader t (λ end. shotsFrom 4096 places s (firstShot end))) header ∙ ap (withSettings f) rest
   where
     f : Fields
-    f = settingFields F E G
+    f = settingFields job.field job.edge job.grid
 
     s : List ℕ
-    s = fileOf F E G coords
+    s = fileOf job
 
     header : recordAt s 0 headerAbsent ≡ Whole f (length (recordOf headerAbsent f))
-    header = placed-read (placed [] (shotRecords firstAbsent (shotsOf E coords)) headerAbsent f header-small) ∙ ap (Whole f) (omega arith)
+    header = placed-read (placed [] (shotRecords firstAbsent (shotsOf job.edge job.coords)) headerAbsent f header-small) ∙ ap (Whole f) (omega arith)
 
-    rest : shotsFrom 4096 places s (firstShot (length (recordOf headerAbsent f))) ≡ shots coords
+    rest : shotsFrom 4096 places s (firstShot (length (recordOf headerAbsent f))) ≡ shots job.coords
     rest =
-        shots-read s 4096 places (recordOf headerAbsent f) firstAbsent (shotsOf E coords) refl (omega (arith, shots-count E coords)) (omega (arith, shots-count E coords)) small
-        ∙ ap shots (all-numbers E coords t)
+        shots-read s 4096 places (recordOf headerAbsent f) firstAbsent (shotsOf job.edge job.coords) refl (omega (arith, shots-count job.edge job.coords)) (omega (arith, shots-count job.edge job.coords)) small
+        ∙ ap shots (all-numbers job.edge job.coords t)

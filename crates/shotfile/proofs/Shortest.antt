@@ -8,7 +8,7 @@ use lib.Dec.{T}
 use lib.ListN.{length, drop, length-append, drop-of-length-le}
 use Rattle.lattice.proofs.Cases.{and-left, and-right}
 use Rattle.job.specs.declared.Refusal.{Refusal}
-use Rattle.job.specs.Job.{shotsOf, shotCount}
+use Rattle.job.specs.Job.{jobOf, shotsOf, shotCount}
 use Rattle.shotfile_records.specs.declared.Fields.{Fields}
 use Rattle.shotfile_records.specs.declared.Taken.{Taken}
 use Rattle.shotfile_records.specs.declared.Taken.the-variants.{Whole, Refused}
@@ -68,11 +68,11 @@ module _ (e : ℕ) where
       omega (arith, shots-least r (p .room), record-least s (c .at) (c .last) f end p, more-length (c .last) f coords)
 
 -- a file is its header and its shots
-pub file-size : (f : Fields) (coords : List ℕ) → length (fileOf (f .first) (f .second) (f .third) coords) ≡ length (recordOf headerAbsent f) + length (shotRecords firstAbsent (shotsOf (f .second) coords))
+pub file-size : (f : Fields) (coords : List ℕ) → length (fileOf (jobOf (f .first) (f .second) (f .third) coords)) ≡ length (recordOf headerAbsent f) + length (shotRecords firstAbsent (shotsOf (f .second) coords))
 unfolding fileOf
 file-size f coords = length-append (recordOf headerAbsent f) (shotRecords firstAbsent (shotsOf (f .second) coords))
 
-pub file-least : (s : List ℕ) (places : ℕ) {f : Fields} {coords : List ℕ} → fileIn places s ≡ file f coords → length (fileOf (f .first) (f .second) (f .third) coords) ≤ length s
+pub file-least : (s : List ℕ) (places : ℕ) {f : Fields} {coords : List ℕ} → fileIn places s ≡ file f coords → length (fileOf (jobOf (f .first) (f .second) (f .third) coords)) ≤ length s
 file-least s places {f} {coords} e =
     let q = file-parts s places e in
     let p = parts s 0 headerAbsent (q .header) in
@@ -97,7 +97,7 @@ shots-same e {s} {left} {places} {c} (shot {f = f} {end = end} {coords = coords}
     record-same s (c .at) (c .last) f end (parts s (c .at) (c .last) q) b (and-left (tight s (c .at) (c .last)) (onShot (stepAt s c) true (tightFrom n s)) t)
     ∙ (ap (λ (k : List ℕ). recordOf (c .last) f ++ k) (shots-same e r b n (omega (arith, count-more f coords)) later) ∙ sym (records-more e (c .last) f coords))
 
-pub file-same : (s : List ℕ) (places : ℕ) {f : Fields} {coords : List ℕ} → fileIn places s ≡ file f coords → Bytes s → T (shortest s) → fileOf (f .first) (f .second) (f .third) coords ≡ s
+pub file-same : (s : List ℕ) (places : ℕ) {f : Fields} {coords : List ℕ} → fileIn places s ≡ file f coords → Bytes s → T (shortest s) → fileOf (jobOf (f .first) (f .second) (f .third) coords) ≡ s
 unfolding fileOf shortest
 file-same s places {f} {coords} e b t =
     let q = file-parts s places e in

@@ -9,16 +9,18 @@ use Rattle.lattice.specs.Shots.{Shot}
 use Rattle.job.specs.declared.Refusal.{Refusal}
 use Rattle.job.specs.declared.Refusal.the-variants.{ShortFile}
 use Rattle.job.specs.declared.Checked.the-variants.{Accepted, Refused as Turned}
-use Rattle.job.specs.Job.{shotsOf, shotCount, placeOf}
+use Rattle.job.specs.Job.{Job, shotsOf, shotCount, placeOf}
 use Rattle.job.specs.Checking.{firstOf, tests, checked}
 use Rattle.job.proofs.Places.{first-stopped}
-use Rattle.job.proofs.OneMore.{too-short, more-accepted}
+use Rattle.job.specs.Conditions.{Decides}
+use Rattle.job.proofs.OneMore.{too-short}
+use Rattle.job.proofs.Deciding.{job-decides, decides-more}
 use Rattle.job.proofs.Shots.{shots-count, shots-from, shots-end}
 use Rattle.job.proofs.Conditions.{accepted-valid}
 use Rattle.shotfile_records.specs.declared.Fields.{Fields}
 use Rattle.shotfile.specs.declared.writer.WriteAnswer.the-variants.{Written, Refused as Unwritten}
 use Rattle.shotfile.specs.Calls.{longFile, writeTests, writtenNumbers, writeAnswer, writeValues, writeBytes, WriteCall}
-use Rattle.shotfile.specs.Conditions.{WriteAccepts}
+use Rattle.shotfile.specs.Conditions.{WriteAccepts, WriteRefuses}
 use Rattle.shotfile_records.specs.Records.{headerAbsent, firstAbsent, recordOf}
 use Rattle.shotfile.specs.Files.{settingFields, shotFields, coordsAt, shotRecords, fileOf}
 use Rattle.buffer.specs.Wrote.{Wrote, inFront}
@@ -49,40 +51,42 @@ module _ (E : ℕ) (coords : List ℕ) (i : ℕ) (last : Fields) where
   unfolding shotRecords
   records-end h = ap (shotRecords last) (shots-end E coords i h)
 
-module _ (F E G : ℕ) (coords : List ℕ) where
+module _ (job : Job) where
+  open Job job using (field as F, edge as E, grid as G, coords)
+
   -- a file is its header and the records from shot 0 on
   module _ {absent last : Fields} (a : absent ≡ headerAbsent) (l : last ≡ firstAbsent) where
-    pub file-parts : fileOf F E G coords ≡ recordOf absent (settingFields F E G) ++ recordsFrom E coords 0 last
+    pub file-parts : fileOf job ≡ recordOf absent (settingFields F E G) ++ recordsFrom E coords 0 last
     unfolding fileOf
     file-parts = rw (a, l)
 
-    parts-length : length (fileOf F E G coords) ≡ length (recordOf absent (settingFields F E G)) + length (recordsFrom E coords 0 last)
+    parts-length : length (fileOf job) ≡ length (recordOf absent (settingFields F E G)) + length (recordsFrom E coords 0 last)
     parts-length = ap length file-parts ∙ length-append (recordOf absent (settingFields F E G)) (recordsFrom E coords 0 last)
 
-    pub header-room : (w : List ℕ) → length (fileOf F E G coords) ≤ length w → 0 + length (recordOf absent (settingFields F E G)) ≤ length w
+    pub header-room : (w : List ℕ) → length (fileOf job) ≤ length w → 0 + length (recordOf absent (settingFields F E G)) ≤ length w
     header-room w h = omega (arith, parts-length)
 
     -- the header, and then the records
     module _ {w w' : List ℕ} {at : ℕ} (t : Wrote w w' 0 at (recordOf absent (settingFields F E G))) where
-      pub shots-room : length (fileOf F E G coords) ≤ length w → length w' ≡ length w → at + length (recordsFrom E coords 0 last) ≤ length w'
+      pub shots-room : length (fileOf job) ≤ length w → length w' ≡ length w → at + length (recordsFrom E coords 0 last) ≤ length w'
       shots-room h k = omega (arith, t .next, parts-length)
 
-      pub all-written : {w'' : List ℕ} {r : ℕ} → Wrote w' w'' at r (recordsFrom E coords 0 last) → w'' ≡ inFront (fileOf F E G coords) w
+      pub all-written : {w'' : List ℕ} {r : ℕ} → Wrote w' w'' at r (recordsFrom E coords 0 last) → w'' ≡ inFront (fileOf job) w
       all-written u = wrote-front (wrote-as (sym file-parts) (wrote-then t u))
 
   -- the longest file
-  pub file-most : shotCount coords ≤ 4096 → length (fileOf F E G coords) ≤ 28679
+  pub file-most : shotCount coords ≤ 4096 → length (fileOf job) ≤ 28679
   file-most h =
-      omega (arith, parts-length refl refl, record-most headerAbsent (settingFields F E G), records-most firstAbsent (shotsOf E coords), shots-count E coords)
+      omega (arith, parts-length refl refl, record-most headerAbsent (settingFields F E G), records-most firstAbsent (shotsOf job.edge job.coords), shots-count E coords)
 
 -- ---- counting the bytes
 -- the bytes so far, and those from shot i on
 pub record Measured (E : ℕ) (coords : List ℕ) (last : Fields) (i total whole : ℕ) : Type 0 where
   pub is : total + length (recordsFrom E coords i last) ≡ whole
 
-pub measured-none : (F E G : ℕ) (coords : List ℕ) {absent last : Fields} {k : ℕ} → absent ≡ headerAbsent → last ≡ firstAbsent → k ≡ length (recordOf absent (settingFields F E G))
-    → Measured E coords last 0 k (length (fileOf F E G coords))
-measured-none F E G coords a l e = record { is = omega (arith, e, parts-length F E G coords a l) }
+pub measured-none : (job : Job) {absent last : Fields} {k : ℕ} → absent ≡ headerAbsent → last ≡ firstAbsent → k ≡ length (recordOf absent (settingFields job.field job.edge job.grid))
+    → Measured job.edge job.coords last 0 k (length (fileOf job))
+measured-none job a l e = record { is = omega (arith, e, parts-length job a l) }
 
 module _ {E : ℕ} {coords : List ℕ} {last : Fields} {i total whole : ℕ} (m : Measured E coords last i total whole) where
   pub measured-more : i < shotCount coords → {f : Fields} {k : ℕ} → f ≡ coordsAt coords i → k ≡ length (recordOf last f) → Measured E coords f (i + 1) (total + k) whole
@@ -93,44 +97,43 @@ module _ {E : ℕ} {coords : List ℕ} {last : Fields} {i total whole : ℕ} (m 
   measured-all h = omega (arith, m .is, ap length (records-end E coords i last h))
 
 -- ---- what `write` answers and leaves
-module _ (F E G : ℕ) (coords : List ℕ) where
-  pub few-shots : Accepted ≡ checked F E G coords → shotCount coords ≤ 4096
-  few-shots a = accepted-valid F E G coords .0 (sym a) .few
+module _ (job : Job) where
+  open Job job using (coords)
+
+  pub few-shots : Accepted ≡ checked job → shotCount coords ≤ 4096
+  few-shots a = accepted-valid job .0 (sym a) .few
 
   module _ (room : ℕ) where
-    tests-stopped : {r : Refusal} → Turned r ≡ checked F E G coords → Turned r ≡ firstOf (writeTests F E G coords room)
+    tests-stopped : {r : Refusal} → Turned r ≡ checked job → Turned r ≡ firstOf (writeTests job room)
     unfolding writeTests
-    tests-stopped h = sym (first-stopped (longFile F E G coords room ∷ []) (tests F E G coords) (sym h))
+    tests-stopped h = sym (first-stopped (longFile job room ∷ []) (tests job) (sym h))
 
-    tests-short : Accepted ≡ checked F E G coords → {n : ℕ} → n ≡ length (fileOf F E G coords) → room < n → Turned (ShortFile n) ≡ firstOf (writeTests F E G coords room)
+    tests-short : Accepted ≡ checked job → {n : ℕ} → n ≡ length (fileOf job) → room < n → Turned (ShortFile n) ≡ firstOf (writeTests job room)
     unfolding writeTests
-    tests-short a e l = ap (λ (n : ℕ). Turned (ShortFile n)) e ∙ sym (too-short (tests F E G coords) room (length (fileOf F E G coords)) (ShortFile (length (fileOf F E G coords))) (sym a) (omega arith))
+    tests-short a e l = ap (λ (n : ℕ). Turned (ShortFile n)) e ∙ sym (too-short (tests job) room (length (fileOf job)) (ShortFile (length (fileOf job))) (sym a) (omega arith))
 
     -- the list is accepted if and only if it is valid and the file fits
-    pub tests-accepted : (firstOf (writeTests F E G coords room) ≡ Accepted) ↔ WriteAccepts F E G coords room
+    pub write-decides : Decides (writeTests job room) (WriteAccepts job room) (WriteRefuses job room)
     unfolding writeTests
-    tests-accepted =
-        let m = more-accepted (tests F E G coords) room (length (fileOf F E G coords)) (ShortFile (length (fileOf F E G coords))) in
-        (λ e. (accepted-valid F E G coords .0 (m .0 e .0), m .0 e .1), λ h. m .1 (accepted-valid F E G coords .1 (h .0), h .1))
+    write-decides = decides-more (job-decides job) room (length (fileOf job)) (ShortFile (length (fileOf job)))
 
--- by what the tests say
-module _ (F E G : ℕ) (coords before : List ℕ) where
-  says-refused : {r : Refusal} → Turned r ≡ firstOf (writeTests F E G coords (length before)) → WriteCall F E G coords before (Unwritten r) before
+module _ (job : Job) (before : List ℕ) where
+  says-refused : {r : Refusal} → Turned r ≡ firstOf (writeTests job (length before)) → WriteCall job before (Unwritten r) before
   unfolding writeAnswer writtenNumbers writeValues writeBytes
   says-refused h = record { answer = simp (sym h); numbers = simp (sym h); file = simp (sym h) }
 
-  pub write-refused : {r : Refusal} → Turned r ≡ checked F E G coords → WriteCall F E G coords before (Unwritten r) before
-  write-refused h = says-refused (tests-stopped F E G coords (length before) h)
+  pub write-refused : {r : Refusal} → Turned r ≡ checked job → WriteCall job before (Unwritten r) before
+  write-refused h = says-refused (tests-stopped job (length before) h)
 
-  pub write-short : Accepted ≡ checked F E G coords → {n : ℕ} → n ≡ length (fileOf F E G coords) → length before < n → WriteCall F E G coords before (Unwritten (ShortFile n)) before
-  write-short a e l = says-refused (tests-short F E G coords (length before) a e l)
+  pub write-short : Accepted ≡ checked job → {n : ℕ} → n ≡ length (fileOf job) → length before < n → WriteCall job before (Unwritten (ShortFile n)) before
+  write-short a e l = says-refused (tests-short job (length before) a e l)
 
-  says-written : Accepted ≡ firstOf (writeTests F E G coords (length before)) → WriteCall F E G coords before (Written (length (fileOf F E G coords))) (inFront (fileOf F E G coords) before)
+  says-written : Accepted ≡ firstOf (writeTests job (length before)) → WriteCall job before (Written (length (fileOf job))) (inFront (fileOf job) before)
   unfolding writeAnswer writtenNumbers writeValues writeBytes
   says-written h = record { answer = simp (sym h); numbers = simp (sym h); file = simp (sym h) }
 
-  pub write-done : Accepted ≡ checked F E G coords → {n : ℕ} → n ≡ length (fileOf F E G coords) → n ≤ length before → {after : List ℕ} → after ≡ inFront (fileOf F E G coords) before
-      → WriteCall F E G coords before (Written n) after
+  pub write-done : Accepted ≡ checked job → {n : ℕ} → n ≡ length (fileOf job) → n ≤ length before → {after : List ℕ} → after ≡ inFront (fileOf job) before
+      → WriteCall job before (Written n) after
   write-done a e l w =
       rw (e, w)
-      (says-written (sym (tests-accepted F E G coords (length before) .1 (accepted-valid F E G coords .0 (sym a), omega (arith, e)))))
+      (says-written (sym (write-decides job (length before) .accepted .1 (accepted-valid job .0 (sym a), omega (arith, e)))))

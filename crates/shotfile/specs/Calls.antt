@@ -9,7 +9,7 @@ use Rattle.job.specs.declared.Refusal.the-variants.{ShortFile}
 use Rattle.job.specs.declared.Checked.{Checked}
 use Rattle.job.specs.declared.Checked.the-variants.{Accepted, Refused as Turned}
 use Rattle.job.specs.declared.Refusal.{Refusal}
-use Rattle.job.specs.Job.{shotCount}
+use Rattle.job.specs.Job.{Job, shotCount}
 use Rattle.job.specs.Refusals.{numberOf, detailOf}
 use Rattle.job.specs.Checking.{Test, firstOf, tests}
 use Rattle.shotfile.specs.declared.writer.WriteAnswer.{WriteAnswer}
@@ -55,12 +55,12 @@ pub record ReadCall (bytes before : List ℕ) (r : ReadAnswer) (after : List ℕ
 
 -- ---- writing
 -- the file of a list is longer than the byte buffer
-abbrev pub longFile : ℕ → ℕ → ℕ → List ℕ → ℕ → Test
-longFile F E G coords room = record { holds = ltb room (length (fileOf F E G coords)); gives = ShortFile (length (fileOf F E G coords)) }
+abbrev pub longFile : Job → ℕ → Test
+longFile job room = record { holds = ltb room (length (fileOf job)); gives = ShortFile (length (fileOf job)) }
 
 -- the tests of a list, and then that of its file
-unfoldable pub writeTests : ℕ → ℕ → ℕ → List ℕ → ℕ → List Test
-writeTests F E G coords room = tests F E G coords ++ longFile F E G coords room ∷ []
+unfoldable pub writeTests : Job → ℕ → List Test
+writeTests job room = tests job ++ longFile job room ∷ []
 
 -- what is said of a refusal, or of an accepted list
 abbrev pub ifWritten : {A : Type 0} → Checked → (Refusal → A) → A → A
@@ -68,8 +68,8 @@ ifWritten Accepted none done = done
 ifWritten (Turned r) none done = none r
 
 -- the file's length, or the refusal
-unfoldable pub writeAnswer : ℕ → ℕ → ℕ → List ℕ → ℕ → WriteAnswer
-writeAnswer F E G coords room = ifWritten (firstOf (writeTests F E G coords room)) Unwritten (Written (length (fileOf F E G coords)))
+unfoldable pub writeAnswer : Job → ℕ → WriteAnswer
+writeAnswer job room = ifWritten (firstOf (writeTests job room)) Unwritten (Written (length (fileOf job)))
 
 -- the numbers of an answer: the refusal's number and detail, 0 and 0 where there is none, then the file's length, 0 if refused
 unfoldable pub writtenNumbers : WriteAnswer → List ℕ
@@ -77,16 +77,16 @@ writtenNumbers (Written n) = 0 ∷ 0 ∷ n ∷ []
 writtenNumbers (Unwritten r) = numberOf r ∷ detailOf r ∷ 0 ∷ []
 
 -- the same numbers, from what the tests say
-unfoldable pub writeValues : ℕ → ℕ → ℕ → List ℕ → ℕ → List ℕ
-writeValues F E G coords room =
-    ifWritten (firstOf (writeTests F E G coords room)) (λ r. numberOf r ∷ detailOf r ∷ 0 ∷ []) (0 ∷ 0 ∷ length (fileOf F E G coords) ∷ [])
+unfoldable pub writeValues : Job → ℕ → List ℕ
+writeValues job room =
+    ifWritten (firstOf (writeTests job room)) (λ r. numberOf r ∷ detailOf r ∷ 0 ∷ []) (0 ∷ 0 ∷ length (fileOf job) ∷ [])
 
 -- the first places are the file, and the others keep their values, as all do after a refusal
-unfoldable pub writeBytes : ℕ → ℕ → ℕ → List ℕ → List ℕ → List ℕ
-writeBytes F E G coords before = ifWritten (firstOf (writeTests F E G coords (length before))) (λ r. before) (inFront (fileOf F E G coords) before)
+unfoldable pub writeBytes : Job → List ℕ → List ℕ
+writeBytes job before = ifWritten (firstOf (writeTests job (length before))) (λ r. before) (inFront (fileOf job) before)
 
 -- what `write` promises of its answer r and of the byte buffer after it
-pub record WriteCall (F E G : ℕ) (coords before : List ℕ) (r : WriteAnswer) (after : List ℕ) : Type 0 where
-  pub answer : r ≡ writeAnswer F E G coords (length before)
-  pub numbers : writtenNumbers r ≡ writeValues F E G coords (length before)
-  pub file : after ≡ writeBytes F E G coords before
+pub record WriteCall (job : Job) (before : List ℕ) (r : WriteAnswer) (after : List ℕ) : Type 0 where
+  pub answer : r ≡ writeAnswer job (length before)
+  pub numbers : writtenNumbers r ≡ writeValues job (length before)
+  pub file : after ≡ writeBytes job before

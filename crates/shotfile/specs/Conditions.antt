@@ -7,7 +7,7 @@ use lib.ListN.{length, getD}
 use Rattle.job.specs.declared.Refusal.{Refusal}
 use Rattle.job.specs.declared.Refusal.the-variants.{TooManyShots, NoPlace, UnknownBit, CutShort, ShortFile}
 use Rattle.job.specs.Refusals.{numberOf}
-use Rattle.job.specs.Job.{Valid}
+use Rattle.job.specs.Job.{Job, Valid}
 use Rattle.job.specs.Checking.{tests}
 use Rattle.job.specs.Conditions.{Condition, First}
 use Rattle.shotfile_records.specs.declared.Fields.{Fields}
@@ -53,11 +53,11 @@ Faultless places s = (n at : ℕ) (absent : Fields) → IsRecord s n at absent �
 
 -- ---- writing
 -- a list is written if it is valid and its file fits
-abbrev pub WriteAccepts : ℕ → ℕ → ℕ → List ℕ → ℕ → Type 0
-WriteAccepts F E G coords room = Valid F E G coords × (length (fileOf F E G coords) ≤ room)
+abbrev pub WriteAccepts : Job → ℕ → Type 0
+WriteAccepts job room = Valid job × (length (fileOf job) ≤ room)
 
 -- by the first of 1, 2, 6, 7, 8, 9 whose condition holds; by 12 if none does and the byte buffer is shorter than the file
-abbrev pub WriteRefuses : ℕ → ℕ → ℕ → List ℕ → ℕ → Refusal → Type 0
-WriteRefuses F E G coords room r =
-    First (Condition F E G coords) (tests F E G coords) r
-    ⊎ (Valid F E G coords × (room < length (fileOf F E G coords)) × (ShortFile (length (fileOf F E G coords)) ≡ r))
+abbrev pub WriteRefuses : Job → ℕ → Refusal → Type 0
+WriteRefuses job room r =
+    First (Condition job) (tests job) r
+    ⊎ (Valid job × (room < length (fileOf job)) × (ShortFile (length (fileOf job)) ≡ r))

@@ -7,7 +7,7 @@ use lib.ListN.{length}
 use Rattle.lattice.specs.Shots.{Shot}
 use Rattle.job.specs.declared.Refusal.{Refusal}
 use Rattle.job.specs.declared.Refusal.the-variants.{TooManyShots, NoPlace}
-use Rattle.job.specs.Job.{shotsOf, xAt, yAt, zAt, numbersOf}
+use Rattle.job.specs.Job.{Job, xAt, yAt, zAt, numbersOf, shotsOf}
 use Rattle.shotfile_records.specs.declared.Fields.{Fields}
 use Rattle.shotfile_records.specs.declared.Taken.{Taken}
 use Rattle.shotfile_records.specs.declared.Taken.the-variants.{Whole, Refused}
@@ -99,8 +99,8 @@ shotRecords last (t ∷ ts) = recordOf last (shotFields t) ++ shotRecords (shotF
 abbrev pub coordsAt : List ℕ → ℕ → Fields
 coordsAt coords i = record { first = xAt coords i; second = yAt coords i; third = zAt coords i }
 
-unfoldable pub fileOf : ℕ → ℕ → ℕ → List ℕ → List ℕ
-fileOf F E G coords = recordOf headerAbsent (settingFields F E G) ++ shotRecords firstAbsent (shotsOf E coords)
+unfoldable pub fileOf : Job → List ℕ
+fileOf job = recordOf headerAbsent (settingFields job.field job.edge job.grid) ++ shotRecords firstAbsent (shotsOf job.edge job.coords)
 
 -- no field of the next n records says what its absence would mean
 unfoldable pub tightFrom : ℕ → List ℕ → Cursor → Bool

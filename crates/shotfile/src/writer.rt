@@ -10,7 +10,7 @@ ghost use mathlib.Core.Path.{_≡_};
 ghost use Prim.Native.Nat.{_≤_, _<_};
 ghost use lib.ListN.{length};
 ghost use Rattle.buffer.specs.Wrote.{inFront};
-ghost use Rattle.job.specs.Job.{shotCount};
+ghost use Rattle.job.specs.Job.{jobOf, shotCount};
 ghost use Rattle.shotfile.specs.Files.{coordsAt, fileOf};
 ghost use Rattle.shotfile.specs.Calls.{WriteCall};
 
@@ -36,7 +36,7 @@ fn shot_at(coords: &[u16], i: usize) -> Fields
 // How many bytes the file of a list takes.
 fn file_length(field: u16, edge: u16, grid: u16, coords: &[u16]) -> usize
     requires { ⌜ shotCount (now coords) ≤ 4096 ⌝ }
-    ensures { λ r. ⌜ r ≡ length (fileOf field edge grid (now (coords .entry))) ⌝ }
+    ensures { λ r. ⌜ r ≡ length (fileOf (jobOf field edge grid (now (coords .entry)))) ⌝ }
 {
     let absent = header_absent();
     let settings = Fields {
@@ -59,8 +59,8 @@ fn file_length(field: u16, edge: u16, grid: u16, coords: &[u16]) -> usize
 
 // Writes the file of a list.
 fn put_file(bytes: &mut [u8], field: u16, edge: u16, grid: u16, coords: &[u16])
-    requires { ⌜ length (fileOf field edge grid (now coords)) ≤ length (now bytes) ⌝ }
-    ensures { λ _. ⌜ now (bytes .exit) ≡ inFront (fileOf field edge grid (now (coords .entry))) (now (bytes .entry)) ⌝ }
+    requires { ⌜ length (fileOf (jobOf field edge grid (now coords))) ≤ length (now bytes) ⌝ }
+    ensures { λ _. ⌜ now (bytes .exit) ≡ inFront (fileOf (jobOf field edge grid (now (coords .entry)))) (now (bytes .entry)) ⌝ }
 {
     let absent = header_absent();
     let settings = Fields {
@@ -82,7 +82,7 @@ fn put_file(bytes: &mut [u8], field: u16, edge: u16, grid: u16, coords: &[u16])
 
 // Writes a list as the shortest file that says it, or says why not.
 pub fn write(field: u16, edge: u16, grid: u16, coords: &[u16], bytes: &mut [u8]) -> WriteAnswer
-    ensures { λ r. ⌜ WriteCall field edge grid (now (coords .entry)) (now (bytes .entry)) r (now (bytes .exit)) ⌝ }
+    ensures { λ r. ⌜ WriteCall (jobOf field edge grid (now (coords .entry))) (now (bytes .entry)) r (now (bytes .exit)) ⌝ }
 {
     match job::check(field, edge, grid, coords) {
         Checked::Refused(refusal) => WriteAnswer::Refused(refusal),

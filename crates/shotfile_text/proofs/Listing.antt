@@ -8,6 +8,7 @@ use Prim.Native.Nat.{ℕ, zero, suc, _+_, _-_, _≤_}
 use native.Mathlib.Omega.{arith}
 use lib.Dec.{ltb}
 use lib.ListN.{length, getD}
+use Rattle.job.specs.Job.{jobOf}
 use Rattle.job.specs.declared.Refusal.{Refusal}
 use Rattle.job.specs.declared.Refusal.the-variants.{TooManyShots}
 use Rattle.job.specs.Checking.{checked}
@@ -74,7 +75,7 @@ shows-rest (suc left) n (suc places) s c h = go (ltb (c .at) (length s)) (record
 pub record TextOfFile (s : List ℕ) (f : Fields) (coords text : List ℕ) : Type 0 where
   pub lines : List ℕ
   pub shown : Shows 0 coords lines
-  pub is : text ≡ settings (getD s 0 0) f ++ (lines ++ listVerdict (checked (f .first) (f .second) (f .third) coords))
+  pub is : text ≡ settings (getD s 0 0) f ++ (lines ++ listVerdict (checked (jobOf (f .first) (f .second) (f .third) coords)))
 
 -- the text of a file that does not read ends with its refusal
 pub record TextOfRefused (r : Refusal) (text : List ℕ) : Type 0 where

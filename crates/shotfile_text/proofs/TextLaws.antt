@@ -11,7 +11,7 @@ use Rattle.job.specs.declared.Checked.{Checked}
 use Rattle.job.specs.declared.Checked.the-variants.{Accepted}
 use Rattle.job.specs.declared.Refusal.{Refusal}
 use Rattle.job.specs.declared.Refusal.the-variants.{CutShort}
-use Rattle.job.specs.Job.{shotCount, firstShots}
+use Rattle.job.specs.Job.{jobOf, shotCount, firstShots}
 use Rattle.job.specs.Checking.{checked}
 use Rattle.shotfile_records.specs.declared.Fields.{Fields}
 use Rattle.shotfile_records.specs.declared.Taken.{Taken}
@@ -36,8 +36,8 @@ module _ {s before after : List ℕ} {r : ReadAnswer} (c : ReadCall s before r a
     pub read-room : n ≤ shotCount after
     read-room = let a = accepted-file c e in omega (arith, a .room, a .same-length)
 
-    pub read-verdict : {list : List ℕ} → list ≡ firstShots n after → listVerdict (checked F E G list) ≡ verdict (fileIn (shotCount before) s)
-    read-verdict k = let a = accepted-file c e in ap (λ (l : List ℕ). listVerdict (checked F E G l)) (k ∙ a .stored) ∙ ap verdict (sym (a .is))
+    pub read-verdict : {list : List ℕ} → list ≡ firstShots n after → listVerdict (checked (jobOf F E G list)) ≡ verdict (fileIn (shotCount before) s)
+    read-verdict k = let a = accepted-file c e in ap (λ (l : List ℕ). listVerdict (checked (jobOf F E G l))) (k ∙ a .stored) ∙ ap verdict (sym (a .is))
 
   pub refused-verdict : {q : Refusal} (w : List ℕ) (at : ℕ) → r ≡ Unread q → at + 128 ≤ length w → Wrote w w at at (verdict (fileIn (shotCount before) s))
   refused-verdict w at e h = wrote-as (ap verdict (sym (refused-file c e .0))) (wrote-none w at (omega arith))

@@ -13,6 +13,7 @@ use shotfile_records::Taken;
 ghost use mathlib.Core.Path.{_≡_};
 ghost use Prim.Native.Nat.{_+_, _≤_};
 ghost use lib.ListN.{length};
+ghost use Rattle.job.specs.Job.{jobOf};
 ghost use Rattle.buffer.specs.Wrote.{Wrote};
 ghost use Rattle.job.specs.Checking.{checked};
 ghost use Rattle.shotfile_text.specs.Text.{shotLines, listVerdict, fileVerdict, coordsAfter, TextCall};
@@ -60,7 +61,7 @@ fn put_list_verdict(
     at: usize,
 ) -> usize
     requires { ⌜ at + 128 ≤ length (now out) ⌝ }
-    ensures { λ r. ⌜ Wrote (now (out .entry)) (now (out .exit)) at r (listVerdict (checked field edge grid (now (coords .entry)))) ⌝ }
+    ensures { λ r. ⌜ Wrote (now (out .entry)) (now (out .exit)) at r (listVerdict (checked (jobOf field edge grid (now (coords .entry))))) ⌝ }
 {
     match job::check(field, edge, grid, coords) {
         Checked::Accepted => at,

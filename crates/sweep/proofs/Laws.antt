@@ -20,7 +20,7 @@ use Rattle.lattice.proofs.BoxLaws.{any-to-cut, below-boxes}
 use Rattle.lattice_sums.specs.CornerSums.{Room, sumsOf}
 use Rattle.lattice_sums.specs.declared.sums.CornerSums.{CornerSums}
 use Rattle.lattice_sums.proofs.CornerSumLaws.{no-room, room-more}
-use Rattle.job.specs.Job.{Valid}
+use Rattle.job.specs.Job.{Job, Valid}
 use Rattle.sweep_image.specs.Images.{columns, inRect}
 use Rattle.sweep_image.proofs.ImageLaws.{shows-ext, zeros-at, shows-zeros, tells-zeros}
 use Rattle.sweep_faces.specs.Faces.{rectOf, shade}
@@ -180,7 +180,7 @@ module _ (boxes : List ℕ) (x : ℕ) where
       go false e = f j l (let m : (j ≡ i → ⊥) = eqb-false j i e in omega arith)
 
 -- the slots of a valid list are boxes of its field
-pub slots-given : {F E G : ℕ} {coords boxes : List ℕ} {n : ℕ} → Valid F E G coords → Slots F E coords boxes n → Given F boxes n
+pub slots-given : {job : Job} {boxes : List ℕ} {n : ℕ} → Valid job → Slots job.field job.edge job.coords boxes n → Given job.field boxes n
 slots-given v s = record { field-least = v .field-least; field-most = v .field-most; few = s .few; there = omega (arith, s .few, s .size); boxes-in = s .boxes-in }
 
 -- ---- the ends counted

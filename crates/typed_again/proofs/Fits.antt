@@ -8,7 +8,7 @@ use lib.Dec.{ltb, eqb}
 use lib.ListN.{length, getD, length-append}
 use borrow.Author.Tests.{lt-ltb}
 use Rattle.job.specs.declared.Checked.the-variants.{Accepted}
-use Rattle.job.specs.Job.{shotsOf, shotCount, Valid}
+use Rattle.job.specs.Job.{jobOf, shotsOf, shotCount, Valid}
 use Rattle.job.specs.Checking.{checked}
 use Rattle.job.proofs.Conditions.{accepted-valid}
 use Rattle.text_report.specs.Text.{text}
@@ -93,10 +93,10 @@ shots-length s e {allowed} {room} {c} (shot {f = f} {end = end} {coords = coords
     )
 
 -- ---- the text
-pub text-fits : (s : List ℕ) (places : ℕ) (f : Fields) (coords : List ℕ) → fileIn places s ≡ file f coords → checked (f .first) (f .second) (f .third) coords ≡ Accepted → length (plainText places s) ≤ 262143
+pub text-fits : (s : List ℕ) (places : ℕ) (f : Fields) (coords : List ℕ) → fileIn places s ≡ file f coords → checked (jobOf (f .first) (f .second) (f .third) coords) ≡ Accepted → length (plainText places s) ≤ 262143
 text-fits s places f coords e a =
     let q = file-parts s places e in
-    let v : Valid (f .first) (f .second) (f .third) coords = accepted-valid (f .first) (f .second) (f .third) coords .0 a in
+    let v : Valid (jobOf (f .first) (f .second) (f .third) coords) = accepted-valid (jobOf (f .first) (f .second) (f .third) coords) .0 a in
     let b = parts s 0 headerAbsent (q .header) in
     omega (
       arith,

@@ -6,6 +6,7 @@ use Prim.Native.Nat.{ℕ, zero, suc, _+_, _-_, _/_, _%_, _≤_}
 use native.Mathlib.Omega.{arith}
 use lib.Dec.{ltb}
 use lib.ListN.{length, getD}
+use Rattle.job.specs.Job.{jobOf}
 use Rattle.job.specs.declared.Checked.the-variants.{Refused as Turned}
 use Rattle.job.specs.declared.Refusal.{Refusal}
 use Rattle.job.specs.declared.Refusal.the-variants.{TooManyShots}
@@ -165,7 +166,7 @@ module _ (s : List ℕ) where
       go (Whole f end) e = settings-keep (getD s 0 0) f (shotLines 4096 0 s (firstShot end) ++ verdict (fileIn places s)) (shots-has 4096 places 0 (firstShot end) (verdict (fileIn places s)) (omega arith) (rest f (shotsFrom 4096 places s (firstShot end)) e))
       go (Refused q) e = subst (λ (t : List ℕ). Has (linesOf t)) (append-nil (refusedLine q)) (refusal-has q [])
 
-  list-has : (places : ℕ) (f : Fields) (coords : List ℕ) {r : Refusal} → fileIn places s ≡ file f coords → checked (f .first) (f .second) (f .third) coords ≡ Turned r → Has (linesOf (plainText places s))
+  list-has : (places : ℕ) (f : Fields) (coords : List ℕ) {r : Refusal} → fileIn places s ≡ file f coords → checked (jobOf (f .first) (f .second) (f .third) coords) ≡ Turned r → Has (linesOf (plainText places s))
   unfolding plainText
   list-has places f coords {r} e a =
       let p = file-parts s places e in
@@ -183,5 +184,5 @@ module _ (s : List ℕ) where
   refused-mistakes places room p e = mistakes room (plainText places s) (file-has places p e)
 
   -- (b) of a file whose list is refused
-  pub turned-mistakes : (places room : ℕ) (f : Fields) (coords : List ℕ) {r : Refusal} → fileIn places s ≡ file f coords → checked (f .first) (f .second) (f .third) coords ≡ Turned r → Mistakes (typedList room (plainText places s))
+  pub turned-mistakes : (places room : ℕ) (f : Fields) (coords : List ℕ) {r : Refusal} → fileIn places s ≡ file f coords → checked (jobOf (f .first) (f .second) (f .third) coords) ≡ Turned r → Mistakes (typedList room (plainText places s))
   turned-mistakes places room f coords e a = mistakes room (plainText places s) (list-has places f coords e a)

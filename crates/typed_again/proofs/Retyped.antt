@@ -9,7 +9,7 @@ use lib.ListN.{length, getD}
 use borrow.Author.Tests.{le-ltb}
 use Rattle.job.specs.declared.Checked.{Checked}
 use Rattle.job.specs.declared.Checked.the-variants.{Accepted}
-use Rattle.job.specs.Job.{shotsOf, shotCount, Valid}
+use Rattle.job.specs.Job.{jobOf, shotsOf, shotCount, Valid}
 use Rattle.job.specs.Checking.{checked}
 use Rattle.job.proofs.Conditions.{accepted-valid}
 use Rattle.text_report.specs.Text.{text}
@@ -136,9 +136,9 @@ back-settings m f {places} {rest} {typed} {coords} hf he hg b =
     parts = simp append-assoc
 
 -- ---- the file
-module _ (s : List ℕ) (places : ℕ) (f : Fields) (coords : List ℕ) (e : fileIn places s ≡ file f coords) (a : checked (f .first) (f .second) (f .third) coords ≡ Accepted) where
-  valid : Valid (f .first) (f .second) (f .third) coords
-  valid = accepted-valid (f .first) (f .second) (f .third) coords .0 a
+module _ (s : List ℕ) (places : ℕ) (f : Fields) (coords : List ℕ) (e : fileIn places s ≡ file f coords) (a : checked (jobOf (f .first) (f .second) (f .third) coords) ≡ Accepted) where
+  valid : Valid (jobOf (f .first) (f .second) (f .third) coords)
+  valid = accepted-valid (jobOf (f .first) (f .second) (f .third) coords) .0 a
 
   pub file-text : plainText places s ≡ settings (getD s 0 0) f ++ shotLines 4096 0 s (firstShot (file-parts s places e .end))
   unfolding plainText
@@ -167,5 +167,5 @@ module _ (s : List ℕ) (places : ℕ) (f : Fields) (coords : List ℕ) (e : fil
   retyped-shots = back .shots
 
   -- (c) from a file in its shortest form, the file that is written for the typed list is that file, byte for byte
-  pub rewritten : Bytes s → T (shortest s) → fileOf (f .first) (f .second) (f .third) (shotsIn (linesOf (plainText places s))) ≡ s
-  rewritten b t = ap (fileOf (f .first) (f .second) (f .third)) retyped-shots ∙ written-read s places (f .first) (f .second) (f .third) coords b t e
+  pub rewritten : Bytes s → T (shortest s) → fileOf (jobOf (f .first) (f .second) (f .third) (shotsIn (linesOf (plainText places s)))) ≡ s
+  rewritten b t = ap (λ c. fileOf (jobOf (f .first) (f .second) (f .third) c)) retyped-shots ∙ written-read s places (jobOf (f .first) (f .second) (f .third) coords) b t e

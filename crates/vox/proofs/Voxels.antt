@@ -10,7 +10,7 @@ use lib.Dec.{T, leb, ltb, eqb}
 use lib.ListN.{getD}
 use borrow.Author.Tests.{leb-false}
 use Rattle.lattice.specs.Shots.{Shot, spans, covers, cells, InField}
-use Rattle.job.specs.Job.{shotsOf, shotCount, shotAt, firstShots, Valid}
+use Rattle.job.specs.Job.{jobOf, shotsOf, shotCount, shotAt, firstShots, Valid}
 use Rattle.job.proofs.Tests.{or-false, leb-says, ltb-says, and-says}
 use Rattle.job.proofs.Shots.{shots-at, stay-all, any-at, at-any}
 use Rattle.grid.proofs.NeedLaws.{one-cell-need}
@@ -57,7 +57,7 @@ module _ (s : List ℕ) where
           z-in = omega (arith, leb-false (sideOn s 2) (byteOf s m 2) (z .0));
         }
 
-    pub voxels-valid : Valid (largestSide s) 1 1 (voxels s 0 (voxelCount s))
+    pub voxels-valid : Valid (jobOf (largestSide s) 1 1 (voxels s 0 (voxelCount s)))
     voxels-valid =
         let n = voxels-count s 0 (voxelCount s) in
         record {
@@ -110,7 +110,7 @@ module _ (s : List ℕ) where
           holds (cells (shotsOf 1 list) i j k) (at-any 1 (λ t. covers t i j k) list (v .n) (omega (arith, v .is-voxel, voxels-count s 0 (voxelCount s))) (held (covers (shotAt 1 list (v .n)) i j k) e))
 
 -- ---- what an accepted file says
-pub vox-list : (places : ℕ) (s : List ℕ) {F E G : ℕ} {coords : List ℕ} → voxIn places s ≡ file (settingFields F E G) coords → VoxList s F E G coords
+pub vox-list : (places : ℕ) (s : List ℕ) {F E G : ℕ} {coords : List ℕ} → voxIn places s ≡ file (settingFields F E G) coords → VoxList s (jobOf F E G coords)
 vox-list places s {F} {E} {G} {coords} e =
     let a = vox-accepted places s e in
     let f : F ≡ largestSide s = ap (λ (r : Fields). r .first) (a .settings) in
@@ -130,7 +130,7 @@ vox-list places s {F} {E} {G} {coords} e =
     }
 
 -- ---- the call: the list that it stores
-pub vox-stored : {s before after : List ℕ} {F E G n : ℕ} → VoxCall s before (Read F E G n) after → VoxList s F E G (firstShots n after)
+pub vox-stored : {s before after : List ℕ} {F E G n : ℕ} → VoxCall s before (Read F E G n) after → VoxList s (jobOf F E G (firstShots n after))
 vox-stored {s} {before} {after} {F} {E} {G} {n} call =
     let k = stored-list (voxIn (shotCount before) s) (record { answer = call .answer; coordinates = call .coordinates; fits = vox-fits (shotCount before) s }) refl in
     rw (k .stored) (vox-list (shotCount before) s (k .is))

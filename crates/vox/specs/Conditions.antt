@@ -8,7 +8,7 @@ use lib.ListN.{length, take, drop}
 use Rattle.lattice.specs.Shots.{Shot, cells}
 use Rattle.job.specs.declared.Refusal.{Refusal}
 use Rattle.job.specs.declared.Refusal.the-variants.{TooManyShots, NoPlace, NotVox, BrokenChunk, VoxelRange}
-use Rattle.job.specs.Job.{shotsOf, shotCount, shotAt, Valid}
+use Rattle.job.specs.Job.{Job, shots, shot, shotCount, Valid}
 use Rattle.grid.specs.Grid.{need}
 use Rattle.text_report.specs.Text.{text}
 use Rattle.vox_chunks.specs.Chunks.{numberAt, contentAt, childrenAt, afterChunk}
@@ -27,19 +27,19 @@ pub record HasVoxel (s : List ℕ) (i j k : ℕ) : Type 0 where
   pub z-is : byteOf s n 2 ≡ k
 
 -- what an accepted file says: this list with these settings
-pub record VoxList (s : List ℕ) (F E G : ℕ) (coords : List ℕ) : Type 0 where
+pub record VoxList (s : List ℕ) (job : Job) : Type 0 where
   -- the settings: the largest side, edge 1, grid 1
-  pub field : F ≡ largestSide s
-  pub edge : E ≡ 1
-  pub grid : G ≡ 1
+  pub field : job.field ≡ largestSide s
+  pub edge : job.edge ≡ 1
+  pub grid : job.grid ≡ 1
   -- a shot for each voxel, in file order
-  pub count : shotCount coords ≡ voxelCount s
-  pub in-order : (m : ℕ) → m < voxelCount s → shotAt E coords m ≡ voxelShot s m
+  pub count : shotCount job.coords ≡ voxelCount s
+  pub in-order : (m : ℕ) → m < voxelCount s → shot job m ≡ voxelShot s m
   -- the cells quoted are exactly the voxels
-  pub exactly : (i j k : ℕ) → (cells (shotsOf E coords) i j k ≡ true) ↔ HasVoxel s i j k
+  pub exactly : (i j k : ℕ) → (cells (shots job) i j k ≡ true) ↔ HasVoxel s i j k
   -- so that no call refuses the list, if it has the entries that it needs
-  pub valid : Valid F E G coords
-  pub needs : need F E G coords ≡ shotCount coords + 2
+  pub valid : Valid job
+  pub needs : need job ≡ shotCount job.coords + 2
 
 -- ---- 13
 -- the four bytes at a place are these

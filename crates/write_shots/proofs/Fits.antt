@@ -4,13 +4,14 @@ use mathlib.Core.List.{List}
 use Prim.Native.Nat.{ℕ, _≤_}
 use native.Mathlib.Omega.{arith}
 use lib.ListN.{length, drop, length-append}
+use Rattle.job.specs.Job.{Job}
 use Rattle.shotfile.specs.declared.writer.WriteAnswer.{WriteAnswer}
 use Rattle.shotfile.specs.declared.writer.WriteAnswer.the-variants.{Written}
 use Rattle.shotfile.specs.Calls.{WriteCall}
 use Rattle.shotfile.specs.Files.{fileOf}
 use Rattle.shotfile.proofs.Accepted.{accepted-list}
 
-pub written-within : {F E G : ℕ} {coords before after : List ℕ} {w : WriteAnswer} → WriteCall F E G coords before w after → {n : ℕ} → w ≡ Written n → n ≤ length after
-written-within {F} {E} {G} {coords} {before} c {n} e =
+pub written-within : {job : Job} {before after : List ℕ} {w : WriteAnswer} → WriteCall job before w after → {n : ℕ} → w ≡ Written n → n ≤ length after
+written-within {job} {before} c {n} e =
     let a = accepted-list c e in
-    omega (arith, a .long, ap length (a .leaves), length-append (fileOf F E G coords) (drop (length (fileOf F E G coords)) before))
+    omega (arith, a .long, ap length (a .leaves), length-append (fileOf job) (drop (length (fileOf job)) before))

@@ -3,7 +3,7 @@ use mathlib.Core.Path.{_≡_, refl, sym, ap, _∙_}
 use Prim.Native.Nat.{_≤_, _-_, _*_}
 use native.Mathlib.Omega.{arith}
 use lib.ListN.{replicate}
-use Rattle.job.specs.Job.{shotCount}
+use Rattle.job.specs.Job.{jobOf, shotCount}
 use Rattle.crediting_carving.specs.Blocks.{added}
 use Rattle.crediting.proofs.FieldLaws.{creditsTo, cells-long, cells-none, cells-next, cell-room, cells-all}
 use borrow.Author.Needs.{needs}
@@ -11,7 +11,7 @@ use Rattle.crediting.proofs.credit_shots.Statement.{statement}
 use Rattle.crediting.proofs.credit_shots.Tie as tie
 
 abbrev Inv-loop : tie.InvT-loop
-Inv-loop field edge grid coords work credits₀ cell₀ cell-end credits cell = (cell ≤ cell-end) × (credits ≡ added (replicate (shotCount coords) 0) (creditsTo field edge grid coords cell))
+Inv-loop field edge grid coords work credits₀ cell₀ cell-end credits cell = (cell ≤ cell-end) × (credits ≡ added (replicate (shotCount coords) 0) (creditsTo (jobOf field edge grid coords) cell))
 
 abbrev μ-loop : tie.MeasureT-loop
 μ-loop field edge grid coords work credits₀ cell₀ cell-end credits cell = cell-end - cell

@@ -2,6 +2,7 @@
 use mathlib.Core.Path.{ap, _∙_}
 use native.Mathlib.Omega.{arith}
 use borrow.Author.Needs.{needs}
+use Rattle.job.specs.Job.{jobOf}
 use Rattle.grid.specs.Numbers.{upTo}
 use Rattle.grid.proofs.CellLaws.{cube-most}
 use Rattle.grid_filling.proofs.IndexLaws.{upTo-part, upTo-part-count, need-place, build-ready, build-fits, build-last}
@@ -30,7 +31,7 @@ add-fill-slabs : tie.Need-add-fill-slabs
 add-fill-slabs c = let a = c .before .before .before .before .before .before .before .before .before in omega (arith, cube-most (a .args .grid) (a .pre .0 .grid-most), c .before .before .cells-of .ensures)
 
 fill-slabs-requires : tie.Need-fill-slabs-requires
-fill-slabs-requires c κs = let a = c .before .before .before .before .before .before .before .before .before in (a .pre .0, (upTo-part (c .before .before .before .count .result) (omega (arith, c .before .before .before .count .ensures, a .pre .0 .few)) (c .before .before .before .before .before .number .ensures) ∙ ap upTo (c .before .before .before .count .ensures), build-ready (a .args .field) (a .args .edge) (a .args .grid) (a .args .coords .now) (a .args .work .now) (a .pre .1) (c .before .before .cells-of .ensures)))
+fill-slabs-requires c κs = let a = c .before .before .before .before .before .before .before .before .before in (a .pre .0, (upTo-part (c .before .before .before .count .result) (omega (arith, c .before .before .before .count .ensures, a .pre .0 .few)) (c .before .before .before .before .before .number .ensures) ∙ ap upTo (c .before .before .before .count .ensures), build-ready _ (a .args .work .now) (a .pre .1) (c .before .before .cells-of .ensures)))
 
 add-work : tie.Need-add-work
 add-work c = search needs
@@ -39,19 +40,19 @@ sub-work : tie.Need-sub-work
 sub-work c = search needs
 
 cast-work : tie.Need-cast-work
-cast-work c = let a = c .before .before .before .before .before .before .before .before .before .before .before .before in build-fits (a .args .field) (a .args .edge) (a .args .grid) (a .args .coords .now) (a .args .work .now) (a .pre .1) (a .pre .0) (c .before .before .before .before .before .cells-of .ensures) (c .before .before .fill-slabs .ensures)
+cast-work c = let a = c .before .before .before .before .before .before .before .before .before .before .before .before in build-fits _ (a .args .work .now) (a .pre .1) (a .pre .0) (c .before .before .before .before .before .cells-of .ensures) (c .before .before .fill-slabs .ensures)
 
 mul-work : tie.Need-mul-work
 mul-work c = let a = c .before .before .before .before .before .before .before .before .before .before .before .before in omega (arith, cube-most (a .args .grid) (a .pre .0 .grid-most), c .before .before .before .before .before .cells-of .ensures)
 
 slice-write-work : tie.Need-slice-write-work
-slice-write-work c = let a = c .before .before .before .before .before .before .before .before .before .before .before .before in omega (arith, a .pre .1, need-place (a .args .field) (a .args .edge) (a .args .grid) (a .args .coords .now), c .before .before .before .before .before .cells-of .ensures, c .before .before .fill-slabs .ensures .same-length)
+slice-write-work c = let a = c .before .before .before .before .before .before .before .before .before .before .before .before in omega (arith, a .pre .1, need-place (jobOf (a .args .field) (a .args .edge) (a .args .grid) (a .args .coords .now)), c .before .before .before .before .before .cells-of .ensures, c .before .before .fill-slabs .ensures .same-length)
 
 same-length : tie.Need-same-length
 same-length c = search needs
 
 returns : tie.Need-returns
-returns c = let a = c .before .before .before .before .before .before .before .before .before .before .before .before in build-last (a .args .field) (a .args .edge) (a .args .grid) (a .args .coords .now) (a .args .work .now) (a .pre .1) (c .before .before .before .before .before .cells-of .ensures) (c .before .before .fill-slabs .ensures)
+returns c = let a = c .before .before .before .before .before .before .before .before .before .before .before .before in build-last _ (a .args .work .now) (a .pre .1) (c .before .before .before .before .before .cells-of .ensures) (c .before .before .fill-slabs .ensures)
 
 pub build-spec : {M : Type 1} → statement M
 build-spec =

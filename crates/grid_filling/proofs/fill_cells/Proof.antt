@@ -3,6 +3,7 @@ use mathlib.Core.Path.{_≡_, refl, _∙_}
 use Prim.Native.Nat.{_+_, _-_, _*_, _≤_}
 use native.Mathlib.Omega.{arith}
 use lib.ListN.{length}
+use Rattle.job.specs.Job.{jobOf}
 use borrow.Author.Needs.{needs}
 use Rattle.grid.specs.Grid.{runOf}
 use Rattle.grid_filling.specs.Filling.{Grew}
@@ -12,7 +13,7 @@ use Rattle.grid_filling.proofs.fill_cells.Statement.{statement}
 use Rattle.grid_filling.proofs.fill_cells.Tie as tie
 
 abbrev Inv-loop : tie.InvT-loop
-Inv-loop field edge grid coords line row run₀ work₀ at width base next₀ gz₀ run work next gz = (gz ≤ grid) × (length run ≡ length run₀) × Grew (runOf field edge grid coords) (grid * grid * grid) (line * grid) (line * grid + gz) work₀ work next
+Inv-loop field edge grid coords line row run₀ work₀ at width base next₀ gz₀ run work next gz = (gz ≤ grid) × (length run ≡ length run₀) × Grew (runOf (jobOf field edge grid coords)) (grid * grid * grid) (line * grid) (line * grid + gz) work₀ work next
 
 abbrev μ-loop : tie.MeasureT-loop
 μ-loop field edge grid coords line row run₀ work₀ at width base next₀ gz₀ run work next gz = grid - gz
@@ -27,19 +28,19 @@ add-base : tie.Need-add-base Inv-loop μ-loop
 add-base c = let a = c .before .before .before .before .before in omega (arith, cube-most (a .args .grid) (a .pre .0 .grid-most), c .cells-of .ensures)
 
 loop-holds : tie.Need-loop-holds Inv-loop μ-loop
-loop-holds c = let a = c .before .before .before .before .before in (omega arith, refl, cells-none (a .args .field) (a .args .edge) (a .args .grid) (a .args .coords .now) (a .pre .0) (a .args .line) (a .pre .1 .0) (a .pre .1 .1 .1 .1))
+loop-holds c = let a = c .before .before .before .before .before in (omega arith, refl, cells-none _ (a .pre .0) (a .args .line) (a .pre .1 .0) (a .pre .1 .1 .1 .1))
 
 mul-cell : tie.Need-mul-cell Inv-loop μ-loop
-mul-cell c = let a = c .before .before .before .before .before .before .before in omega (arith, cell-number (a .args .field) (a .args .edge) (a .args .grid) (a .args .coords .now) (a .pre .0) (a .args .line) (a .pre .1 .0) (c .before .loop .gz) (c .loop-test .taken))
+mul-cell c = let a = c .before .before .before .before .before .before .before in omega (arith, cell-number _ (a .pre .0) (a .args .line) (a .pre .1 .0) (c .before .loop .gz) (c .loop-test .taken))
 
 cast-cell : tie.Need-cast-cell Inv-loop μ-loop
 cast-cell c = search needs
 
 add-cell : tie.Need-add-cell Inv-loop μ-loop
-add-cell c = let a = c .before .before .before .before .before .before .before in omega (arith, cell-number (a .args .field) (a .args .edge) (a .args .grid) (a .args .coords .now) (a .pre .0) (a .args .line) (a .pre .1 .0) (c .before .loop .gz) (c .loop-test .taken))
+add-cell c = let a = c .before .before .before .before .before .before .before in omega (arith, cell-number _ (a .pre .0) (a .args .line) (a .pre .1 .0) (c .before .loop .gz) (c .loop-test .taken))
 
 fill-cell-requires : tie.Need-fill-cell-requires Inv-loop μ-loop
-fill-cell-requires c κs = let a = c .before .before .before .before .before .before .before .before .before in cell-asked (a .args .field) (a .args .edge) (a .args .grid) (a .args .coords .now) (a .pre .0) (a .args .line) (a .pre .1 .0) (a .pre .1 .1 .1 .1) (a .args .row .now) (a .pre .1 .1 .0) (c .before .before .before .loop .gz) (c .before .before .loop-test .taken) (c .before .before .before .loop .inv .2) (c .before .before .before .before .cells-of .ensures) (omega (arith, a .pre .1 .1 .1 .0, c .before .before .before .loop .inv .1))
+fill-cell-requires c κs = let a = c .before .before .before .before .before .before .before .before .before in cell-asked _ (a .pre .0) (a .args .line) (a .pre .1 .0) (a .pre .1 .1 .1 .1) (a .args .row .now) (a .pre .1 .1 .0) (c .before .before .before .loop .gz) (c .before .before .loop-test .taken) (c .before .before .before .loop .inv .2) (c .before .before .before .before .cells-of .ensures) (omega (arith, a .pre .1 .1 .1 .0, c .before .before .before .loop .inv .1))
 
 add-gz : tie.Need-add-gz Inv-loop μ-loop
 add-gz c = search needs
@@ -51,7 +52,7 @@ loop-again : tie.Need-loop-again Inv-loop μ-loop
 loop-again c =
     let a = c .before .before .before .before .before .before .before .before .before .before .before .before .before .before in
     let i = c .before .before .before .before .before .before .before .before .loop in
-    (omega arith, c .before .before .before .before .fill-cell .kept .1 .1 .1 .1 .1 .1 .1 .0 ∙ i .inv .1, cell-turn (a .args .field) (a .args .edge) (a .args .grid) (a .args .coords .now) (a .pre .0) (a .args .line) (a .pre .1 .0) (a .pre .1 .1 .1 .1) (a .args .row .now) (a .pre .1 .1 .0) (i .gz) (c .before .before .before .before .before .before .before .loop-test .taken) (i .inv .2) (c .before .before .before .before .before .before .before .before .before .cells-of .ensures) (c .before .before .before .before .fill-cell .ensures))
+    (omega arith, c .before .before .before .before .fill-cell .kept .1 .1 .1 .1 .1 .1 .1 .0 ∙ i .inv .1, cell-turn _ (a .pre .0) (a .args .line) (a .pre .1 .0) (a .pre .1 .1 .1 .1) (a .args .row .now) (a .pre .1 .1 .0) (i .gz) (c .before .before .before .before .before .before .before .loop-test .taken) (i .inv .2) (c .before .before .before .before .before .before .before .before .before .cells-of .ensures) (c .before .before .before .before .fill-cell .ensures))
 
 same-length : tie.Need-same-length Inv-loop μ-loop
 same-length c = c .before .loop .inv .1

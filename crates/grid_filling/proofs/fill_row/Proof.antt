@@ -12,13 +12,13 @@ div-narrow : tie.Need-div-narrow
 div-narrow c = search needs
 
 narrow-requires : tie.Need-narrow-requires
-narrow-requires c κs = let a = c .before .before .before .before .before .before in row-asked (a .args .field) (a .args .edge) (a .args .grid) (a .args .coords .now) (a .pre .0) (a .args .gx) (a .pre .1 .0) (a .args .slab .now) (a .pre .1 .1 .1 .0) (a .pre .1 .1 .1 .1 .0 .0)
+narrow-requires c κs = let a = c .before .before .before .before .before .before in row-asked _ (a .pre .0) (a .args .gx) (a .pre .1 .0) (a .args .slab .now) (a .pre .1 .1 .1 .0) (a .pre .1 .1 .1 .1 .0 .0)
 
 mul-line : tie.Need-mul-line
-mul-line c = let a = c .before .before .before .before .before .before .before .before .before in omega (arith, line-number (a .args .field) (a .args .edge) (a .args .grid) (a .args .coords .now) (a .pre .0) (a .args .gx) (a .pre .1 .0) (a .args .gy) (a .pre .1 .1 .0))
+mul-line c = let a = c .before .before .before .before .before .before .before .before .before in omega (arith, line-number _ (a .pre .0) (a .args .gx) (a .pre .1 .0) (a .args .gy) (a .pre .1 .1 .0))
 
 add-line : tie.Need-add-line
-add-line c = let a = c .before .before .before .before .before .before .before .before .before in omega (arith, line-number (a .args .field) (a .args .edge) (a .args .grid) (a .args .coords .now) (a .pre .0) (a .args .gx) (a .pre .1 .0) (a .args .gy) (a .pre .1 .1 .0))
+add-line c = let a = c .before .before .before .before .before .before .before .before .before in omega (arith, line-number _ (a .pre .0) (a .args .gx) (a .pre .1 .0) (a .args .gy) (a .pre .1 .1 .0))
 
 slice-reshare-prefix-fill-cells : tie.Need-slice-reshare-prefix-fill-cells
 slice-reshare-prefix-fill-cells c = front-within (c .before .before .narrow .ensures)
@@ -32,11 +32,11 @@ fill-cells-requires c κs =
     let n = c .before .before .before .before .before .narrow .ensures in (
       a .pre .0,
       (
-        line-below (a .args .field) (a .args .edge) (a .args .grid) (a .args .coords .now) (a .pre .0) (a .args .gx) (a .pre .1 .0) (a .args .gy) (a .pre .1 .1 .0),
+        line-below _ (a .pre .0) (a .args .gx) (a .pre .1 .0) (a .args .gy) (a .pre .1 .1 .0),
         (
-          front-taken n ∙ row-is (a .args .field) (a .args .edge) (a .args .grid) (a .args .coords .now) (a .pre .0) (a .args .gx) (a .pre .1 .0) (a .args .gy) (a .pre .1 .1 .0) (a .args .slab .now) (a .pre .1 .1 .1 .0),
+          front-taken n ∙ row-is _ (a .pre .0) (a .args .gx) (a .pre .1 .0) (a .args .gy) (a .pre .1 .1 .0) (a .args .slab .now) (a .pre .1 .1 .1 .0),
           (
-            omega (arith, ap length (front-taken n), row-few (a .args .field) (a .args .edge) (a .args .grid) (a .args .coords .now) (a .pre .0) (a .args .gx) (a .pre .1 .0) (a .args .gy) (a .args .slab .now) (a .pre .1 .1 .1 .0), a .pre .1 .1 .1 .1 .0 .1),
+            omega (arith, ap length (front-taken n), row-few _ (a .pre .0) (a .args .gx) (a .pre .1 .0) (a .args .gy) (a .args .slab .now) (a .pre .1 .1 .1 .0), a .pre .1 .1 .1 .1 .0 .1),
             a .pre .1 .1 .1 .1 .1,
           ),
         ),

@@ -13,7 +13,7 @@ slice-aggregate-narrow : tie.Need-slice-aggregate-narrow
 slice-aggregate-narrow c = search needs
 
 narrow-requires : tie.Need-narrow-requires
-narrow-requires c κs = let a = c .before .before .before .before in slab-asked (a .args .field) (a .args .edge) (a .args .grid) (a .args .coords .now) (a .pre .0) (a .args .gx) (a .pre .1 .0) (a .args .all .now) (a .pre .1 .1 .0)
+narrow-requires c κs = let a = c .before .before .before .before in slab-asked _ (a .pre .0) (a .args .gx) (a .pre .1 .0) (a .args .all .now) (a .pre .1 .1 .0)
 
 array-share-prefix-slab : tie.Need-array-share-prefix-slab
 array-share-prefix-slab c = front-within (c .before .narrow .ensures)
@@ -30,7 +30,7 @@ slice-aggregate-fill-rows-3 c = search needs
 fill-rows-requires : tie.Need-fill-rows-requires
 fill-rows-requires c κs =
     let a = c .before .before .before .before .before .before .before .before .before .before in
-    (a .pre .0, (a .pre .1 .0, (front-taken (c .before .before .before .before .before .narrow .ensures) ∙ slab-is (a .args .field) (a .args .edge) (a .args .grid) (a .args .coords .now) (a .pre .0) (a .args .gx) (a .pre .1 .0) (a .args .all .now) (a .pre .1 .1 .0), ((search needs, search needs), a .pre .1 .1 .1))))
+    (a .pre .0, (a .pre .1 .0, (front-taken (c .before .before .before .before .before .narrow .ensures) ∙ slab-is _ (a .pre .0) (a .args .gx) (a .pre .1 .0) (a .args .all .now) (a .pre .1 .1 .0), ((search needs, search needs), a .pre .1 .1 .1))))
 
 same-length : tie.Need-same-length
 same-length c = search needs

@@ -18,10 +18,10 @@ check-shots-requires : tie.Need-check-shots-requires
 check-shots-requires c κs = search needs
 
 returns : tie.Need-returns
-returns c = settings-refused _ _ _ _ (sym (c .before .settings .given .1) ∙ c .before .before .before .check-settings .ensures .answer)
+returns c = settings-refused _ (sym (c .before .settings .given .1) ∙ c .before .before .before .check-settings .ensures .answer)
 
 returns-2 : tie.Need-returns-2
-returns-2 c = settings-passed _ _ _ _ (sym (c .before .enum-told .given .1) ∙ c .before .before .before .check-settings .ensures .answer) (c .check-shots .ensures .answer)
+returns-2 c = settings-passed _ (sym (c .before .enum-told .given .1) ∙ c .before .before .before .check-settings .ensures .answer) (c .check-shots .ensures .answer)
 
 pub check-spec : {M : Type 1} → statement M
 check-spec =

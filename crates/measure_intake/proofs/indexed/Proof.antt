@@ -1,6 +1,7 @@
 -- The checks, then the need, then the index.
 use mathlib.Core.Path.{_≡_, sym, _∙_}
 use native.Mathlib.Omega.{arith}
+use Rattle.job.specs.Job.{jobOf}
 use Rattle.job.specs.Checking.{checked}
 use Rattle.job.specs.declared.Checked.the-variants.{Accepted}
 use Rattle.measure_intake.proofs.IntakeLaws.{refused-intake, valid, short-intake, long-intake}
@@ -8,7 +9,7 @@ use borrow.Author.Needs.{needs}
 use Rattle.measure_intake.proofs.indexed.Statement.{statement}
 use Rattle.measure_intake.proofs.indexed.Tie as tie
 
-accepted : (c : tie.After-enum-told) → checked (c .before .before .before .before .before .args .field) (c .before .before .before .before .before .args .edge) (c .before .before .before .before .before .args .grid) (c .before .before .before .before .before .args .coords .now) ≡ Accepted
+accepted : (c : tie.After-enum-told) → checked (jobOf (c .before .before .before .before .before .args .field) (c .before .before .before .before .before .args .edge) (c .before .before .before .before .before .args .grid) (c .before .before .before .before .before .args .coords .now)) ≡ Accepted
 accepted c = sym (c .before .before .check .ensures .answer) ∙ c .enum-told .given .1
 
 check-requires : tie.Need-check-requires
@@ -21,22 +22,22 @@ enum-told-2 : tie.Need-enum-told-2
 enum-told-2 c = search needs
 
 returns : tie.Need-returns
-returns c = let s = c .before .before .before .before .before in refused-intake (s .args .field) (s .args .edge) (s .args .grid) (s .args .coords .now) (s .args .work .now) (c .enum-told2 .given .0 .0) (c .before .before .check .ensures .answer) (c .enum-told2 .given .1)
+returns c = let s = c .before .before .before .before .before in refused-intake _ (s .args .work .now) (c .enum-told2 .given .0 .0) (c .before .before .check .ensures .answer) (c .enum-told2 .given .1)
 
 need-requires : tie.Need-need-requires
-need-requires c κs = let s = c .before .before .before .before .before in valid (s .args .field) (s .args .edge) (s .args .grid) (s .args .coords .now) (s .args .work .now) (accepted c)
+need-requires c κs = let s = c .before .before .before .before .before in valid _ (s .args .work .now) (accepted c)
 
 returns-2 : tie.Need-returns-2
-returns-2 c = let s = c .before .before .before .before .before .before .before in short-intake (s .args .field) (s .args .edge) (s .args .grid) (s .args .coords .now) (s .args .work .now) (accepted (c .before .before)) (c .before .need .ensures) (c .if1 .taken)
+returns-2 c = let s = c .before .before .before .before .before .before .before in short-intake _ (s .args .work .now) (accepted (c .before .before)) (c .before .need .ensures) (c .if1 .taken)
 
 build-requires : tie.Need-build-requires
-build-requires c κs = let s = c .before .before .before .before .before .before .before .before in (valid (s .args .field) (s .args .edge) (s .args .grid) (s .args .coords .now) (s .args .work .now) (accepted (c .before .before .before)), omega (arith, c .before .before .need .ensures, c .before .if1 .left))
+build-requires c κs = let s = c .before .before .before .before .before .before .before .before in (valid _ (s .args .work .now) (accepted (c .before .before .before)), omega (arith, c .before .before .need .ensures, c .before .if1 .left))
 
 same-length : tie.Need-same-length
 same-length c = search needs
 
 returns-3 : tie.Need-returns-3
-returns-3 c = let s = c .before .before .before .before .before .before .before .before .before .before .before in long-intake (s .args .field) (s .args .edge) (s .args .grid) (s .args .coords .now) (s .args .work .now) (accepted (c .before .before .before .before .before .before)) (c .before .before .before .before .before .need .ensures) (c .before .before .before .before .if1 .left) (c .before .before .build .ensures)
+returns-3 c = let s = c .before .before .before .before .before .before .before .before .before .before .before in long-intake _ (s .args .work .now) (accepted (c .before .before .before .before .before .before)) (c .before .before .before .before .before .need .ensures) (c .before .before .before .before .if1 .left) (c .before .before .build .ensures)
 
 pub indexed-spec : {M : Type 1} → statement M
 indexed-spec =

@@ -32,10 +32,10 @@ add-result : tie.Need-add-result
 add-result c = let a = c .before .before .before .before .before .before .before in omega (arith, cube-most (a .args .grid) (a .pre .grid-most), c .cells-of .ensures)
 
 add-result-2 : tie.Need-add-result-2
-add-result-2 c = let a = c .before .before .before .before .before .before .before in omega (arith, cube-most (a .args .grid) (a .pre .grid-most), c .cells-of .ensures, c .before .pairs .ensures, pairs-most (a .args .field) (a .args .edge) (a .args .grid) (a .args .coords .now) (a .pre))
+add-result-2 c = let a = c .before .before .before .before .before .before .before in omega (arith, cube-most (a .args .grid) (a .pre .grid-most), c .cells-of .ensures, c .before .pairs .ensures, pairs-most _ (a .pre))
 
 returns : tie.Need-returns
-returns c = let a = c .before .before .before .before .before .before .before in need-by-pairs (a .args .field) (a .args .edge) (a .args .grid) (a .args .coords .now) (c .cells-of .ensures) (c .before .pairs .ensures)
+returns c = let a = c .before .before .before .before .before .before .before in need-by-pairs _ (c .cells-of .ensures) (c .before .pairs .ensures)
 
 pub need-spec : {M : Type 1} → statement M
 need-spec =

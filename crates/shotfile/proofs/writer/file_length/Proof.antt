@@ -2,7 +2,7 @@
 use Prim.Native.Nat.{_≤_, _-_}
 use native.Mathlib.Omega.{arith}
 use lib.ListN.{length}
-use Rattle.job.specs.Job.{shotCount}
+use Rattle.job.specs.Job.{jobOf, shotCount}
 use Rattle.shotfile.specs.Files.{fileOf}
 use Rattle.shotfile.proofs.Writing.{file-most, Measured, measured-none, measured-more, measured-all}
 use borrow.Author.Needs.{needs}
@@ -10,7 +10,7 @@ use Rattle.shotfile.proofs.writer.file_length.Statement.{statement}
 use Rattle.shotfile.proofs.writer.file_length.Tie as tie
 
 abbrev Inv-loop : tie.InvT-loop
-Inv-loop field edge grid coords total₀ n last₀ i₀ total last i = (i ≤ shotCount coords) × Measured edge coords last i total (length (fileOf field edge grid coords))
+Inv-loop field edge grid coords total₀ n last₀ i₀ total last i = (i ≤ shotCount coords) × Measured edge coords last i total (length (fileOf (jobOf field edge grid coords)))
 
 abbrev μ-loop : tie.MeasureT-loop
 μ-loop field edge grid coords total₀ n last₀ i₀ total last i = shotCount coords - i
@@ -28,7 +28,7 @@ first-absent-requires : tie.Need-first-absent-requires Inv-loop μ-loop
 first-absent-requires c κs = search needs
 
 loop-holds : tie.Need-loop-holds Inv-loop μ-loop
-loop-holds c = (omega arith, measured-none (c .before .before .before .before .before .args .field) (c .before .before .before .before .before .args .edge) (c .before .before .before .before .before .args .grid) (c .before .before .before .before .before .args .coords .now) (c .before .before .before .header-absent .ensures) (c .first-absent .ensures) (c .before .before .record-length .ensures))
+loop-holds c = (omega arith, measured-none (jobOf (c .before .before .before .before .before .args .field) (c .before .before .before .before .before .args .edge) (c .before .before .before .before .before .args .grid) (c .before .before .before .before .before .args .coords .now)) (c .before .before .before .header-absent .ensures) (c .first-absent .ensures) (c .before .before .record-length .ensures))
 
 shot-at-requires : tie.Need-shot-at-requires Inv-loop μ-loop
 shot-at-requires c κs = omega (arith, (c .loop-test .taken), (c .before .before .before .count .ensures))
@@ -37,7 +37,7 @@ record-length-requires-2 : tie.Need-record-length-requires-2 Inv-loop μ-loop
 record-length-requires-2 c κs = search needs
 
 add-total : tie.Need-add-total Inv-loop μ-loop
-add-total c = omega (arith, measured-more (c .before .before .before .loop .inv .1) (omega (arith, (c .before .before .loop-test .taken), (c .before .before .before .before .before .count .ensures))) (c .before .shot-at .ensures) (c .record-length2 .ensures) .is, file-most (c .before .before .before .before .before .before .before .before .before .args .field) (c .before .before .before .before .before .before .before .before .before .args .edge) (c .before .before .before .before .before .before .before .before .before .args .grid) (c .before .before .before .before .before .before .before .before .before .args .coords .now) (c .before .before .before .before .before .before .before .before .before .pre))
+add-total c = omega (arith, measured-more (c .before .before .before .loop .inv .1) (omega (arith, (c .before .before .loop-test .taken), (c .before .before .before .before .before .count .ensures))) (c .before .shot-at .ensures) (c .record-length2 .ensures) .is, file-most (jobOf (c .before .before .before .before .before .before .before .before .before .args .field) (c .before .before .before .before .before .before .before .before .before .args .edge) (c .before .before .before .before .before .before .before .before .before .args .grid) (c .before .before .before .before .before .before .before .before .before .args .coords .now)) (c .before .before .before .before .before .before .before .before .before .pre))
 
 add-i : tie.Need-add-i Inv-loop μ-loop
 add-i c = search needs

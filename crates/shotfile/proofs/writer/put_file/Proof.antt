@@ -22,7 +22,7 @@ header-absent-requires : tie.Need-header-absent-requires Inv-loop μ-loop
 header-absent-requires c κs = search needs
 
 put-record-requires : tie.Need-put-record-requires Inv-loop μ-loop
-put-record-requires c κs = header-room (c .before .before .before .before .args .field) (c .before .before .before .before .args .edge) (c .before .before .before .before .args .grid) (c .before .before .before .before .args .coords .now) (c .before .header-absent .ensures) refl (c .before .before .before .before .args .bytes .now) (c .before .before .before .before .pre)
+put-record-requires c κs = header-room _ (c .before .header-absent .ensures) refl (c .before .before .before .before .args .bytes .now) (c .before .before .before .before .pre)
 
 count-requires : tie.Need-count-requires Inv-loop μ-loop
 count-requires c κs = search needs
@@ -37,7 +37,7 @@ shot-at-requires : tie.Need-shot-at-requires Inv-loop μ-loop
 shot-at-requires c κs = omega (arith, (c .loop-test .taken), (c .before .before .before .count .ensures))
 
 put-record-requires-2 : tie.Need-put-record-requires-2 Inv-loop μ-loop
-put-record-requires-2 c κs = underway-room (c .before .before .before .loop .inv .2) (recordOf (c .before .before .before .loop .last) (c .before .shot-at .result)) (recordsFrom (c .before .before .before .before .before .before .before .before .before .before .before .before .before .args .edge) (c .before .before .before .before .before .before .before .before .before .before .before .before .before .args .coords .now) ((c .before .before .before .loop .i) + 1) (c .before .shot-at .result)) (records-on (c .before .before .before .before .before .before .before .before .before .before .before .before .before .args .edge) (c .before .before .before .before .before .before .before .before .before .before .before .before .before .args .coords .now) (c .before .before .before .loop .i) (c .before .before .before .loop .last) (omega (arith, (c .before .before .loop-test .taken), (c .before .before .before .before .before .count .ensures))) (c .before .shot-at .ensures)) (shots-room (c .before .before .before .before .before .before .before .before .before .before .before .before .before .args .field) (c .before .before .before .before .before .before .before .before .before .before .before .before .before .args .edge) (c .before .before .before .before .before .before .before .before .before .before .before .before .before .args .grid) (c .before .before .before .before .before .before .before .before .before .before .before .before .before .args .coords .now) (c .before .before .before .before .before .before .before .before .before .before .header-absent .ensures) (c .before .before .before .before .first-absent .ensures) (c .before .before .before .before .before .before .before .before .put-record .ensures) (c .before .before .before .before .before .before .before .before .before .before .before .before .before .pre) (c .before .before .before .before .before .before .before .before .put-record .kept .0))
+put-record-requires-2 c κs = underway-room (c .before .before .before .loop .inv .2) (recordOf (c .before .before .before .loop .last) (c .before .shot-at .result)) (recordsFrom (c .before .before .before .before .before .before .before .before .before .before .before .before .before .args .edge) (c .before .before .before .before .before .before .before .before .before .before .before .before .before .args .coords .now) ((c .before .before .before .loop .i) + 1) (c .before .shot-at .result)) (records-on (c .before .before .before .before .before .before .before .before .before .before .before .before .before .args .edge) (c .before .before .before .before .before .before .before .before .before .before .before .before .before .args .coords .now) (c .before .before .before .loop .i) (c .before .before .before .loop .last) (omega (arith, (c .before .before .loop-test .taken), (c .before .before .before .before .before .count .ensures))) (c .before .shot-at .ensures)) (shots-room _ (c .before .before .before .before .before .before .before .before .before .before .header-absent .ensures) (c .before .before .before .before .first-absent .ensures) (c .before .before .before .before .before .before .before .before .put-record .ensures) (c .before .before .before .before .before .before .before .before .before .before .before .before .before .pre) (c .before .before .before .before .before .before .before .before .put-record .kept .0))
 
 add-i : tie.Need-add-i Inv-loop μ-loop
 add-i c = search needs
@@ -52,7 +52,7 @@ same-length : tie.Need-same-length Inv-loop μ-loop
 same-length c = (c .before .loop .inv .1) ∙ (c .before .before .before .before .before .before .put-record .kept .0)
 
 returns : tie.Need-returns Inv-loop μ-loop
-returns c = all-written (c .before .before .before .before .before .before .before .before .before .before .before .args .field) (c .before .before .before .before .before .before .before .before .before .before .before .args .edge) (c .before .before .before .before .before .before .before .before .before .before .before .args .grid) (c .before .before .before .before .before .before .before .before .before .before .before .args .coords .now) (c .before .before .before .before .before .before .before .before .header-absent .ensures) (c .before .before .first-absent .ensures) (c .before .before .before .before .before .before .put-record .ensures) (underway-all (c .before .loop .inv .2) (records-end (c .before .before .before .before .before .before .before .before .before .before .before .args .edge) (c .before .before .before .before .before .before .before .before .before .before .before .args .coords .now) (c .before .loop .i) (c .before .loop .last) (omega (arith, (c .loop-test .left), (c .before .before .before .count .ensures)))))
+returns c = all-written _ (c .before .before .before .before .before .before .before .before .header-absent .ensures) (c .before .before .first-absent .ensures) (c .before .before .before .before .before .before .put-record .ensures) (underway-all (c .before .loop .inv .2) (records-end (c .before .before .before .before .before .before .before .before .before .before .before .args .edge) (c .before .before .before .before .before .before .before .before .before .before .before .args .coords .now) (c .before .loop .i) (c .before .loop .last) (omega (arith, (c .loop-test .left), (c .before .before .before .count .ensures)))))
 
 pub put-file-spec : {M : Type 1} → statement M
 put-file-spec =

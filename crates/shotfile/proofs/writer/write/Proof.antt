@@ -16,22 +16,22 @@ enum-told : tie.Need-enum-told
 enum-told c = c .match .keys2
 
 file-length-requires : tie.Need-file-length-requires
-file-length-requires c κs = few-shots (c .before .before .before .before .before .args .field) (c .before .before .before .before .before .args .edge) (c .before .before .before .before .before .args .grid) (c .before .before .before .before .before .args .coords .now) (sym (c .enum-told .given .1) ∙ (c .before .before .check .ensures .answer))
+file-length-requires c κs = few-shots _ (sym (c .enum-told .given .1) ∙ (c .before .before .check .ensures .answer))
 
 returns : tie.Need-returns
-returns c = write-short _ _ _ _ _ (sym (c .before .before .enum-told .given .1) ∙ c .before .before .before .before .check .ensures .answer) (c .before .file-length .ensures) (c .if1 .taken)
+returns c = write-short _ _ (sym (c .before .before .enum-told .given .1) ∙ c .before .before .before .before .check .ensures .answer) (c .before .file-length .ensures) (c .if1 .taken)
 
 put-file-requires : tie.Need-put-file-requires
 put-file-requires c κs = omega (arith, c .before .before .file-length .ensures, c .before .if1 .left)
 
 returns-2 : tie.Need-returns-2
-returns-2 c = write-refused _ _ _ _ _ (sym (c .before .refusal .given .1) ∙ c .before .before .before .check .ensures .answer)
+returns-2 c = write-refused _ _ (sym (c .before .refusal .given .1) ∙ c .before .before .before .check .ensures .answer)
 
 same-length : tie.Need-same-length
 same-length c = c .before .before .put-file .kept .0
 
 returns-3 : tie.Need-returns-3
-returns-3 c = write-done _ _ _ _ _ (sym (c .before .before .before .before .before .before .enum-told .given .1) ∙ c .before .before .before .before .before .before .before .before .check .ensures .answer) (c .before .before .before .before .before .file-length .ensures) (c .before .before .before .before .if1 .left) (c .before .before .put-file .ensures)
+returns-3 c = write-done _ _ (sym (c .before .before .before .before .before .before .enum-told .given .1) ∙ c .before .before .before .before .before .before .before .before .check .ensures .answer) (c .before .before .before .before .before .file-length .ensures) (c .before .before .before .before .if1 .left) (c .before .before .put-file .ensures)
 
 pub write-spec : {M : Type 1} → statement M
 write-spec =
