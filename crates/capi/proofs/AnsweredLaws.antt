@@ -1,12 +1,11 @@
--- Numbers put to the front of a lent slice, and what each call promises then.
+-- What each call promises, by the numbers that are put to the front of a lent slice.
 use mathlib.Core.Path.{_≡_, refl, sym, _∙_, ap}
 use mathlib.Core.Bool.{Bool, true, false, cond}
 use mathlib.Core.Option.{Option, none, some}
 use mathlib.Core.List.{List, [], _∷_}
 use Prim.Native.Nat.{ℕ, _≤_, _<_}
 use lib.Dec.{leb}
-use lib.ListN.{length, set}
-use lib.Seq.{sets-eq}
+use lib.ListN.{length}
 use borrow.Author.Tests.{lt-leb, le-leb}
 use Rattle.job.specs.Job.{Job, shotCount}
 use Rattle.job.specs.Refusals.{numberOf, detailOf, checkedNumbers}
@@ -25,26 +24,8 @@ use Rattle.shotfile.specs.declared.writer.WriteAnswer.{WriteAnswer}
 use Rattle.grid_cover.specs.Cover.{firstCovering, coveringOf}
 use Rattle.grid_cover.specs.declared.Covering.{Covering}
 use Rattle.crediting.specs.Credits.{creditsAfter, CreditCall}
-use Rattle.capi.specs.Answered.{indexPlaces, measurePlaces, coverPlaces, namedBy, fits, Told, ifTold, creditTells, coversTells, IndexTold, MeasureTold, ListTold, CreditTold, CoversTold, ReadTold, VoxTold, WriteTold}
-
--- ---- stores
-pub two-stored : (l : List ℕ) (a b : ℕ) → 2 ≤ length l → set (set l 0 a) 1 b ≡ inFront (a ∷ b ∷ []) l
-two-stored l a b h = sets-eq (a ∷ b ∷ []) l 0 h
-
-pub three-stored : (l : List ℕ) (a b c : ℕ) → 3 ≤ length l → set (set (set l 0 a) 1 b) 2 c ≡ inFront (a ∷ b ∷ c ∷ []) l
-three-stored l a b c h = sets-eq (a ∷ b ∷ c ∷ []) l 0 h
-
-pub six-stored : (l : List ℕ) (a b c d e f : ℕ) → 6 ≤ length l
-    → set (set (set (set (set (set l 0 a) 1 b) 2 c) 3 d) 4 e) 5 f ≡ inFront (a ∷ b ∷ c ∷ d ∷ e ∷ f ∷ []) l
-six-stored l a b c d e f h = sets-eq (a ∷ b ∷ c ∷ d ∷ e ∷ f ∷ []) l 0 h
-
-pub seven-stored : (l : List ℕ) (a b c d e f g : ℕ) → 7 ≤ length l
-    → set (set (set (set (set (set (set l 0 a) 1 b) 2 c) 3 d) 4 e) 5 f) 6 g ≡ inFront (a ∷ b ∷ c ∷ d ∷ e ∷ f ∷ g ∷ []) l
-seven-stored l a b c d e f g h = sets-eq (a ∷ b ∷ c ∷ d ∷ e ∷ f ∷ g ∷ []) l 0 h
-
--- the numbers of an answer that is known
-pub put-as : {A : Type 0} (numbers : A → List ℕ) (answer : List ℕ) {answer' : List ℕ} {a b : A} → answer' ≡ inFront (numbers b) answer → a ≡ b → answer' ≡ inFront (numbers a) answer
-put-as numbers answer e k = e ∙ ap (λ m. inFront (numbers m) answer) (sym k)
+use Rattle.capi_answers.specs.Places.{indexPlaces, measurePlaces, coverPlaces, namedBy}
+use Rattle.capi.specs.Answered.{fits, Told, ifTold, creditTells, coversTells, IndexTold, MeasureTold, ListTold, CreditTold, CoversTold, ReadTold, VoxTold, WriteTold}
 
 -- ---- numbers, n of them
 module _ (numbers : List ℕ) {n : ℕ} (size : length numbers ≡ n) (answer : List ℕ) where

@@ -11,7 +11,8 @@ use Rattle.grid.specs.Grid.{Holds, between, holding}
 use Rattle.grid_runs.proofs.ReadLaws.{holds-run}
 use Rattle.grid_cover.specs.Cover.{firstCovering, lowestCovering}
 use Rattle.grid_cover.proofs.CoverRuns.{lowest-covers, holding-in, holding-names}
-use Rattle.capi.specs.Answered.{shotOf, coverPlaces, Told, CoversTold}
+use Rattle.capi_answers.specs.Places.{shotOf, coverPlaces}
+use Rattle.capi.specs.Answered.{Told, CoversTold}
 
 module _ {job : Job} {work : List ℕ} (v : Valid job) (h : Holds job work) (i j k : ℕ) (hi : i < job.field) (hj : j < job.field) (hk : k < job.field) where
   open Job job using (field as F, edge as E, grid as G, coords)

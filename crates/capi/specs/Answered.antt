@@ -2,47 +2,21 @@
 -- back. A call whose numbers do not fit changes nothing. Each record is the promise of the calls that it names.
 use mathlib.Core.Path.{_≡_}
 use mathlib.Core.Bool.{Bool, cond}
-use mathlib.Core.Option.{Option, none, some}
-use mathlib.Core.List.{List, [], _∷_}
+use mathlib.Core.List.{List}
 use Prim.Native.Nat.{ℕ}
 use lib.Dec.{leb}
 use lib.ListN.{length}
-use Rattle.lattice.specs.Cells.{bit}
 use Rattle.job.specs.Job.{Job, shotCount}
-use Rattle.job.specs.Refusals.{Numbers}
 use Rattle.job.specs.Checking.{firstNumbers}
-use Rattle.grid_cover.specs.Cover.{isSome, firstCovering}
-use Rattle.grid_cover.specs.declared.Covering.{Covering}
-use Rattle.grid_cover.specs.declared.Covering.the-variants.{Shot, Nothing}
-use Rattle.measure_intake.specs.Intake.{MeasuredNumbers, measureTests, measureNumbers, workAfter}
+use Rattle.grid_cover.specs.Cover.{firstCovering}
+use Rattle.measure_intake.specs.Intake.{measureTests, measureNumbers, workAfter}
 use Rattle.measure.specs.Answers.{listNumbers, listingAfter}
 use Rattle.crediting.specs.Credits.{creditTests, creditsAfter}
 use Rattle.shotfile.specs.Files.{fileIn}
 use Rattle.buffer.specs.Wrote.{inFront}
+use Rattle.capi_answers.specs.Places.{indexPlaces, measurePlaces, coverPlaces}
 use Rattle.shotfile.specs.Calls.{readValues, readCoords, writeValues, writeBytes}
 use Rattle.vox.specs.Vox.{voxIn}
-
--- ---- numbers in the order of their places
--- of the index: the refusal's number and detail, 0 and 0 where there is none
-abbrev pub indexPlaces : Numbers → List ℕ
-indexPlaces n = n .number ∷ n .detail ∷ []
-
--- of measuring: then the totals and the corner count, all 0 if refused
-abbrev pub measurePlaces : MeasuredNumbers → List ℕ
-measurePlaces n = n .number ∷ n .detail ∷ n .totals .volume ∷ n .totals .area ∷ n .totals .edge ∷ n .totals .inner ∷ n .totals .corners ∷ []
-
--- of the cover test: 1 and the shot that it names, or 0 and 0
-abbrev pub shotOf : Option ℕ → ℕ
-shotOf none = 0
-shotOf (some s) = s
-
-abbrev pub coverPlaces : Option ℕ → List ℕ
-coverPlaces o = bit (isSome o) ∷ shotOf o ∷ []
-
--- the shot that an answer of the cover test names
-abbrev pub namedBy : Covering → Option ℕ
-namedBy Nothing = none
-namedBy (Shot s) = some s
 
 -- ---- told where they fit
 -- a lent slice has a place for each number

@@ -2,10 +2,10 @@
 ghost use Prim.Native.Nat.{_+_, _*_, _≤_, _<_};
 ghost use lib.ListN.{length};
 ghost use Rattle.lattice_sums.specs.CornerSums.{Room};
-ghost use Rattle.lattice_sums.specs.Packed.{Packed};
-use lattice_sums::packed::pack;
+ghost use Rattle.lattice_weights.specs.Packed.{Packed};
 use lattice_sums::sums::CornerSums;
 use lattice_sums::sums::Totals;
+use lattice_weights::pack;
 use measure_intake::Measured;
 
 // Stands for the totals of a refused list: no list has so many corners.

@@ -20,9 +20,9 @@ use Rattle.shotfile.specs.declared.reader.ReadAnswer.the-variants.{Read, Refuse
 use Rattle.shotfile.proofs.Accepted.{accepted-file, refused-file}
 use Rattle.grid.proofs.NumberLaws.{join-next, singles-length}
 use Rattle.measure_intake.specs.Intake.{workAfter}
-use Rattle.text_report.proofs.LineLaws.{digits-length, line-length}
-use Rattle.text_report.specs.Lines.{decimal}
-use Rattle.quoting.specs.Quoting.{refusalText, indexAfter}
+use Rattle.text_parts.proofs.LineLaws.{digits-length, line-length}
+use Rattle.text_parts.specs.Decimal.{decimal}
+use Rattle.quoting_text.specs.Quoting.{refusalText, indexAfter}
 use Rattle.crediting.specs.Credits.{creditOf, creditsOf, creditChecked, creditsAfter, CreditCall}
 use Rattle.crediting.proofs.CreditTheorems.{credit-valid, credits-are}
 use Rattle.crediting_text.specs.Credited.{creditLine, creditLines, creditedText, listText, fileText, fileCredits, ListCredited, FileCredited}

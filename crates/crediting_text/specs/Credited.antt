@@ -11,8 +11,8 @@ use Rattle.job.specs.declared.Checked.the-variants.{Accepted, Refused}
 use Rattle.shotfile.specs.Files.{File, file, refused, fileIn}
 use Rattle.shotfile.specs.Calls.{readCoords}
 use Rattle.measure_intake.specs.Intake.{workAfter}
-use Rattle.text_report.specs.Lines.{decimal, line}
-use Rattle.quoting.specs.Quoting.{refusalText, indexAfter}
+use Rattle.text_parts.specs.Decimal.{decimal, line}
+use Rattle.quoting_text.specs.Quoting.{refusalText, indexAfter}
 use Rattle.crediting.specs.Credits.{creditsOf, creditChecked, creditsAfter}
 
 -- a shot's number, a space, its credit, and the end of the line

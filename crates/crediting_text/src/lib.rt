@@ -1,5 +1,5 @@
 // From the bytes of a shot file to the bytes that the program `credits` prints: a line for each shot, its number and its credit, or the line
-// of a refusal. specs/Credited.antt says what the text is. Stands on `crediting`, on `shotfile` and `quoting`, and on `text_report`.
+// of a refusal. specs/Credited.antt says what the text is. Stands on `crediting`, on `shotfile` and `quoting_text`, and on `text_parts`.
 ghost use Prim.Native.Nat.{_+_, _*_, _≤_};
 ghost use lib.ListN.{length};
 ghost use Rattle.job.specs.Job.{jobOf};
@@ -8,8 +8,8 @@ ghost use Rattle.crediting_text.specs.Credited.{creditLine, creditLines,
 use job::Checked;
 use job::shot;
 use shotfile::ReadAnswer;
-use text_report::put_byte;
-use text_report::put_digits;
+use text_parts::put_byte;
+use text_parts::put_digits;
 
 // Puts the line of a shot.
 fn put_credit(out: &mut [u8], at: usize, shot: usize, credit: u32) -> usize
@@ -54,7 +54,7 @@ fn credit_list(
             let shots = shot::count(coords);
             put_credits(out, &credits[..shots])
         }
-        Checked::Refused(refusal) => quoting::refuse(out, refusal),
+        Checked::Refused(refusal) => quoting_text::refuse(out, refusal),
     }
 }
 
@@ -82,6 +82,6 @@ pub fn credit_file(
             let list = shot::first(coords, shots);
             credit_list(field, edge, grid, list, work, credits, out)
         }
-        ReadAnswer::Refused(refusal) => quoting::refuse(out, refusal),
+        ReadAnswer::Refused(refusal) => quoting_text::refuse(out, refusal),
     }
 }

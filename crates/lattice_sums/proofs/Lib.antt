@@ -1,4 +1,1 @@
-pub mod TableLaws
-pub mod PackedLaws
-pub mod EdgeLaws
 pub mod CornerSumLaws

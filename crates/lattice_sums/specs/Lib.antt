@@ -1,3 +1,1 @@
-pub mod UnitEdges
 pub mod CornerSums
-pub mod Packed

@@ -1,9 +1,3 @@
-// A pattern byte, read: its ten weights, its unit edges, whether it is a corner, and the corner sums point after point. The weights are in
-// constant tables, which `packed` puts into one local table that a caller makes once and lends.
-//
-// Each function promises a definition of `lattice`; specs/ has the sums as they are taken and the totals that they come to. Stands on
-// `lattice` alone.
-pub mod edges;
-pub mod packed;
+// The corner sums, taken point after point, and the totals that they come to. Each function promises a definition of `lattice`; specs/ has
+// the sums as they are taken. Stands on `lattice` and on the weights of `lattice_weights`.
 pub mod sums;
-pub mod tables;

@@ -7,8 +7,8 @@ ghost use mathlib.Core.List.{[]};
 ghost use Rattle.lattice.specs.Pattern.{ofByte, volumeTerm, areaTerm, edgeTerm, innerTerm};
 ghost use Rattle.lattice.specs.Figures.{largestTerm};
 ghost use Rattle.lattice_sums.specs.CornerSums.{sumsOf, added, RoomFor, Whole, SomeTotals};
-ghost use Rattle.lattice_sums.specs.Packed.{Packed};
-use crate::packed::weight_at;
+ghost use Rattle.lattice_weights.specs.Packed.{Packed};
+use lattice_weights::weight_at;
 
 // The four sums so far, and how many corners they have.
 pub struct CornerSums {
@@ -138,7 +138,7 @@ impl CornerSums {
         }
     }
 
-    // The sums with one corner more, of a field of at most 1,024. The weights are lent: `packed::pack` puts them together.
+    // The sums with one corner more, of a field of at most 1,024. The weights are lent: `lattice_weights::pack` puts them together.
     pub fn add(self, weights: &[i8], x: u16, y: u16, z: u16, p: u8) -> CornerSums
         requires { ⌜ (x ≤ 1024) × (y ≤ 1024) × (z ≤ 1024) × RoomFor 1 self × Packed (now weights) ⌝ }
         ensures { λ r. ⌜ r ≡ added self (record { x = x; y = y; z = z; pattern = p }) ⌝ }

@@ -1,6 +1,6 @@
 // The listing program: reads a shot file from standard input and writes the corner listing of its list, 7 bytes a corner, to standard
 // output. A refusal gives one line on standard error and no listing. docs/SCOPE.md, 'Corner points'. What it writes is
-// `quoting::list_file`; here are the system calls, the sizes and the sentence.
+// `listing_file::list_file`; here are the system calls, the sizes and the sentence.
 use input::Filled;
 use job::Refusal;
 use libc::STDERR_FILENO;
@@ -28,7 +28,7 @@ fn tell_refusal(refusal: Refusal) {
 fn print_listing(bytes: &[u8], buffer: &mut [u8]) {
     let mut coords = [0u16; 12288];
     let mut work = [0u32; 16384];
-    let measured = quoting::list_file(bytes, &mut coords, &mut work, buffer);
+    let measured = listing_file::list_file(bytes, &mut coords, &mut work, buffer);
     match measured {
         Measured::Quote(totals) => {
             let corners = totals.corners;

@@ -15,7 +15,8 @@ use Rattle.lattice_sums.specs.declared.sums.Totals.{Totals}
 use Rattle.lattice.proofs.Inside.{past}
 use Rattle.lattice.proofs.SumLaws.{totals-plus}
 use Rattle.grid.proofs.TotalLaws.{total-agree}
-use Rattle.measure_cells.specs.Points.{edgesAbove, atPattern, nothing, plus, sumTo, fieldTo}
+use Rattle.measure_tallies.specs.Tallies.{edgesAbove, atPattern, nothing, plus}
+use Rattle.measure_cells.specs.Points.{sumTo, fieldTo}
 
 -- ---- a figure of a sum is the total of the figures
 

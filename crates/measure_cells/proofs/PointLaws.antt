@@ -22,8 +22,10 @@ use Rattle.grid.proofs.ShotLaws.{width-times}
 use Rattle.grid_runs.proofs.ReadLaws.{holds-starts, holds-run}
 use Rattle.grid_cover.proofs.CoverLaws.{run-none}
 use Rattle.grid_cover.proofs.CoverRuns.{OnInterval, run-around}
-use Rattle.measure_cells.specs.Points.{atPattern, plus, lineTo, lineFrom, quad, reachesLine, InInterval, Between}
-use Rattle.measure_cells.proofs.LineLaws.{narrowed-around}
+use Rattle.measure_tallies.specs.Tallies.{atPattern, plus}
+use Rattle.measure_lines.specs.Lines.{reachesLine}
+use Rattle.measure_cells.specs.Points.{lineTo, lineFrom, quad, InInterval, Between}
+use Rattle.measure_lines.proofs.LineLaws.{narrowed-around}
 use Rattle.measure_cells.proofs.SumLaws.{sums-none, sums-turn, sums-add, sum-agree}
 
 -- ---- the cell that ends at a point

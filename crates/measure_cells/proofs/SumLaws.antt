@@ -7,8 +7,9 @@ use native.Mathlib.Omega.{arith}
 use Rattle.lattice.specs.Cells.{Cells}
 use Rattle.lattice.specs.Pattern.{Pattern, around}
 use Rattle.lattice_sums.specs.declared.sums.Totals.{Totals}
-use Rattle.measure_cells.specs.Points.{atPattern, nothing, plus, sumTo, lineTo, planeTo, fieldTo, AtMost}
-use Rattle.measure_cells.proofs.TallyLaws.{pattern-most}
+use Rattle.measure_tallies.specs.Tallies.{atPattern, nothing, plus, AtMost}
+use Rattle.measure_cells.specs.Points.{sumTo, lineTo, planeTo, fieldTo}
+use Rattle.measure_tallies.proofs.TallyLaws.{pattern-most}
 
 plus-assoc : (t u v : Totals) → plus (plus t u) v ≡ plus t (plus u v)
 unfolding plus

@@ -1,10 +1,8 @@
 // The second opinion for a disputed quote: the totals and the corner count of a list by counting, point by point, through the cover
 // test. Every cell is asked, so it is slow in large fields. It shares with the sweep the intake, the runs of the index and the door
-// to a shot, and nothing else. docs/SCOPE.md, 'Cells and totals'. specs/Points.antt says what
-// a point counts. Stands on `measure_intake`, `grid_cover` and `grid_runs`.
-pub mod lines;
+// to a shot, and nothing else. docs/SCOPE.md, 'Cells and totals'. Stands on
+// `measure_tallies` for what a point counts, `measure_lines`, `measure_intake`, `grid_cover` and `grid_runs`.
 pub mod points;
-pub mod tallies;
 
 ghost use Rattle.job.specs.Job.{jobOf};
 ghost use Rattle.measure_intake.specs.Intake.{MeasureCall};

@@ -10,14 +10,15 @@ ghost use Rattle.lattice_sums.specs.CornerSums.{totalsOf};
 ghost use Rattle.job.specs.Job.{jobOf, shotsOf, Valid};
 ghost use Rattle.grid.specs.Grid.{Holds};
 ghost use Rattle.grid_cover.specs.Cover.{runCovers};
-ghost use Rattle.measure_cells.specs.Points.{plus, lineFrom, lineTo, planeTo, planesTo, quad, InInterval, Between, AtMost};
-use crate::lines::narrow_to_line;
-use crate::tallies::tally;
+ghost use Rattle.measure_tallies.specs.Tallies.{plus, AtMost};
+ghost use Rattle.measure_cells.specs.Points.{lineFrom, lineTo, planeTo, planesTo, quad, InInterval, Between};
 use grid::intervals::cells_of;
 use grid_cover::Covering;
 use grid_cover::first_covering;
 use grid_runs::run_of;
 use lattice_sums::sums::Totals;
+use measure_lines::narrow_to_line;
+use measure_tallies::tally;
 
 // 1 if the run covers the cell that ends at (x, y, z); no cell ends at 0.
 fn cell_ends(coords: &[u16], edge: u16, run: &[u32], x: u16, y: u16, z: u16) -> u8

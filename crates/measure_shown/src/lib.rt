@@ -1,6 +1,6 @@
 // The second opinion, with a word on standard error about how far it is: the answer of `measure_cells::recount`, its planes counted in
 // pieces. On a terminal one line moves with each plane; elsewhere there is a line for each 256 planes that are followed by more, so that a
-// small field says nothing. Stands on `measure_cells`, `measure_intake` and `text_report`.
+// small field says nothing. Stands on `measure_cells`, `measure_intake` and `text_parts`.
 ghost use mathlib.Core.Path.{_≡_};
 ghost use Prim.Native.Nat.{_+_, _≤_, _<_};
 ghost use Rattle.lattice.specs.Shots.{cells};
@@ -14,7 +14,7 @@ use libc::STDERR_FILENO;
 use measure_cells::points::count_planes;
 use measure_intake::Measured;
 use measure_intake::indexed;
-use text_report::put_digits;
+use text_parts::put_digits;
 
 // Writes a number to standard error.
 fn show_number(a: u64) {

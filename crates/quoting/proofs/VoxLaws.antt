@@ -18,7 +18,8 @@ use Rattle.measure_intake.specs.Intake.{solid, answerOf, measureAnswer}
 use Rattle.measure_intake.specs.declared.Measured.the-variants.{Quote}
 use Rattle.measure_intake.proofs.Refused.{measure-decides}
 use Rattle.text_report.specs.Lines.{quoteLines}
-use Rattle.quoting.specs.Quoting.{answerText, quotedText, voxText, VoxQuoted}
+use Rattle.quoting_text.specs.Quoting.{answerText, quotedText}
+use Rattle.quoting.specs.VoxQuoting.{voxText, VoxQuoted}
 
 -- a list that is valid and has its entries is quoted: its totals are its cell counts
 measure-quotes : (job : Job) (entries : ℕ) → Valid job → need job ≤ entries → measureAnswer job entries ≡ Quote (totalsOf job.field (solid job))

@@ -1,3 +1,1 @@
-pub mod Quoting
-pub mod Answered
-pub mod Listing
+pub mod VoxQuoting

@@ -1,6 +1,6 @@
 // The second opinion for a disputed quote: reads a shot file from standard input, as the quoting program does, and prints the same lines
 // from totals that are counted again, cell by cell. That takes some seconds in a large field, so it says on standard error which plane
-// it is at. What it prints is `quoting::recount`; here are only the system calls and the sizes.
+// it is at. What it prints is `recounting::recount`; here are only the system calls and the sizes.
 use input::Filled;
 use libc::STDERR_FILENO;
 use libc::STDOUT_FILENO;
@@ -10,7 +10,7 @@ fn print_recount(bytes: &[u8]) {
     let mut coords = [0u16; 12288];
     let mut work = [0u32; 16384];
     let mut out = [0u8; 256];
-    let n = quoting::recount(bytes, &mut coords, &mut work, &mut out);
+    let n = recounting::recount(bytes, &mut coords, &mut work, &mut out);
     if !io::write_all(STDOUT_FILENO, &out[..n]) {
         io::write_all(
             STDERR_FILENO,

@@ -14,9 +14,9 @@ use Rattle.job.specs.declared.Place.the-variants.{Byte, Shot, Nowhere}
 use Rattle.job.specs.declared.Refusal.{Refusal}
 use Rattle.job.specs.Refusals.{numberOf, detailOf, metAt}
 use Rattle.shotfile_records.specs.declared.Fields.{Fields}
-use Rattle.text_report.specs.Text.{text}
-use Rattle.text_report.specs.Lines.{decimal}
-use Rattle.text_report.proofs.LineLaws.{digits-length}
+use Rattle.text_parts.specs.Text.{text}
+use Rattle.text_parts.specs.Decimal.{decimal}
+use Rattle.text_parts.proofs.LineLaws.{digits-length}
 use Rattle.text_wording.specs.Sentences.{sentence}
 use Rattle.text_wording.proofs.SentenceLaws.{sentence-length}
 use Rattle.shotfile_lines.specs.Lines.{labelled, note, settingLine, settings, shotLine, placeText, refusedLine}

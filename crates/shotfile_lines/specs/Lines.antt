@@ -9,8 +9,8 @@ use Rattle.job.specs.declared.Place.{Place}
 use Rattle.job.specs.declared.Place.the-variants.{Byte, Shot, Nowhere}
 use Rattle.job.specs.declared.Refusal.{Refusal}
 use Rattle.shotfile_records.specs.declared.Fields.{Fields}
-use Rattle.text_report.specs.Text.{text}
-use Rattle.text_report.specs.Lines.{decimal}
+use Rattle.text_parts.specs.Text.{text}
+use Rattle.text_parts.specs.Decimal.{decimal}
 use Rattle.text_wording.specs.Sentences.{sentence}
 
 -- a label and a decimal value

@@ -1,13 +1,13 @@
 // The lines of a shot file's text: a setting, a shot with its number and place, a refusal with its sentence. Each is put at a place of a
 // lent slice, and the answer is the place after the line; every other place keeps its value. specs/Lines.antt says what the lines are.
-// Stands on `shotfile_records` and `job`, whose fields and refusals it puts, and on `text_report`, `text_wording` and `buffer` for the
+// Stands on `shotfile_records` and `job`, whose fields and refusals it puts, and on `text_parts`, `text_wording` and `buffer` for the
 // bytes of a text.
 use job::Place;
 use job::Refusal;
 use shotfile_records::Fields;
-use text_report::put_byte;
-use text_report::put_digits;
-use text_report::put_word;
+use text_parts::put_byte;
+use text_parts::put_digits;
+use text_parts::put_word;
 use text_wording::put_sentence;
 ghost use Prim.Native.Nat.{_+_, _≤_};
 ghost use lib.ListN.{length};

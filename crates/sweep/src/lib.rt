@@ -9,15 +9,15 @@ ghost use Rattle.lattice.specs.Boxes.{boxCells};
 ghost use Rattle.lattice.specs.Shots.{cells};
 ghost use Rattle.lattice.specs.Listing.{corners};
 ghost use Rattle.lattice_sums.specs.CornerSums.{sumsOf};
-ghost use Rattle.lattice_sums.specs.Packed.{Packed};
+ghost use Rattle.lattice_weights.specs.Packed.{Packed};
 ghost use Rattle.job.specs.Job.{jobOf, Valid, shotsOf};
 ghost use Rattle.grid.specs.Grid.{Holds};
 ghost use Rattle.sweep_layer.specs.Layers.{touching};
 ghost use Rattle.sweep_tally.specs.Found.{state, found};
 ghost use Rattle.sweep_plane.specs.Plane.{Both};
 ghost use Rattle.sweep.specs.Sweep.{Given, FirstPast, Passed, EndsRow, AllFound};
-use lattice_sums::packed::pack;
 use lattice_sums::sums::CornerSums;
+use lattice_weights::pack;
 
 // A number in the width of an index.
 fn wide(number: u16) -> usize

@@ -3,7 +3,7 @@
 ghost use Prim.Native.Nat.{_<_, _≤_};
 ghost use Rattle.lattice.specs.Cells.{planePoints};
 ghost use Rattle.lattice_sums.specs.CornerSums.{RoomFor};
-ghost use Rattle.lattice_sums.specs.Packed.{Packed};
+ghost use Rattle.lattice_weights.specs.Packed.{Packed};
 ghost use Rattle.sweep_faces.specs.Faces.{shade};
 ghost use Rattle.sweep_layer.specs.Layers.{About, touching};
 ghost use Rattle.sweep_tally.specs.Found.{state};

@@ -6,7 +6,7 @@ ghost use Prim.Native.Nat.{_+_, _-_, _*_, _<_, _≤_};
 ghost use lib.ListN.{length};
 ghost use Rattle.lattice.specs.Cells.{linePoints, planePoints};
 ghost use Rattle.lattice_sums.specs.CornerSums.{RoomFor};
-ghost use Rattle.lattice_sums.specs.Packed.{Packed};
+ghost use Rattle.lattice_weights.specs.Packed.{Packed};
 ghost use Rattle.sweep_image.specs.Images.{Tells, wordAt};
 ghost use Rattle.sweep_tally.specs.Found.{state, found};
 ghost use Rattle.sweep_points.specs.Points.{Layers, PlaneFound, columnCorners, columnAt, lineAt, Inside, Blank};

@@ -1,10 +1,11 @@
-// Corners met one after the other: their sums, and their records in a lent buffer as far as it has room. Stands on `lattice_sums`.
+// Corners met one after the other: their sums, and their records in a lent buffer as far as it has room. Stands on `lattice_sums`, and on
+// the packed weights of `lattice_weights`.
 ghost use mathlib.Core.Path.{_≡_};
 ghost use Prim.Native.Nat.{_+_, _≤_};
 ghost use lib.ListN.{length};
 ghost use Rattle.lattice.specs.Listing.{cornerRecord};
 ghost use Rattle.lattice_sums.specs.CornerSums.{RoomFor};
-ghost use Rattle.lattice_sums.specs.Packed.{Packed};
+ghost use Rattle.lattice_weights.specs.Packed.{Packed};
 ghost use Rattle.sweep_tally.specs.Found.{at, withRecord, stored, state, meet};
 use lattice_sums::sums::CornerSums;
 

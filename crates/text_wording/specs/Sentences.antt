@@ -1,7 +1,7 @@
 -- The refusals of docs/SCOPE.md, 'When a job is refused', in words: one sentence each, of at most 64 bytes.
 use mathlib.Core.List.{List}
 use Prim.Native.Nat.{ℕ}
-use Rattle.text_report.specs.Text.{text}
+use Rattle.text_parts.specs.Text.{text}
 use Rattle.job.specs.declared.Refusal.{Refusal}
 use Rattle.job.specs.declared.Refusal.the-variants.{BrokenShot, TooManyShots, NoPlace, UnknownBit, CutShort, FieldRange, EdgeRange, GridRange, OutsideField, ShortWork, ShortListing, ShortFile, NotVox, BrokenChunk, VoxelRange, ShortCredits}
 

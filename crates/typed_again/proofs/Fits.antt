@@ -11,8 +11,8 @@ use Rattle.job.specs.declared.Checked.the-variants.{Accepted}
 use Rattle.job.specs.Job.{jobOf, shotsOf, shotCount, Valid}
 use Rattle.job.specs.Checking.{checked}
 use Rattle.job.proofs.Conditions.{accepted-valid}
-use Rattle.text_report.specs.Text.{text}
-use Rattle.text_report.specs.Lines.{digits, decimal}
+use Rattle.text_parts.specs.Text.{text}
+use Rattle.text_parts.specs.Decimal.{digits, decimal}
 use Rattle.shotfile_records.specs.declared.Fields.{Fields}
 use Rattle.shotfile.specs.declared.reader.Cursor.{Cursor}
 use Rattle.shotfile_records.specs.Records.{headerAbsent}

@@ -6,8 +6,8 @@ use Prim.Native.Nat.{ℕ, _≤_, _<_}
 use native.Mathlib.Omega.{arith}
 use lib.Dec.{eqb}
 use lib.ListN.{length}
-use Rattle.text_report.specs.Text.{text}
-use Rattle.text_report.specs.Lines.{decimal}
+use Rattle.text_parts.specs.Text.{text}
+use Rattle.text_parts.specs.Decimal.{decimal}
 use Rattle.text_same.specs.Same.{same}
 use Rattle.shotfile_lines.specs.Lines.{note, settingLine, shotLine}
 use Rattle.typed_line.specs.declared.entry.Setting.{Setting}

@@ -12,8 +12,8 @@ use Rattle.job.specs.declared.Refusal.{Refusal}
 use Rattle.job.specs.declared.Refusal.the-variants.{TooManyShots}
 use Rattle.job.specs.Checking.{checked}
 use Rattle.job.specs.Refusals.{numberOf, detailOf, metAt}
-use Rattle.text_report.specs.Text.{text}
-use Rattle.text_report.specs.Lines.{decimal}
+use Rattle.text_parts.specs.Text.{text}
+use Rattle.text_parts.specs.Decimal.{decimal}
 use Rattle.text_same.specs.Same.{same}
 use Rattle.shotfile_records.specs.declared.Fields.{Fields}
 use Rattle.shotfile_records.specs.declared.Taken.{Taken}

@@ -7,7 +7,7 @@ use native.Mathlib.Omega.{arith}
 use lib.Dec.{leb}
 use lib.ListN.{length, drop, getD, drop-of-length-le}
 use borrow.Author.Tests.{leb-true, le-leb, lt-leb}
-use Rattle.text_report.specs.Lines.{valueFrom}
+use Rattle.text_parts.specs.Decimal.{valueFrom}
 use Rattle.text_same.proofs.SameLaws.{here}
 use Rattle.typed_line.specs.declared.entry.Number.the-variants.{Is, NoDigit, TooLarge}
 use Rattle.typed_line.specs.Entries.{digit, digitsOnly, wordNumber}

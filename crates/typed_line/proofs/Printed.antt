@@ -8,8 +8,8 @@ use lib.Dec.{ltb}
 use lib.ListN.{length, drop, length-append}
 use lib.Seq.{drop-append-seam}
 use borrow.Author.Tests.{le-leb, ne-eqb, not-true}
-use Rattle.text_report.specs.Lines.{digits, decimal}
-use Rattle.text_report.proofs.LineLaws.{decimal-value}
+use Rattle.text_parts.specs.Decimal.{digits, decimal}
+use Rattle.text_parts.proofs.LineLaws.{decimal-value}
 use Rattle.typed_line.specs.declared.entry.Setting.{Setting}
 use Rattle.typed_line.specs.declared.entry.Number.the-variants.{Is}
 use Rattle.typed_line.specs.declared.entry.Entry.the-variants.{Setting as Settled, Shot}

@@ -3,8 +3,8 @@ use mathlib.Core.Bool.{Bool, true, cond, _&&_}
 use mathlib.Core.List.{List, [], _∷_}
 use Prim.Native.Nat.{ℕ}
 use lib.Dec.{leb}
-use Rattle.text_report.specs.Text.{text}
-use Rattle.text_report.specs.Lines.{valueFrom}
+use Rattle.text_parts.specs.Text.{text}
+use Rattle.text_parts.specs.Decimal.{valueFrom}
 use Rattle.text_same.specs.Same.{same}
 use Rattle.typed_line.specs.declared.entry.Setting.{Setting}
 use Rattle.typed_line.specs.declared.entry.Setting.the-variants.{Field, Edge, Grid}

@@ -4,8 +4,8 @@ use mathlib.Core.List.{_++_}
 use Prim.Native.String.{String}
 use Rattle.job.specs.Job.{numbersOf}
 use Rattle.shotfile_records.specs.Records.{headerAbsent}
-use Rattle.text_report.specs.Text.{text}
-use Rattle.text_report.specs.Lines.{valueFrom}
+use Rattle.text_parts.specs.Text.{text}
+use Rattle.text_parts.specs.Decimal.{valueFrom}
 use Rattle.text_same.specs.Same.{same}
 use Rattle.typed_line.specs.declared.entry.Mistake.the-variants.{UnknownWord, TooFewWords, TooManyWords, NoNumber, LargeNumber, SettingTwice, NoPlace}
 use Rattle.typed_list.specs.declared.Typed.{Typed}

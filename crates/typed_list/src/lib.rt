@@ -1,7 +1,7 @@
 // A shot list as it is typed: plain text, a setting or a shot a line. `read_text` takes a text to a list with its settings, or to its
 // first mistake. specs/Lists.antt says what the lines above say, one more, and the text. `draft` has the lines above.
 // Stands on `typed_line`, which reads a single line, on `job`, whose door stores a shot, on `shotfile_records` for the settings that are
-// left out, and on `buffer`; its examples also on `text_report`.
+// left out, and on `buffer`; its examples also on `text_parts`.
 mod draft;
 
 use crate::draft::Draft;

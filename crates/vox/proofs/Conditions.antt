@@ -22,9 +22,10 @@ use Rattle.shotfile.specs.Calls.{readAnswer}
 use Rattle.shotfile.specs.declared.reader.ReadAnswer.{ReadAnswer}
 use Rattle.shotfile.specs.declared.reader.ReadAnswer.the-variants.{Read, Refused as Unread}
 use Rattle.text_same.proofs.SameLaws.{same-iff}
-use Rattle.text_report.specs.Text.{text}
+use Rattle.text_parts.specs.Text.{text}
 use Rattle.vox_chunks.specs.Chunks.{numberAt, stands, contentAt, childrenAt, afterChunk, missing, overruns, mismatched}
-use Rattle.vox.specs.Vox.{unmarked, unfilled, sideOn, wrongSide, largestSide, voxelCount, voxelAt, overrunFrom, openingTests, voxelTests, voxTests, voxIn, VoxCall}
+use Rattle.vox_voxels.specs.Voxels.{sideOn, wrongSide, largestSide, voxelAt}
+use Rattle.vox.specs.Vox.{unmarked, unfilled, voxelCount, overrunFrom, openingTests, voxelTests, voxTests, voxIn, VoxCall}
 use Rattle.vox.specs.Conditions.{Named, NoChunk, Required, main, size, xyzi, no-mark, no-chunk, Misfits, Sized, size-content, xyzi-content, BrokenAt, main-broken, misfit, later-broken, WrongSide, wrong-side, wrong-voxel, VoxCondition, not-vox, broken-chunk, voxel-range, too-many-shots, no-place}
 use Rattle.vox.proofs.Passed.{voxels-count, given}
 use Rattle.vox.proofs.Faults.{firstFault, right-before, fault-is, afterVoxels, later-past, later-inside, walk-past, stops-broken, later-stops}

@@ -8,9 +8,10 @@ use Rattle.job.specs.declared.Refusal.the-variants.{NoPlace, NotVox, BrokenChun
 use Rattle.job.specs.Checking.{firstOf}
 use Rattle.shotfile.specs.Files.{settingFields, file, refused}
 use Rattle.text_same.specs.Same.{same}
-use Rattle.text_report.specs.Text.{text}
+use Rattle.text_parts.specs.Text.{text}
 use Rattle.vox_chunks.specs.Chunks.{numberAt, stands}
-use Rattle.vox.specs.Vox.{wrongVoxel, firstWrong, voxels, firstOverrun, openingTests, voxelTests, voxIn}
+use Rattle.vox_voxels.specs.Voxels.{wrongVoxel, firstWrong}
+use Rattle.vox.specs.Vox.{voxels, firstOverrun, openingTests, voxelTests, voxIn}
 
 -- a number below 256
 abbrev number : ℕ → List ℕ

@@ -11,7 +11,8 @@ use lib.ListN.{length}
 use borrow.Author.Tests.{ltb-true, lt-ltb, le-ltb, leb-true, leb-false}
 use Rattle.job.proofs.Tests.{leb-says, eqb-says, or-says}
 use Rattle.vox_chunks.specs.Chunks.{afterChunk, overruns}
-use Rattle.vox.specs.Vox.{sideOn, voxelCount, voxelAt, byteOf, beyond, wrongVoxel, firstWrong, firstOverrun, overrunFrom}
+use Rattle.vox_voxels.specs.Voxels.{sideOn, voxelAt, byteOf, beyond, wrongVoxel, firstWrong}
+use Rattle.vox.specs.Vox.{voxelCount, firstOverrun, overrunFrom}
 use Rattle.vox.specs.Conditions.{Ends, LaterChunk, first-later, next-later, BrokenAt, later-broken, WrongVoxel, FirstWrong}
 use Rattle.vox.proofs.Walks.{over-found, over-next}
 

@@ -9,7 +9,8 @@ use Rattle.job.specs.Checking.{firstOf}
 use Rattle.shotfile_records.specs.declared.Fields.{Fields}
 use Rattle.shotfile.specs.Files.{settingFields, file}
 use Rattle.shotfile.proofs.Accepted.{Fits}
-use Rattle.vox.specs.Vox.{largestSide, voxelCount, voxels, voxTests, voxIn}
+use Rattle.vox_voxels.specs.Voxels.{largestSide}
+use Rattle.vox.specs.Vox.{voxelCount, voxels, voxTests, voxIn}
 use Rattle.vox.proofs.Passed.{Passed, passed-has, voxels-count, voxels-whole, given}
 
 module _ (places : ℕ) (s : List ℕ) where

@@ -18,7 +18,8 @@ use Rattle.shotfile.specs.Calls.{readAnswer, readNumbers, readValues, readCoord
 use Rattle.shotfile.specs.declared.reader.ReadAnswer.the-variants.{Read, Refused as Unread}
 use Rattle.shotfile.proofs.Coords.{count-none, count-more, places-more}
 use Rattle.vox_chunks.proofs.ChunkLaws.{matched-whole}
-use Rattle.vox.specs.Vox.{sideOn, wrongSide, largestSide, voxelCount, voxelAt, firstWrong, voxelFields, voxels, openingTests, voxelTests, voxTests, ifPassed, voxIn, VoxCall}
+use Rattle.vox_voxels.specs.Voxels.{sideOn, wrongSide, largestSide, voxelAt, firstWrong}
+use Rattle.vox.specs.Vox.{voxelCount, voxelFields, voxels, openingTests, voxelTests, voxTests, ifPassed, voxIn, VoxCall}
 
 -- ---- the two parts of the checks
 module _ (places : ℕ) (s : List ℕ) where

@@ -19,7 +19,8 @@ use Rattle.shotfile.specs.Files.{settingFields, file}
 use Rattle.shotfile.specs.declared.reader.ReadAnswer.the-variants.{Read}
 use Rattle.shotfile.proofs.Coords.{shots-more}
 use Rattle.shotfile.proofs.Accepted.{stored-list}
-use Rattle.vox.specs.Vox.{sideOn, largestSide, voxelCount, byteOf, beyond, wrongVoxel, voxelFields, voxels, voxIn, VoxCall}
+use Rattle.vox_voxels.specs.Voxels.{sideOn, largestSide, byteOf, beyond, wrongVoxel}
+use Rattle.vox.specs.Vox.{voxelCount, voxelFields, voxels, voxIn, VoxCall}
 use Rattle.vox.specs.Conditions.{voxelShot, HasVoxel, VoxList}
 use Rattle.vox.proofs.Passed.{Passed, voxels-count, voxels-whole}
 use Rattle.vox.proofs.Fits.{vox-fits, vox-accepted}

@@ -11,7 +11,8 @@ use Rattle.buffer.proofs.Underway.{Underway, underway-none}
 use Rattle.job.specs.Job.{placeOf, numbersOf}
 use Rattle.shotfile.specs.Files.{shotNumbers}
 use Rattle.vox_chunks.specs.Chunks.{afterChunk, overruns}
-use Rattle.vox.specs.Vox.{voxelAt, wrongVoxel, firstWrong, voxelFields, voxels, firstOverrun, overrunFrom}
+use Rattle.vox_voxels.specs.Voxels.{voxelAt, wrongVoxel, firstWrong}
+use Rattle.vox.specs.Vox.{voxelFields, voxels, firstOverrun, overrunFrom}
 
 -- ---- voxels
 -- the three bytes of a voxel are the numbers of its shot
@@ -21,23 +22,12 @@ voxel-numbers s n =
     rw e
 
 module _ (s : List ℕ) (count : ℕ) where
-  pub wrong-all : firstWrong s 0 (count - 0) ≡ firstWrong s 0 count
-  wrong-all =
-      let e : count - 0 ≡ count = omega arith in
-      rw e
-
   pub voxels-all : (w : List ℕ) → Underway (voxels s 0 count) w w 0 (placeOf 0) (voxels s 0 (count - 0))
   voxels-all w =
       let e : count - 0 ≡ count = omega arith in
       rw e (underway-none (voxels s 0 count) w 0 (omega arith))
 
   module _ (n : ℕ) where
-    pub wrong-none : count ≤ n → n ≡ firstWrong s n (count - n)
-    unfolding firstWrong
-    wrong-none h =
-        let e : count - n ≡ 0 = omega arith in
-        rw e
-
     pub voxels-done : count ≤ n → voxels s n (count - n) ≡ []
     unfolding voxels
     voxels-done h =
@@ -47,16 +37,6 @@ module _ (s : List ℕ) (count : ℕ) where
     module _ (h : n < count) where
       one-more : count - n ≡ suc (count - (n + 1))
       one-more = omega arith
-
-      pub wrong-found : wrongVoxel s n ≡ true → n ≡ firstWrong s n (count - n)
-      unfolding firstWrong
-      wrong-found e = rw (one-more, e)
-
-      pub wrong-next : wrongVoxel s n ≡ false → firstWrong s (n + 1) (count - (n + 1)) ≡ firstWrong s n (count - n)
-      unfolding firstWrong
-      wrong-next e =
-          let m : suc n ≡ n + 1 = omega arith in
-          rw (one-more, e, m)
 
       pub voxels-next : voxels s n (count - n) ≡ shotNumbers (voxelFields s n) ++ voxels s (n + 1) (count - (n + 1))
       unfolding voxels

@@ -13,10 +13,11 @@ use Rattle.job.specs.declared.Checked.the-variants.{Accepted, Refused}
 use Rattle.job.specs.Checking.{firstOf}
 use Rattle.job.proofs.Tests.{or-first, or-second, or-true-right}
 use Rattle.job.proofs.Places.{first-here, first-next, first-none}
-use Rattle.text_report.specs.Text.{text}
+use Rattle.text_parts.specs.Text.{text}
 use Rattle.vox_chunks.specs.Chunks.{numberAt, stands, contentAt, childrenAt, afterChunk, missing, overruns, mismatched}
 use Rattle.vox_chunks.proofs.ChunkLaws.{differs, agrees}
-use Rattle.vox.specs.Vox.{unmarked, unfilled, sideOn, wrongSide, voxelCount, voxelAt, beyond, byteOf, wrongVoxel, firstWrong, overrunFrom, voxelTests}
+use Rattle.vox_voxels.specs.Voxels.{sideOn, wrongSide, voxelAt, beyond, byteOf, wrongVoxel, firstWrong}
+use Rattle.vox.specs.Vox.{unmarked, unfilled, voxelCount, overrunFrom, voxelTests}
 
 module _ (s : List ℕ) where
   -- ---- the mark
@@ -40,13 +41,6 @@ module _ (s : List ℕ) where
   pub by-children : contentAt s 8 ≡ 0 → {r : Bool} → r ≡ not (eqb (afterChunk s 8) (length s)) → r ≡ unfilled s
   by-children e k = or-second _ _ (agrees (contentAt s 8) 0 e) k
 
-  -- ---- SIZE
-  pub too-small : (axis : ℕ) {a : ℕ} → a ≡ sideOn s axis → a < 1 → ltb a 1 ≡ wrongSide s axis
-  too-small axis {a} e h = lt-ltb a 1 h ∙ or-first (ltb (sideOn s axis) 1) _ (lt-ltb (sideOn s axis) 1 (omega (arith, e)))
-
-  pub or-too-large : (axis : ℕ) {a : ℕ} → a ≡ sideOn s axis → 1 ≤ a → ltb 256 a ≡ wrongSide s axis
-  or-too-large axis e h = or-second _ _ (le-ltb (sideOn s axis) 1 (omega (arith, e))) (ap (λ n. ltb 256 n) e)
-
   -- ---- XYZI
   pub short-count : length s < 60 → true ≡ mismatched s 44 (4 + 4 * voxelCount s)
   short-count h = go (eqb (childrenAt s 44) 0) refl (eqb (contentAt s 44) (4 + 4 * voxelCount s)) refl
@@ -58,29 +52,6 @@ module _ (s : List ℕ) where
 
   pub by-count : {n : ℕ} {r : Bool} → n ≡ voxelCount s → r ≡ mismatched s 44 (4 + 4 * n) → r ≡ mismatched s 44 (4 + 4 * voxelCount s)
   by-count e k = k ∙ ap (λ m. mismatched s 44 (4 + 4 * m)) e
-
-  -- ---- a voxel
-  module _ (n : ℕ) where
-    pub by-side : (axis : ℕ) {side : ℕ} → side ≡ sideOn s axis → {r : Bool} → r ≡ leb side (byteOf s n axis) → r ≡ beyond s n axis
-    by-side axis e k = k ∙ ap (λ m. leb m (byteOf s n axis)) e
-
-    pub beyond-x : beyond s n 0 ≡ true → true ≡ wrongVoxel s n
-    unfolding wrongVoxel
-    beyond-x h = or-first _ _ h
-
-    module _ (x : beyond s n 0 ≡ false) where
-      pub beyond-y : beyond s n 1 ≡ true → true ≡ wrongVoxel s n
-      unfolding wrongVoxel
-      beyond-y h = or-second _ _ x (or-first _ _ h)
-
-      module _ (y : beyond s n 1 ≡ false) where
-        pub beyond-z : beyond s n 2 ≡ true → true ≡ wrongVoxel s n
-        unfolding wrongVoxel
-        beyond-z h = or-second _ _ x (or-second _ _ y (or-first _ _ h))
-
-        pub by-colour : beyond s n 2 ≡ false → eqb (byteOf s n 3) 0 ≡ wrongVoxel s n
-        unfolding wrongVoxel
-        by-colour z = or-second _ _ x (or-second _ _ y (or-second _ _ z refl))
 
 -- ---- XYZI and the chunks after it, by what was counted
 module _ (places : ℕ) (s : List ℕ) (named : missing s 44 (text "XYZI") ≡ false) where

@@ -10,9 +10,10 @@ use Rattle.job.specs.declared.Refusal.{Refusal}
 use Rattle.job.specs.declared.Refusal.the-variants.{TooManyShots, NoPlace, NotVox, BrokenChunk, VoxelRange}
 use Rattle.job.specs.Job.{Job, shots, shot, shotCount, Valid}
 use Rattle.grid.specs.Grid.{need}
-use Rattle.text_report.specs.Text.{text}
+use Rattle.text_parts.specs.Text.{text}
 use Rattle.vox_chunks.specs.Chunks.{numberAt, contentAt, childrenAt, afterChunk}
-use Rattle.vox.specs.Vox.{sideOn, largestSide, voxelCount, voxelAt, byteOf}
+use Rattle.vox_voxels.specs.Voxels.{sideOn, largestSide, voxelAt, byteOf}
+use Rattle.vox.specs.Vox.{voxelCount}
 
 -- voxel n as a shot of edge 1
 abbrev pub voxelShot : List ℕ → ℕ → Shot

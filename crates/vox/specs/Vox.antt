@@ -3,20 +3,21 @@
 use mathlib.Core.Path.{_≡_}
 use mathlib.Core.Bool.{Bool, not, cond, _&&_, _||_}
 use mathlib.Core.List.{List, [], _∷_, _++_}
-use Prim.Native.Nat.{ℕ, zero, suc, _+_, _*_, max}
-use lib.Dec.{leb, ltb, eqb}
-use lib.ListN.{length, getD}
+use Prim.Native.Nat.{ℕ, zero, suc, _+_, _*_}
+use lib.Dec.{ltb, eqb}
+use lib.ListN.{length}
 use Rattle.job.specs.declared.Refusal.the-variants.{TooManyShots, NoPlace, NotVox, BrokenChunk, VoxelRange}
 use Rattle.job.specs.declared.Checked.{Checked}
 use Rattle.job.specs.declared.Checked.the-variants.{Accepted, Refused}
 use Rattle.job.specs.Job.{shotCount}
-use Rattle.job.specs.Checking.{Test, outside, firstOf}
+use Rattle.job.specs.Checking.{Test, firstOf}
 use Rattle.shotfile_records.specs.declared.Fields.{Fields}
 use Rattle.shotfile.specs.Files.{File, file, refused, settingFields, shotNumbers}
 use Rattle.shotfile.specs.Calls.{readAnswer, readNumbers, readValues, readCoords}
 use Rattle.shotfile.specs.declared.reader.ReadAnswer.{ReadAnswer}
-use Rattle.text_report.specs.Text.{text}
+use Rattle.text_parts.specs.Text.{text}
 use Rattle.vox_chunks.specs.Chunks.{numberAt, stands, contentAt, afterChunk, missing, overruns, mismatched}
+use Rattle.vox_voxels.specs.Voxels.{wrongSide, largestSide, voxelAt, byteOf, firstWrong}
 
 -- ---- the mark and MAIN
 -- the file does not open with the mark and the version 150
@@ -27,42 +28,10 @@ unmarked s = ltb (length s) 8 || (not (stands s 0 (text "VOX ")) || not (eqb (nu
 abbrev pub unfilled : List ℕ → Bool
 unfilled s = not (eqb (contentAt s 8) 0) || not (eqb (afterChunk s 8) (length s))
 
--- ---- SIZE
--- the side on an axis: 0 is x, 1 is y, 2 is z
-abbrev pub sideOn : List ℕ → ℕ → ℕ
-sideOn s axis = numberAt s (32 + 4 * axis)
-
-abbrev pub wrongSide : List ℕ → ℕ → Bool
-wrongSide s axis = outside 1 256 (sideOn s axis)
-
-abbrev pub largestSide : List ℕ → ℕ
-largestSide s = max (max (sideOn s 0) (sideOn s 1)) (sideOn s 2)
-
 -- ---- XYZI
 -- how many voxels it holds
 abbrev pub voxelCount : List ℕ → ℕ
 voxelCount s = numberAt s 56
-
--- where voxel n begins, from 0, and where the chunk after the first n voxels does
-abbrev pub voxelAt : ℕ → ℕ
-voxelAt n = 60 + 4 * n
-
--- a byte of voxel n: 0 is x, 1 is y, 2 is z, 3 is the colour
-abbrev pub byteOf : List ℕ → ℕ → ℕ → ℕ
-byteOf s n part = getD s (voxelAt n + part) 0
-
--- voxel n is outside SIZE on an axis, which has a side of its own
-abbrev pub beyond : List ℕ → ℕ → ℕ → Bool
-beyond s n axis = leb (sideOn s axis) (byteOf s n axis)
-
--- it is so on some axis, or has colour 0
-unfoldable pub wrongVoxel : List ℕ → ℕ → Bool
-wrongVoxel s n = beyond s n 0 || (beyond s n 1 || (beyond s n 2 || eqb (byteOf s n 3) 0))
-
--- the first such voxel of `left` voxels from voxel n on; the one after them if there is none
-unfoldable pub firstWrong : List ℕ → ℕ → ℕ → ℕ
-firstWrong s n zero = n
-firstWrong s n (suc left) = cond (wrongVoxel s n) n (firstWrong s (suc n) left)
 
 -- the coordinates of voxel n
 abbrev pub voxelFields : List ℕ → ℕ → Fields

@@ -1,8 +1,8 @@
 // Files of the voxel editor MagicaVoxel: `read_vox` takes the bytes of a VOX file to a list of shots of edge 1, a shot a voxel, in file
 // order. docs/SCOPE.md, 'VOX file'. specs/Vox.antt says what a file means and specs/Conditions.antt when it is refused;
 // proofs/Conditions.antt that each refusal is given exactly where it should be, proofs/Voxels.antt that the cells of the list are the
-// voxels, that the list is valid and how long its index is. Stands on `vox_chunks` for the chunks of a file, and on `job` and `shotfile`,
-// whose refusals, door to a shot and answer it uses.
+// voxels, that the list is valid and how long its index is. Stands on `vox_chunks` for the chunks of a file and `vox_voxels` for its sides
+// and voxels, and on `job` and `shotfile`, whose refusals, door to a shot and answer it uses.
 use job::Checked;
 use job::Refusal;
 use shotfile::ReadAnswer;
@@ -12,16 +12,18 @@ use vox_chunks::is_missing;
 use vox_chunks::is_overrun;
 use vox_chunks::is_there;
 use vox_chunks::number;
+use vox_voxels::first_wrong;
+use vox_voxels::has_wrong_side;
+use vox_voxels::largest_side;
 ghost use mathlib.Core.Path.{_≡_};
-ghost use mathlib.Core.Bool.{_||_};
-ghost use Prim.Native.Nat.{_+_, _*_, _≤_, _<_, max};
-ghost use lib.Dec.{leb};
+ghost use Prim.Native.Nat.{_+_, _*_, _≤_, _<_};
 ghost use lib.ListN.{length};
 ghost use Rattle.buffer.specs.Wrote.{Wrote, inFront};
 ghost use Rattle.job.specs.Job.{shotCount, placeOf, numbersOf};
 ghost use Rattle.job.specs.Checking.{firstOf};
 ghost use Rattle.vox_chunks.specs.Chunks.{mismatched};
-ghost use Rattle.vox.specs.Vox.{unmarked, unfilled, sideOn, wrongSide, largestSide, voxelCount, voxelAt, beyond, wrongVoxel, firstWrong, voxels, overrunFrom, openingTests, voxelTests, voxTests, VoxCall};
+ghost use Rattle.vox_voxels.specs.Voxels.{voxelAt};
+ghost use Rattle.vox.specs.Vox.{unmarked, unfilled, voxelCount, voxels, overrunFrom, openingTests, voxelTests, voxTests, VoxCall};
 
 // The mark with which a file opens, and the names of the chunks that it must have.
 const MARK: [u8; 4] = *b"VOX ";
@@ -35,12 +37,10 @@ const XYZI: [u8; 4] = *b"XYZI";
 // The version that stands after the mark.
 const VERSION: u32 = 150;
 
-// Where the chunks stand, and in them the sides, the count and the voxels.
+// Where the chunks stand, and in XYZI the count and the voxels.
 const MAIN_AT: usize = 8;
 
 const SIZE_AT: usize = 20;
-
-const SIDES_AT: usize = 32;
 
 const XYZI_AT: usize = 44;
 
@@ -74,38 +74,6 @@ fn is_unfilled(bytes: &[u8]) -> bool
     after_chunk(bytes, MAIN_AT) != bytes.len()
 }
 
-// The side of SIZE, at 20, on an axis.
-fn side(bytes: &[u8], axis: usize) -> u32
-    requires { ⌜ 44 ≤ length (now bytes) ⌝ }
-    requires { ⌜ axis < 3 ⌝ }
-    ensures { λ r. ⌜ r ≡ sideOn (now (bytes .entry)) axis ⌝ }
-{
-    number(bytes, SIDES_AT + 4 * axis)
-}
-
-fn is_wrong_side(bytes: &[u8], axis: usize) -> bool
-    requires { ⌜ 44 ≤ length (now bytes) ⌝ }
-    requires { ⌜ axis < 3 ⌝ }
-    ensures { λ r. ⌜ r ≡ wrongSide (now (bytes .entry)) axis ⌝ }
-{
-    let a = side(bytes, axis);
-    a < 1 || 256 < a
-}
-
-// Whether some side of SIZE is not 1 to 256.
-fn has_wrong_side(bytes: &[u8]) -> bool
-    requires { ⌜ 44 ≤ length (now bytes) ⌝ }
-    ensures { λ r. ⌜ r ≡ wrongSide (now (bytes .entry)) 0 || (wrongSide (now (bytes .entry)) 1 || wrongSide (now (bytes .entry)) 2) ⌝ }
-{
-    if is_wrong_side(bytes, 0) {
-        return true;
-    }
-    if is_wrong_side(bytes, 1) {
-        return true;
-    }
-    is_wrong_side(bytes, 2)
-}
-
 // Checks the mark, MAIN and SIZE.
 fn check_opening(bytes: &[u8]) -> Checked
     ensures { λ r. ⌜ r ≡ firstOf (openingTests (now (bytes .entry))) ⌝ }
@@ -129,55 +97,6 @@ fn check_opening(bytes: &[u8]) -> Checked
         return Checked::Refused(Refusal::VoxelRange { at: SIZE_AT });
     }
     Checked::Accepted
-}
-
-// Whether a coordinate is not below a side.
-fn reaches(a: u8, side: u32) -> bool
-    ensures { λ r. ⌜ r ≡ leb side a ⌝ }
-{
-    side <= (a as u32)
-}
-
-// Whether voxel n is outside SIZE on an axis.
-fn is_beyond(bytes: &[u8], n: usize, axis: usize) -> bool
-    requires { ⌜ voxelAt n + 4 ≤ length (now bytes) ⌝ }
-    requires { ⌜ axis < 3 ⌝ }
-    ensures { λ r. ⌜ r ≡ beyond (now (bytes .entry)) n axis ⌝ }
-{
-    let side = side(bytes, axis);
-    reaches(bytes[VOXELS_AT + 4 * n + axis], side)
-}
-
-// Whether voxel n is outside SIZE or has colour 0.
-fn is_wrong_voxel(bytes: &[u8], n: usize) -> bool
-    requires { ⌜ voxelAt n + 4 ≤ length (now bytes) ⌝ }
-    ensures { λ r. ⌜ r ≡ wrongVoxel (now (bytes .entry)) n ⌝ }
-{
-    if is_beyond(bytes, n, 0) {
-        return true;
-    }
-    if is_beyond(bytes, n, 1) {
-        return true;
-    }
-    if is_beyond(bytes, n, 2) {
-        return true;
-    }
-    bytes[VOXELS_AT + 4 * n + 3] == 0
-}
-
-// The first such voxel of so many, or their number.
-fn first_wrong(bytes: &[u8], count: usize) -> usize
-    requires { ⌜ voxelAt count ≤ length (now bytes) ⌝ }
-    ensures { λ r. ⌜ r ≡ firstWrong (now (bytes .entry)) 0 count ⌝ }
-{
-    let mut n = 0;
-    while n < count {
-        if is_wrong_voxel(bytes, n) {
-            return n;
-        }
-        n += 1;
-    }
-    n
 }
 
 // The first chunk from a place on that the file ends in, or where the last one ends.
@@ -245,25 +164,6 @@ fn check_file(bytes: &[u8], places: usize) -> Checked
         Checked::Refused(refusal) => Checked::Refused(refusal),
         Checked::Accepted => check_voxels(bytes, places),
     }
-}
-
-fn larger(a: u32, b: u32) -> u32
-    ensures { λ r. ⌜ r ≡ max a b ⌝ }
-{
-    if a <= b {
-        return b;
-    }
-    a
-}
-
-// The largest side of SIZE.
-fn largest_side(bytes: &[u8]) -> u16
-    requires { ⌜ 44 ≤ length (now bytes) ⌝ }
-    requires { ⌜ largestSide (now bytes) ≤ 256 ⌝ }
-    ensures { λ r. ⌜ r ≡ largestSide (now (bytes .entry)) ⌝ }
-{
-    let widest = larger(side(bytes, 0), side(bytes, 1));
-    larger(widest, side(bytes, 2)) as u16
 }
 
 // Stores a voxel as shot n.

@@ -1,5 +1,5 @@
 -- The file is read, and the cells of the list that it holds are credited.
-use Rattle.quoting.proofs.TextLaws.{list-there}
+use Rattle.quoting_text.proofs.TextLaws.{list-there}
 use Rattle.crediting_text.proofs.TextLaws.{file-uncredited, file-credited}
 use borrow.Author.Needs.{needs}
 use Rattle.crediting_text.proofs.credit_file.Statement.{statement}

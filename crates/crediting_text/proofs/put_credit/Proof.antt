@@ -1,7 +1,7 @@
 -- The number, a space, the credit and the end of the line follow one another.
 use native.Mathlib.Omega.{arith}
 use Rattle.buffer.proofs.WroteLaws.{wrote-then}
-use Rattle.text_report.proofs.LineLaws.{digits-length}
+use Rattle.text_parts.proofs.LineLaws.{digits-length}
 use borrow.Author.Needs.{needs}
 use Rattle.crediting_text.proofs.put_credit.Statement.{statement}
 use Rattle.crediting_text.proofs.put_credit.Tie as tie

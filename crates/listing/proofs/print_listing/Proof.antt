@@ -3,7 +3,7 @@ use mathlib.Core.Path.{sym}
 use Prim.Native.Nat.{_*_}
 use native.Mathlib.Omega.{arith}
 use lib.Seq.{length-take-le}
-use Rattle.quoting.proofs.ListingLaws.{listed-fits}
+use Rattle.listing_file.proofs.ListingLaws.{listed-fits}
 use borrow.Author.Needs.{needs}
 use Rattle.listing.proofs.print_listing.Statement.{statement}
 use Rattle.listing.proofs.print_listing.Tie as tie

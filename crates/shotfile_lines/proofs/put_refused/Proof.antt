@@ -2,7 +2,7 @@
 use mathlib.Core.Path.{ap, ap₂}
 use native.Mathlib.Omega.{arith}
 use Rattle.buffer.proofs.WroteLaws.{wrote-then, wrote-as}
-use Rattle.text_report.specs.Text.{text}
+use Rattle.text_parts.specs.Text.{text}
 use Rattle.text_wording.proofs.SentenceLaws.{sentence-length}
 use Rattle.shotfile_lines.specs.Lines.{labelled, placeText, refusedLine}
 use Rattle.shotfile_lines.proofs.LineLaws.{labelled-length, place-length}

@@ -2,7 +2,7 @@
 use Prim.Native.Nat.{_/_, _%_}
 use native.Mathlib.Omega.{arith}
 use Rattle.buffer.proofs.WroteLaws.{wrote-then}
-use Rattle.text_report.specs.Text.{text}
+use Rattle.text_parts.specs.Text.{text}
 use Rattle.shotfile_lines.specs.Lines.{settings}
 use Rattle.shotfile_lines.proofs.LineLaws.{setting-length, settings-few}
 use borrow.Author.Needs.{needs}

@@ -1,7 +1,7 @@
 -- The labels with their values and the end of the line follow one another.
 use native.Mathlib.Omega.{arith}
 use Rattle.buffer.proofs.WroteLaws.{wrote-then}
-use Rattle.text_report.specs.Text.{text}
+use Rattle.text_parts.specs.Text.{text}
 use Rattle.shotfile_lines.specs.Lines.{shotLine}
 use Rattle.shotfile_lines.proofs.LineLaws.{labelled-length}
 use borrow.Author.Needs.{needs}

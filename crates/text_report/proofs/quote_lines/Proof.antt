@@ -1,7 +1,7 @@
 -- The five lines follow one another, and each is at most 22 longer than its word.
 use native.Mathlib.Omega.{arith}
 use Rattle.buffer.proofs.WroteLaws.{wrote-then}
-use Rattle.text_report.proofs.LineLaws.{line-length}
+use Rattle.text_parts.proofs.LineLaws.{line-length}
 use Rattle.text_report.specs.Lines.{quoteLines, volumeWord, areaWord, edgeWord, innerWord}
 use borrow.Author.Needs.{needs}
 use Rattle.text_report.proofs.quote_lines.Statement.{statement}

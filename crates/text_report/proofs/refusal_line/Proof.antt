@@ -1,7 +1,7 @@
 -- The word and the two numbers follow one another, split by spaces; neither number has more than 20 digits.
 use native.Mathlib.Omega.{arith}
 use Rattle.buffer.proofs.WroteLaws.{wrote-then}
-use Rattle.text_report.proofs.LineLaws.{digits-length}
+use Rattle.text_parts.proofs.LineLaws.{digits-length}
 use Rattle.text_report.specs.Lines.{refusalLine}
 use borrow.Author.Needs.{needs}
 use Rattle.text_report.proofs.refusal_line.Statement.{statement}

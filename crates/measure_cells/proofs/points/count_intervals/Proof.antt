@@ -8,7 +8,8 @@ use Rattle.lattice.specs.Pattern.{around}
 use Rattle.lattice.specs.Shots.{cells}
 use Rattle.job.specs.Job.{shotsOf}
 use Rattle.grid.proofs.ShotLaws.{width-times}
-use Rattle.measure_cells.specs.Points.{plus, lineTo}
+use Rattle.measure_tallies.specs.Tallies.{plus}
+use Rattle.measure_cells.specs.Points.{lineTo}
 use Rattle.measure_cells.proofs.SumLaws.{points-low}
 use Rattle.measure_cells.proofs.PointLaws.{interval-fits, interval-between, intervals-none, intervals-turn}
 use Rattle.measure_cells.proofs.points.count_intervals.Statement.{statement}

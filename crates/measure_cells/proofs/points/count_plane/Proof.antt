@@ -6,7 +6,8 @@ use lib.ListN.{length}
 use borrow.Author.Needs.{needs}
 use Rattle.lattice.specs.Shots.{cells}
 use Rattle.job.specs.Job.{shotsOf}
-use Rattle.measure_cells.specs.Points.{plus, lineTo, planeTo}
+use Rattle.measure_tallies.specs.Tallies.{plus}
+use Rattle.measure_cells.specs.Points.{lineTo, planeTo}
 use Rattle.measure_cells.proofs.SumLaws.{sums-none, sums-turn, plane-low}
 use Rattle.measure_cells.proofs.points.count_plane.Statement.{statement}
 use Rattle.measure_cells.proofs.points.count_plane.Tie as tie

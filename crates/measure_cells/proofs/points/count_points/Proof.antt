@@ -5,7 +5,8 @@ use native.Mathlib.Omega.{arith}
 use borrow.Author.Needs.{needs}
 use Rattle.lattice.specs.Pattern.{around}
 use Rattle.grid_cover.specs.Cover.{runCovers}
-use Rattle.measure_cells.specs.Points.{atPattern, plus, lineFrom, quad}
+use Rattle.measure_tallies.specs.Tallies.{atPattern, plus}
+use Rattle.measure_cells.specs.Points.{lineFrom, quad}
 use Rattle.measure_cells.proofs.SumLaws.{sums-none, points-low}
 use Rattle.measure_cells.proofs.PointLaws.{points-start, points-next, points-turn}
 use Rattle.measure_cells.proofs.points.count_points.Statement.{statement}

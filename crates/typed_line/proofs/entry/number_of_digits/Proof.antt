@@ -6,7 +6,7 @@ use native.Mathlib.Omega.{arith}
 use lib.ListN.{length, drop, getD}
 use borrow.Author.Needs.{needs}
 use Rattle.typed_line.specs.Words.{before}
-use Rattle.text_report.specs.Lines.{valueFrom}
+use Rattle.text_parts.specs.Decimal.{valueFrom}
 use Rattle.typed_line.specs.Entries.{digitsOnly}
 use Rattle.typed_line.proofs.Numbers.{digit-range, digits-all, value-least, value-on, value-end, number-large, number-is}
 use Rattle.typed_line.proofs.entry.number_of_digits.Statement.{statement}

@@ -1,0 +1,27 @@
+-- One store after another.
+use native.Mathlib.Omega.{arith}
+use lib.ListN.{length-set}
+use Rattle.capi_answers.proofs.StoreLaws.{three-stored}
+use borrow.Author.Needs.{needs}
+use Rattle.capi_answers.proofs.put_length.Statement.{statement}
+use Rattle.capi_answers.proofs.put_length.Tie as tie
+
+slice-write-answer : tie.Need-slice-write-answer
+slice-write-answer c = search needs
+
+slice-write-answer-2 : tie.Need-slice-write-answer-2
+slice-write-answer-2 c = simp length-set (omega arith)
+
+slice-write-answer-3 : tie.Need-slice-write-answer-3
+slice-write-answer-3 c = simp length-set (omega arith)
+
+same-length : tie.Need-same-length
+same-length c = search needs
+
+returns : tie.Need-returns
+returns c = three-stored (c .args .answer .now) (c .args .number) (c .args .detail) (c .args .bytes) (c .pre)
+
+pub put-length-spec : {M : Type 1} → statement M
+put-length-spec =
+    tie.close
+    (tie.spec slice-write-answer slice-write-answer-2 slice-write-answer-3 same-length returns)

@@ -1,0 +1,47 @@
+-- What the quoting program prints for a shot file, and what is in the lent slices then: docs/SCOPE.md, the end of 'Jobs with known totals'.
+use mathlib.Core.Path.{_≡_}
+use mathlib.Core.List.{List}
+use Prim.Native.Nat.{ℕ}
+use lib.ListN.{length}
+use Rattle.buffer.specs.Wrote.{Wrote}
+use Rattle.job.specs.Job.{jobOf, shotCount}
+use Rattle.job.specs.Refusals.{numberOf, detailOf}
+use Rattle.job.specs.declared.Refusal.{Refusal}
+use Rattle.shotfile.specs.Files.{File, file, refused, fileIn}
+use Rattle.shotfile.specs.Calls.{readCoords}
+use Rattle.measure_intake.specs.Intake.{measureAnswer, workAfter}
+use Rattle.measure_intake.specs.declared.Measured.{Measured}
+use Rattle.measure_intake.specs.declared.Measured.the-variants.{Quote, Refused}
+use Rattle.text_report.specs.Lines.{quoteLines, refusalLine}
+
+-- a refusal prints only its number and detail
+abbrev pub refusalText : Refusal → List ℕ
+refusalText r = refusalLine (numberOf r) (detailOf r)
+
+unfoldable pub answerText : Measured → List ℕ
+answerText (Quote t) = quoteLines t
+answerText (Refused r) = refusalText r
+
+-- the file is read, and the list that it holds is measured
+abbrev pub measuredFile : File → ℕ → Measured
+measuredFile (file f coords) entries = measureAnswer (jobOf (f .first) (f .second) (f .third) coords) entries
+measuredFile (refused r) entries = Refused r
+
+abbrev pub quotedText : File → ℕ → List ℕ
+quotedText f entries = answerText (measuredFile f entries)
+
+-- with places for so many shots, and so many work entries
+unfoldable pub quoteText : List ℕ → ℕ → ℕ → List ℕ
+quoteText bytes places entries = quotedText (fileIn places bytes) entries
+
+-- the work slice then: the index of the list, if neither the file nor the list is refused
+abbrev pub indexAfter : File → List ℕ → List ℕ
+indexAfter (file f coords) work = workAfter (jobOf (f .first) (f .second) (f .third) coords) work
+indexAfter (refused r) work = work
+
+-- ---- the promise
+-- quoting a file: the text at the front, its coordinates and the index. A refused file leaves both slices as they were.
+pub record FileQuoted (bytes coords work out : List ℕ) (r : ℕ) (coords' work' out' : List ℕ) : Type 0 where
+  pub text : Wrote out out' 0 r (quoteText bytes (shotCount coords) (length work))
+  pub coordinates : coords' ≡ readCoords (fileIn (shotCount coords) bytes) coords
+  pub index : work' ≡ indexAfter (fileIn (shotCount coords) bytes) work
