@@ -5,8 +5,8 @@ use Prim.Native.Nat.{ℕ}
 use lib.ListN.{length}
 use Rattle.buffer.specs.Wrote.{Wrote}
 use Rattle.job.specs.Job.{jobOf, shotCount}
-use Rattle.job.specs.Refusals.{numberOf, detailOf}
-use Rattle.job.specs.declared.Refusal.{Refusal}
+use Rattle.refusals.specs.Refusals.{numberOf, detailOf}
+use Rattle.refusals.specs.declared.Refusal.{Refusal}
 use Rattle.shotfile.specs.Files.{File, file, refused, fileIn}
 use Rattle.shotfile.specs.Calls.{readCoords}
 use Rattle.measure_intake.specs.Intake.{measureAnswer, workAfter}

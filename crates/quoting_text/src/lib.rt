@@ -5,15 +5,16 @@ ghost use Prim.Native.Nat.{_≤_};
 ghost use lib.ListN.{length};
 ghost use Rattle.buffer.specs.Wrote.{Wrote};
 ghost use Rattle.quoting_text.specs.Quoting.{refusalText, answerText};
-use job::Refusal;
 use measure_intake::Measured;
+use refusals::Refusal;
 
 // Puts the line of a refusal to the front.
 pub fn refuse(out: &mut [u8], refusal: Refusal) -> usize
     requires { ⌜ 128 ≤ length (now out) ⌝ }
     ensures { λ r. ⌜ Wrote (now (out .entry)) (now (out .exit)) 0 r (refusalText refusal) ⌝ }
 {
-    text_report::refusal_line(out, job::number(refusal), job::detail(refusal))
+    let told = refusals::notice_of(refusal);
+    text_report::refusal_line(out, told.number, told.detail)
 }
 
 // Puts what is printed for an answer to the front.

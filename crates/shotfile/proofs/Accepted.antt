@@ -8,17 +8,17 @@ use native.Mathlib.Omega.{arith}
 use lib.ListN.{length, drop, length-append, length-drop}
 use lib.Seq.{take-at}
 use Rattle.buffer.specs.Wrote.{inFront}
-use Rattle.job.specs.declared.Refusal.{Refusal}
-use Rattle.job.specs.declared.Checked.{Checked}
-use Rattle.job.specs.declared.Checked.the-variants.{Accepted, Refused as Turned}
+use Rattle.refusals.specs.declared.Refusal.{Refusal}
+use Rattle.refusals.specs.declared.Checked.{Checked}
+use Rattle.refusals.specs.declared.Checked.the-variants.{Accepted, Refused as Turned}
 use Rattle.job.specs.Job.{Job, shotCount, placeOf, firstShots, Valid}
-use Rattle.job.specs.Checking.{firstOf}
+use Rattle.refusals.specs.Tests.{ifAccepted, firstOf}
 use Rattle.shotfile.specs.declared.reader.ReadAnswer.{ReadAnswer}
 use Rattle.shotfile.specs.declared.reader.ReadAnswer.the-variants.{Read, Refused as Unread}
 use Rattle.shotfile.specs.declared.writer.WriteAnswer.{WriteAnswer}
 use Rattle.shotfile.specs.declared.writer.WriteAnswer.the-variants.{Written, Refused as Unwritten}
 use Rattle.shotfile.specs.Files.{settingFields, File, file, refused, fileIn, fileOf}
-use Rattle.shotfile.specs.Calls.{readAnswer, readCoords, ReadCall, writeTests, ifWritten, writeAnswer, writeBytes, WriteCall}
+use Rattle.shotfile.specs.Calls.{readAnswer, readCoords, ReadCall, writeTests, writeAnswer, writeBytes, WriteCall}
 use Rattle.shotfile.proofs.Coords.{places-fit}
 use Rattle.shotfile.proofs.ShotsRead.{reads-whole, reads-room}
 use Rattle.shotfile.proofs.Shortest.{file-parts}
@@ -107,7 +107,7 @@ pub accepted-list : {job : Job} {before after : List ℕ} {w : WriteAnswer} → 
 unfolding writeAnswer writeBytes
 accepted-list {job} {before} {after} c {n} e = go (firstOf (writeTests job (length before))) refl (sym (c .answer) ∙ e)
   where
-    go : (k : Checked) → firstOf (writeTests job (length before)) ≡ k → ifWritten k Unwritten (Written (length (fileOf job))) ≡ Written n
+    go : (k : Checked) → firstOf (writeTests job (length before)) ≡ k → ifAccepted k Unwritten (Written (length (fileOf job))) ≡ Written n
         → AcceptedList job before n after
     go (Turned r) q e = let z : _≡_ {A = ℕ} 0 1 = cc in absurd (omega arith)
     go Accepted q e =
@@ -117,5 +117,5 @@ accepted-list {job} {before} {after} c {n} e = go (firstOf (writeTests job (leng
           valid = v;
           long = sym m;
           room = r;
-          leaves = c .file ∙ ap (λ (k : Checked). ifWritten k (λ r. before) (inFront (fileOf job) before)) q;
+          leaves = c .file ∙ ap (λ (k : Checked). ifAccepted k (λ r. before) (inFront (fileOf job) before)) q;
         }

@@ -1,23 +1,23 @@
 -- Each refusal of `read` and `write` is given if its condition holds and no earlier one does, and never otherwise; a call accepts exactly
 -- where none of its conditions holds. Stated of the definitions, and of the calls by their contracts. Assumes nothing.
 use mathlib.Core.Path.{_≡_, sym, ap, _∙_}
-use mathlib.Core.List.{List, [], _∷_, _++_}
+use mathlib.Core.List.{List}
 use mathlib.Core.Logic.{_↔_}
-use Prim.Native.Nat.{ℕ, _<_}
+use Prim.Native.Nat.{ℕ}
 use native.Mathlib.Omega.{arith}
 use lib.ListN.{length}
-use Rattle.job.specs.declared.Refusal.{Refusal}
-use Rattle.job.specs.declared.Checked.{Checked}
-use Rattle.job.specs.declared.Checked.the-variants.{Accepted, Refused as Turned}
+use Rattle.refusals.specs.declared.Refusal.{Refusal}
+use Rattle.refusals.specs.declared.Checked.{Checked}
+use Rattle.refusals.specs.declared.Checked.the-variants.{Accepted, Refused as Turned}
 use Rattle.job.specs.Job.{Job, shotCount}
-use Rattle.job.specs.Checking.{firstOf}
+use Rattle.refusals.specs.Tests.{ifAccepted, firstOf}
 use Rattle.shotfile_records.specs.declared.Fields.{Fields}
 use Rattle.shotfile.specs.declared.reader.ReadAnswer.{ReadAnswer}
 use Rattle.shotfile.specs.declared.reader.ReadAnswer.the-variants.{Read, Refused as Unread}
 use Rattle.shotfile.specs.declared.writer.WriteAnswer.{WriteAnswer}
 use Rattle.shotfile.specs.declared.writer.WriteAnswer.the-variants.{Written, Refused as Unwritten}
 use Rattle.shotfile.specs.Files.{file, refused, fileIn, fileOf}
-use Rattle.shotfile.specs.Calls.{readAnswer, ReadCall, longFile, writeTests, ifWritten, writeAnswer, WriteCall}
+use Rattle.shotfile.specs.Calls.{readAnswer, ReadCall, writeTests, writeAnswer, WriteCall}
 use Rattle.shotfile.specs.Conditions.{FirstFault, Faultless, WriteAccepts, WriteRefuses}
 use Rattle.shotfile.proofs.Faults.{Outcome, accepted, turned-down, outcome, first-fault-one}
 use Rattle.shotfile.proofs.Writing.{write-decides}
@@ -77,10 +77,10 @@ module _ {job : Job} {before after : List ℕ} {w : WriteAnswer} (c : WriteCall 
   unfolding writeAnswer
   write-refuses r = (
     λ e. write-decides job (length before) .refused r .0 (stopped (firstOf (writeTests job (length before))) (sym (c .answer) ∙ e)),
-    λ h. c .answer ∙ ap (λ (k : Checked). ifWritten k Unwritten (Written (length (fileOf job)))) (write-decides job (length before) .refused r .1 h),
+    λ h. c .answer ∙ ap (λ (k : Checked). ifAccepted k Unwritten (Written (length (fileOf job)))) (write-decides job (length before) .refused r .1 h),
   )
     where
-      stopped : (k : Checked) → ifWritten k Unwritten (Written (length (fileOf job))) ≡ Unwritten r → k ≡ Turned r
+      stopped : (k : Checked) → ifAccepted k Unwritten (Written (length (fileOf job))) ≡ Unwritten r → k ≡ Turned r
       stopped Accepted e = let z : _≡_ {A = ℕ} 0 1 = cc in absurd (omega arith)
       stopped (Turned q) e = let same : q ≡ r = cc in ap Turned same
 
@@ -89,5 +89,5 @@ module _ {job : Job} {before after : List ℕ} {w : WriteAnswer} (c : WriteCall 
   unfolding writeAnswer
   write-accepts = (
     λ h. let a = accepted-list c (h .1) in (a .valid, a .room),
-    λ h. (length (fileOf job), c .answer ∙ ap (λ (k : Checked). ifWritten k Unwritten (Written (length (fileOf job)))) (write-decides job (length before) .accepted .1 h)),
+    λ h. (length (fileOf job), c .answer ∙ ap (λ (k : Checked). ifAccepted k Unwritten (Written (length (fileOf job)))) (write-decides job (length before) .accepted .1 h)),
   )

@@ -1,15 +1,15 @@
 -- When `read` and `write` refuse, in words of numbers: docs/SCOPE.md, 'When a job is refused', 2 to 5 and 12.
-use mathlib.Core.Path.{_≡_}
 use mathlib.Core.List.{List}
 use mathlib.Core.Logic.{_⊎_}
 use Prim.Native.Nat.{ℕ, suc, _≤_, _<_}
 use lib.ListN.{length, getD}
-use Rattle.job.specs.declared.Refusal.{Refusal}
-use Rattle.job.specs.declared.Refusal.the-variants.{TooManyShots, NoPlace, UnknownBit, CutShort, ShortFile}
-use Rattle.job.specs.Refusals.{numberOf}
+use Rattle.refusals.specs.declared.Refusal.{Refusal}
+use Rattle.refusals.specs.declared.Refusal.the-variants.{TooManyShots, NoPlace, UnknownBit, CutShort, ShortFile}
+use Rattle.refusals.specs.Refusals.{numberOf}
 use Rattle.job.specs.Job.{Job, Valid}
 use Rattle.job.specs.Checking.{tests}
-use Rattle.job.specs.Conditions.{Condition, First}
+use Rattle.job.specs.Conditions.{Condition}
+use Rattle.refusals.specs.Deciding.{Gives, First}
 use Rattle.shotfile_records.specs.declared.Fields.{Fields}
 use Rattle.shotfile_records.specs.Records.{headerAbsent, firstAbsent, endAt, fieldsAt}
 use Rattle.shotfile.specs.Files.{fileOf}
@@ -60,4 +60,4 @@ WriteAccepts job room = Valid job × (length (fileOf job) ≤ room)
 abbrev pub WriteRefuses : Job → ℕ → Refusal → Type 0
 WriteRefuses job room r =
     First (Condition job) (tests job) r
-    ⊎ (Valid job × (room < length (fileOf job)) × (ShortFile (length (fileOf job)) ≡ r))
+    ⊎ (Valid job × Gives (room < length (fileOf job)) (ShortFile (length (fileOf job))) r)

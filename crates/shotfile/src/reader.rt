@@ -1,6 +1,6 @@
 // Reading a shot file: a cursor takes one record and goes on to the next from there; the file is checked whole before anything is stored.
 // docs/SCOPE.md, 'Shot file'.
-use job::Refusal;
+use refusals::Refusal;
 use shotfile_records::Fields;
 use shotfile_records::Taken;
 use shotfile_records::first_absent;

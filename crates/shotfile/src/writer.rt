@@ -1,6 +1,6 @@
 // Writing a shot file in its shortest form. docs/SCOPE.md, 'Shot file' and 'When a job is refused'.
-use job::Checked;
-use job::Refusal;
+use refusals::Checked;
+use refusals::Refusal;
 use shotfile_records::Fields;
 use shotfile_records::first_absent;
 use shotfile_records::header_absent;

@@ -9,9 +9,9 @@ use lib.ListN.{length, getD}
 use Rattle.buffer.specs.Wrote.{Wrote}
 use Rattle.job.specs.Job.{jobOf, shotCount}
 use Rattle.job.specs.Checking.{checked}
-use Rattle.job.specs.declared.Checked.{Checked}
-use Rattle.job.specs.declared.Checked.the-variants.{Accepted, Refused as Turned}
-use Rattle.job.specs.declared.Refusal.the-variants.{TooManyShots}
+use Rattle.refusals.specs.declared.Checked.{Checked}
+use Rattle.refusals.specs.declared.Checked.the-variants.{Accepted, Refused as Turned}
+use Rattle.refusals.specs.declared.Refusal.the-variants.{TooManyShots}
 use Rattle.shotfile_records.specs.declared.Taken.{Taken}
 use Rattle.shotfile_records.specs.declared.Taken.the-variants.{Whole, Refused}
 use Rattle.shotfile.specs.declared.reader.Cursor.{Cursor}

@@ -1,8 +1,8 @@
 // A shot file as plain text, one record a line, put into a lent slice: what the program `shots` prints. The settings, the shots with their
 // numbers and places, and, at the end, why the file or its list is refused, if it is. specs/Text.antt says what the text is.
 // Stands on `shotfile_lines`, which has the single lines, on `shotfile`, `shotfile_records` and `job`, and on `buffer`.
-use job::Checked;
-use job::Refusal;
+use refusals::Checked;
+use refusals::Refusal;
 use shotfile::Cursor;
 use shotfile::ReadAnswer;
 use shotfile::Step;

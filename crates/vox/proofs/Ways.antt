@@ -7,12 +7,12 @@ use native.Mathlib.Omega.{arith}
 use lib.Dec.{leb, ltb, eqb}
 use lib.ListN.{length}
 use borrow.Author.Tests.{eqb-true, lt-ltb, le-ltb}
-use Rattle.job.specs.declared.Refusal.the-variants.{TooManyShots, NoPlace, BrokenChunk, VoxelRange}
-use Rattle.job.specs.declared.Checked.{Checked}
-use Rattle.job.specs.declared.Checked.the-variants.{Accepted, Refused}
-use Rattle.job.specs.Checking.{firstOf}
+use Rattle.refusals.specs.declared.Refusal.the-variants.{TooManyShots, NoPlace, BrokenChunk, VoxelRange}
+use Rattle.refusals.specs.declared.Checked.{Checked}
+use Rattle.refusals.specs.declared.Checked.the-variants.{Accepted, Refused}
+use Rattle.refusals.specs.Tests.{firstOf}
 use Rattle.job.proofs.Tests.{or-first, or-second, or-true-right}
-use Rattle.job.proofs.Places.{first-here, first-next, first-none}
+use Rattle.refusals.proofs.FirstOf.{first-here, first-next, first-none}
 use Rattle.text_parts.specs.Text.{text}
 use Rattle.vox_chunks.specs.Chunks.{numberAt, stands, contentAt, childrenAt, afterChunk, missing, overruns, mismatched}
 use Rattle.vox_chunks.proofs.ChunkLaws.{differs, agrees}
