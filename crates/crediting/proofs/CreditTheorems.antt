@@ -14,21 +14,22 @@ use lib.Dec.{T, eqb, ltb}
 use lib.ListN.{length, getD, take, drop, List·getD-append}
 use lib.Seq.{drop-at}
 use borrow.Author.Tests.{eqb-true, eq-eqb, ne-eqb, ltb-true, ltb-false}
-use Rattle.lattice.specs.Sums.{total}
-use Rattle.lattice.specs.Cells.{Cells, bit, volume}
+use Rattle.ground.specs.Sums.{total}
+use Rattle.ground.specs.Numbers.{bit}
+use Rattle.lattice.specs.Cells.{Cells, volume}
 use Rattle.lattice.specs.Shots.{Shot, covers, InField}
 use Rattle.lattice.specs.Listing.{listing}
 use Rattle.lattice_sums.specs.CornerSums.{totalsOf}
 use Rattle.lattice_sums.specs.declared.sums.Totals.{Totals}
-use Rattle.lattice.proofs.Cases.{bool-ext}
+use Rattle.ground.proofs.Bools.{bool-ext}
 use Rattle.job.specs.Job.{Job, jobOf, shot, shotCount, Valid}
 use Rattle.job.specs.declared.Refusal.the-variants.{ShortCredits}
 use Rattle.job.specs.declared.Checked.the-variants.{Accepted}
 use Rattle.job.proofs.Conditions.{valid-within}
 use Rattle.job.proofs.Shots.{any-at, at-any, stay-at, stay-all}
 use Rattle.grid.specs.Grid.{need, withIndex, Holds}
-use Rattle.grid.proofs.TotalLaws.{total-agree, total-swap}
-use Rattle.grid.proofs.NumberLaws.{singles-length, singles-at}
+use Rattle.ground.proofs.TotalLaws.{total-agree, total-swap}
+use Rattle.ground.proofs.JoinLaws.{singles-length, singles-at}
 use Rattle.grid_cover.specs.Cover.{isSome, names, lowestCovering}
 use Rattle.grid_cover.proofs.CoverRuns.{lowest-covers}
 use Rattle.grid_cover.proofs.LowestLaws.{lowest-shot, lowest-covering, lowest-least}

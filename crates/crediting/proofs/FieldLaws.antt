@@ -11,13 +11,14 @@ use lib.ListN.{length, getD, drop, set, replicate, length-replicate, getD-replic
 use lib.Seq.{drop-cons, drop-length, set-at}
 use lib.Dec.{ltb}
 use borrow.Author.Tests.{ltb-true, ltb-false}
-use Rattle.lattice.specs.Sums.{total, join}
-use Rattle.lattice.specs.Cells.{Cells, bit, volume}
+use Rattle.ground.specs.Sums.{total, join}
+use Rattle.ground.specs.Numbers.{bit}
+use Rattle.lattice.specs.Cells.{Cells, volume}
 use Rattle.job.specs.Job.{Job, shotCount, Valid}
 use Rattle.grid.specs.Grid.{runOf}
-use Rattle.grid.proofs.TotalLaws.{total-agree, total-most, total-up, total-front, total-swap, total-digits}
-use Rattle.lattice.proofs.JoinLaws.{join-ext}
-use Rattle.grid.proofs.CellLaws.{digit-high, digit-low}
+use Rattle.ground.proofs.TotalLaws.{total-agree, total-most, total-up, total-front, total-swap, total-digits}
+use Rattle.ground.proofs.JoinLaws.{join-ext}
+use Rattle.ground.proofs.Digits.{digit-high, digit-low}
 use Rattle.grid.proofs.ShotLaws.{width-times}
 use Rattle.grid_cover.specs.Cover.{firstCovering, names, lowestCovering}
 use Rattle.grid_cover.proofs.CoverRuns.{Near, run-names}

@@ -4,8 +4,9 @@ use mathlib.Core.Bool.{Bool, true, false}
 use Prim.Native.Nat.{ℕ, zero, suc, _+_, _-_, _*_, _≤_, _<_}
 use native.Mathlib.Nat.{mul-assoc, mul-one, mul-le-mul}
 use native.Mathlib.Omega.{arith}
-use Rattle.lattice.specs.Sums.{total}
-use Rattle.lattice.specs.Cells.{Cells, bit}
+use Rattle.ground.specs.Sums.{total}
+use Rattle.ground.specs.Numbers.{bit}
+use Rattle.lattice.specs.Cells.{Cells}
 use Rattle.crediting_carving.specs.declared.blocks.Span.{Span}
 use Rattle.crediting_carving.specs.declared.blocks.Block.{Block}
 use Rattle.crediting_carving.specs.Blocks.{along, countIn, sizeOf, InSpan, InBlock, spanBefore, spanAfter, partOf}

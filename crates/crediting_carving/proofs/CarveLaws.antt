@@ -10,12 +10,13 @@ use native.Mathlib.Omega.{arith}
 use lib.Dec.{eqb}
 use lib.ListN.{length, getD, take, drop, length-drop}
 use lib.Seq.{take-all}
-use Rattle.lattice.specs.Sums.{total}
-use Rattle.lattice.specs.Cells.{Cells, bit}
+use Rattle.ground.specs.Sums.{total}
+use Rattle.ground.specs.Numbers.{bit}
+use Rattle.lattice.specs.Cells.{Cells}
 use Rattle.job.specs.Job.{shotCount}
 use Rattle.grid_cover.specs.Cover.{firstCovering, names}
 use Rattle.grid_cover.proofs.CoverLaws.{rest-whole, rest-next, rest-found, rest-none}
-use Rattle.grid.proofs.TotalLaws.{total-agree, total-up, total-front}
+use Rattle.ground.proofs.TotalLaws.{total-agree, total-up, total-front}
 use Rattle.crediting_carving.specs.declared.blocks.Span.{Span}
 use Rattle.crediting_carving.specs.declared.blocks.Block.{Block}
 use Rattle.crediting_carving.specs.Blocks.{countIn, sizeOf, creditsIn, added, only, RoomFor, InBlock, Small, Ordered, emptyBlock, meetsBlock, Meets, FirstMeeting, sharedBlock, partOf}

@@ -8,7 +8,7 @@ use lib.Dec.{leb, ltb}
 use borrow.Author.Tests.{le-leb, lt-leb, le-ltb, lt-ltb, leb-true, leb-false, ltb-true}
 use Rattle.lattice.specs.Shots.{spans, covers}
 use Rattle.job.specs.Job.{shotCount, xAt, yAt, zAt, edgeAt, shotAt}
-use Rattle.job.proofs.Tests.{or-false, and-true}
+use Rattle.ground.proofs.Bools.{or-false, and-true}
 use Rattle.grid_cover.specs.Cover.{shotCovers}
 use Rattle.crediting_carving.specs.declared.blocks.Span.{Span}
 use Rattle.crediting_carving.specs.declared.blocks.Block.{Block}

@@ -2,9 +2,8 @@
 use mathlib.Core.Path.{_≡_, ap, _∙_}
 use Prim.Native.Nat.{ℕ, _+_, _-_, _*_, _≤_}
 use native.Mathlib.Omega.{arith}
-use Rattle.lattice.specs.Sums.{total}
-use Rattle.lattice.proofs.SumLaws.{total-plus}
-use Rattle.grid.proofs.TotalLaws.{total-agree, total-append, total-up, total-same}
+use Rattle.ground.specs.Sums.{total}
+use Rattle.ground.proofs.TotalLaws.{total-plus, total-agree, total-append, total-up, total-same}
 use Rattle.crediting_carving.specs.declared.blocks.Span.{Span}
 use Rattle.crediting_carving.specs.Blocks.{along, InSpan, spanBefore, spanAfter}
 

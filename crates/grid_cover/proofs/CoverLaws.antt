@@ -12,7 +12,7 @@ use lib.Seq.{drop-cons, drop-length}
 use borrow.Author.Tests.{le-ltb, lt-ltb, le-leb, lt-leb}
 use Rattle.lattice.specs.Shots.{spans}
 use Rattle.job.specs.Job.{shotCount, xAt, yAt, zAt, edgeAt}
-use Rattle.grid.specs.Numbers.{those}
+use Rattle.ground.specs.Numbers.{those}
 use Rattle.grid_cover.specs.Cover.{shotCovers, first, isSome, firstCovering, runCovers, coveringOf}
 use Rattle.grid_cover.specs.declared.Covering.{Covering}
 use Rattle.grid_cover.specs.declared.Covering.the-variants.{Shot, Nothing}

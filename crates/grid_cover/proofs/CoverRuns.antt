@@ -14,12 +14,11 @@ use Rattle.lattice.specs.Pattern.{around}
 use Rattle.lattice.specs.Shots.{Shot, spans, covers, any, cells}
 use Rattle.job.specs.Job.{Job, shots, shot, shotsOf, shotCount, shotAt, Valid}
 use Rattle.job.proofs.Shots.{any-at, at-any}
-use Rattle.job.proofs.Tests.{or-left, or-right, and-true}
-use Rattle.lattice.proofs.ShotLaws.{or-elim}
-use Rattle.grid.specs.Numbers.{upTo}
+use Rattle.ground.proofs.Bools.{or-left, or-right, and-true, or-elim}
+use Rattle.ground.specs.Numbers.{upTo}
 use Rattle.grid.specs.Grid.{meets, touchesCell, runOf, holding}
 use Rattle.grid_cover.specs.Cover.{shotCovers, first, isSome, firstCovering, lowestCovering, runCovers}
-use Rattle.grid.proofs.CellLaws.{digit-high, digit-low, digits-below}
+use Rattle.ground.proofs.Digits.{digit-high, digit-low, digits-below}
 use Rattle.grid.proofs.ShotLaws.{width-times, width-least}
 use Rattle.grid_cover.proofs.CoverLaws.{first-append, first-among}
 

@@ -9,8 +9,8 @@ use lib.Dec.{ltb}
 use borrow.Author.Tests.{ltb-true, ltb-false, lt-ltb}
 use Rattle.lattice.specs.Shots.{covers}
 use Rattle.job.specs.Job.{shotCount, shotAt}
-use Rattle.job.proofs.Tests.{and-true}
-use Rattle.grid.specs.Numbers.{upTo}
+use Rattle.ground.proofs.Bools.{and-true}
+use Rattle.ground.specs.Numbers.{upTo}
 use Rattle.grid_cover.specs.Cover.{shotCovers, first, firstCovering, lowestCovering}
 
 none-some : {s : ℕ} → _≡_ {A = Option ℕ} none (some s) → ⊥

@@ -9,14 +9,13 @@ use lib.ListN.{length, take, set, length-append}
 use lib.Seq.{take-all, take-append-le}
 use mir.Val.{Fits}
 use mir.Syntax.{w32}
-use Rattle.lattice.specs.Sums.{total, join}
-use Rattle.lattice.specs.Cells.{bit}
+use Rattle.ground.specs.Sums.{total, join}
+use Rattle.ground.specs.Numbers.{bit, upTo, those}
 use Rattle.job.specs.Job.{Job, shot, shotCount, Valid}
-use Rattle.grid.specs.Numbers.{upTo, those}
 use Rattle.grid.specs.Grid.{touchesCell, runOf, starts, indexOf, pairs, need, withIndex}
 use Rattle.grid_filling.specs.Filling.{runPlace, Ready, Grew}
-use Rattle.lattice.proofs.JoinLaws.{length-join}
-use Rattle.grid.proofs.NumberLaws.{upTo-length, those-append}
+use Rattle.ground.proofs.JoinLaws.{length-join}
+use Rattle.ground.proofs.NumberLaws.{upTo-length, those-append}
 use Rattle.grid.proofs.CellLaws.{runs-few}
 use Rattle.grid.proofs.StartLaws.{starts-length}
 use Rattle.grid_filling.proofs.StoreLaws.{runs-in-none, index-whole}

@@ -1,7 +1,4 @@
-pub mod Integers
-pub mod SumLaws
 pub mod ByParts
-pub mod JoinLaws
 pub mod Inside
 pub mod PointSums
 pub mod Cases

@@ -12,12 +12,14 @@ use lib.Dec.{T, eqb, eqb→eq, eqb-refl}
 use lib.IntN.{ℤ, pos, _+ℤ_, _-ℤ_, negℤ, +ℤ-assoc, +ℤ-idl, +ℤ-idr, +ℤ-invr, negℤ-+ℤ, negℤ-negℤ}
 use lib.ListN.{length, getD}
 use lib.Seq.{ext-getD}
-use Rattle.lattice.specs.Sums.{sum, join}
-use Rattle.lattice.specs.Cells.{Cells, Within, below, bit}
+use Rattle.ground.specs.Sums.{sum, join}
+use Rattle.ground.proofs.Bits.{bit-known}
+use Rattle.ground.specs.Numbers.{bit}
+use Rattle.lattice.specs.Cells.{Cells, Within, below}
 use Rattle.lattice.specs.Pattern.{around, byte, corner, w, Term}
 use Rattle.lattice.specs.Listing.{here, corners, listing, bytes, readBack, cornerSum, SameBytes}
-use Rattle.lattice.proofs.SumLaws.{fall, sum-ext, sum-zero}
-use Rattle.lattice.proofs.JoinLaws.{join-ext, join-nil, join-end}
+use Rattle.ground.proofs.SumLaws.{fall, sum-ext, sum-zero}
+use Rattle.ground.proofs.JoinLaws.{join-ext, join-nil, join-end}
 use Rattle.lattice.proofs.Inside.{outside-no-corner}
 use Rattle.lattice.proofs.PatternLaws.{no-corner-zero}
 use Rattle.lattice.proofs.PointSums.{signs-three}
@@ -31,12 +33,6 @@ sub-sub a b = rw (negℤ-+ℤ, negℤ-negℤ, ← +ℤ-assoc a (negℤ a) b, +�
 known-by-falls : (f g : ℕ → ℤ) → f 0 ≡ g 0 → ((x : ℕ) → fall f x ≡ fall g x) → (x : ℕ) → f x ≡ g x
 known-by-falls f g z h zero = z
 known-by-falls f g z h (suc x) = sym (sub-sub (f x) (f (suc x))) ∙ rw (h x, known-by-falls f g z h x) (sub-sub (g x) (g (suc x)))
-
-bit-known : (a b : Bool) → pos (bit a) ≡ pos (bit b) → a ≡ b
-bit-known true true h = refl
-bit-known true false h = let e : _≡_ {A = ℕ} 1 0 = cc in absurd (omega arith)
-bit-known false true h = let e : _≡_ {A = ℕ} 0 1 = cc in absurd (omega arith)
-bit-known false false h = refl
 
 none-y : (s : Cells) (x z : ℕ) → below s x 0 z ≡ false
 none-y s zero z = refl

@@ -1,14 +1,9 @@
--- Sums: they keep sums, differences and factors; summation by parts on one axis.
+-- Sums of signed numbers: they keep sums, differences and factors; summation by parts.
 use mathlib.Core.Path.{_≡_, refl, sym, _∙_, ap, fun-ext}
-use Prim.Native.Nat.{ℕ, zero, suc, _+_, _*_, _≤_}
-use native.Mathlib.Nat.{zero-mul, suc-mul}
-use native.Mathlib.Omega.{arith}
+use Prim.Native.Nat.{ℕ, zero, suc}
 use lib.IntN.{ℤ, pos, _+ℤ_, _-ℤ_, _*ℤ_, negℤ, sucℤ, +ℤ-assoc, +ℤ-idl, +ℤ-idr, negℤ-+ℤ, zero-*ℤ, *ℤ-zero, sucℤ-*ℤ, -ℤ-+ℤ-cancel}
-use Rattle.lattice.specs.Sums.{total, sum}
-use Rattle.lattice.proofs.Integers.{+ℤ·sort, *ℤ-dist}
-
-pub total-ext : (n : ℕ) {f g : ℕ → ℕ} → ((i : ℕ) → f i ≡ g i) → total n f ≡ total n g
-total-ext n h = ap (total n) (fun-ext h)
+use Rattle.ground.specs.Sums.{total, sum}
+use Rattle.ground.proofs.Integers.{+ℤ·sort, *ℤ-dist}
 
 pub sum-ext : (n : ℕ) {f g : ℕ → ℤ} → ((i : ℕ) → f i ≡ g i) → sum n f ≡ sum n g
 sum-ext n h = ap (sum n) (fun-ext h)
@@ -40,25 +35,6 @@ pub sum-zero : (n : ℕ) {f : ℕ → ℤ} → ((i : ℕ) → f i ≡ pos 0) →
 unfolding sum
 sum-zero zero h = refl
 sum-zero (suc n) h = rw (sum-zero n h, h n)
-
-pub total-plus : (n : ℕ) (f g : ℕ → ℕ) → total n (λ i. f i + g i) ≡ total n f + total n g
-unfolding total
-total-plus zero f g = refl
-total-plus (suc n) f g = omega (arith, total-plus n f g)
-
--- three nested totals
-pub totals-plus : (k m l : ℕ) (f g : ℕ → ℕ → ℕ → ℕ)
-    → (total k λ x. total m λ y. total l λ z. f x y z + g x y z) ≡ (total k λ x. total m λ y. total l λ z. f x y z) + (total k λ x. total m λ y. total l λ z. g x y z)
-totals-plus k m l f g =
-    total-ext k (λ x.
-    total-ext m (λ y. total-plus l (f x y) (g x y))
-    ∙ total-plus m (λ y. total l (f x y)) (λ y. total l (g x y)))
-    ∙ total-plus k (λ x. total m λ y. total l (f x y)) (λ x. total m λ y. total l (g x y))
-
-pub total-bound : (m : ℕ) (f : ℕ → ℕ) → ((i : ℕ) → f i ≤ m) → (n : ℕ) → total n f ≤ n * m
-unfolding total
-total-bound m f h zero = omega (arith, zero-mul m)
-total-bound m f h (suc n) = omega (arith, suc-mul n m, total-bound m f h n, h n)
 
 -- the value at a place less the value at the next
 abbrev pub fall : (ℕ → ℤ) → ℕ → ℤ

@@ -1,14 +1,31 @@
--- Totals over 0, 1, .. n - 1: term by term, in either order of two, by digits, and of products.
-use mathlib.Core.Path.{_≡_, refl, sym, ap, _∙_}
+-- Totals over 0, 1, .. n - 1: term by term, in either order of two, by digits, and of products: laws of `total`.
+use mathlib.Core.Path.{_≡_, refl, sym, ap, _∙_, fun-ext}
 use mathlib.Core.Bool.{Bool, true, false, _&&_}
 use Prim.Native.Nat.{ℕ, zero, suc, _+_, _-_, _*_, _≤_, _<_}
-use native.Mathlib.Nat.{zero-mul, suc-mul, mul-zero, mul-add, mul-assoc, mul-comm, one-mul, add-zero, add-suc}
+use native.Mathlib.Nat.{zero-mul, suc-mul, mul-zero, mul-add, mul-assoc, mul-comm, add-zero, add-suc}
 use native.Mathlib.Omega.{arith}
 use lib.Dec.{leb, ltb}
 use borrow.Author.Tests.{lt-ltb, le-ltb, leb-true, leb-false}
-use Rattle.lattice.specs.Sums.{total}
-use Rattle.lattice.specs.Cells.{bit}
-use Rattle.lattice.proofs.SumLaws.{total-plus}
+use Rattle.ground.specs.Sums.{total}
+use Rattle.ground.specs.Numbers.{bit}
+use Rattle.ground.proofs.Bits.{bit-and}
+
+pub total-ext : (n : ℕ) {f g : ℕ → ℕ} → ((i : ℕ) → f i ≡ g i) → total n f ≡ total n g
+total-ext n h = ap (total n) (fun-ext h)
+
+pub total-plus : (n : ℕ) (f g : ℕ → ℕ) → total n (λ i. f i + g i) ≡ total n f + total n g
+unfolding total
+total-plus zero f g = refl
+total-plus (suc n) f g = omega (arith, total-plus n f g)
+
+-- three nested totals
+pub totals-plus : (k m l : ℕ) (f g : ℕ → ℕ → ℕ → ℕ)
+    → (total k λ x. total m λ y. total l λ z. f x y z + g x y z) ≡ (total k λ x. total m λ y. total l λ z. f x y z) + (total k λ x. total m λ y. total l λ z. g x y z)
+totals-plus k m l f g =
+    total-ext k (λ x.
+    total-ext m (λ y. total-plus l (f x y) (g x y))
+    ∙ total-plus m (λ y. total l (f x y)) (λ y. total l (g x y)))
+    ∙ total-plus k (λ x. total m λ y. total l (f x y)) (λ x. total m λ y. total l (g x y))
 
 pub total-agree : (n : ℕ) (f g : ℕ → ℕ) → ((i : ℕ) → i < n → f i ≡ g i) → total n f ≡ total n g
 unfolding total
@@ -30,7 +47,7 @@ unfolding total
 total-same zero k = sym (zero-mul k)
 total-same (suc n) k = omega (arith, total-same n k, suc-mul n k)
 
-total-none : (n : ℕ) → total n (λ i. 0) ≡ 0
+pub total-none : (n : ℕ) → total n (λ i. 0) ≡ 0
 unfolding total
 total-none zero = refl
 total-none (suc n) = omega (arith, total-none n)
@@ -55,17 +72,13 @@ unfolding total
 total-digits zero m f = rw (zero-mul m)
 total-digits (suc n) m f = rw (suc-mul n m) (total-append (n * m) m f ∙ ap (λ (t : ℕ). t + total m (λ j. f (n * m + j))) (total-digits n m f))
 
-total-scale : (n c : ℕ) (f : ℕ → ℕ) → total n (λ i. c * f i) ≡ c * total n f
+pub total-scale : (n c : ℕ) (f : ℕ → ℕ) → total n (λ i. c * f i) ≡ c * total n f
 unfolding total
 total-scale zero c f = sym (mul-zero c)
 total-scale (suc n) c f = rw (total-scale n c f) (sym (mul-add c (total n f) (f n)))
 
-total-scale-right : (n c : ℕ) (f : ℕ → ℕ) → total n (λ i. f i * c) ≡ total n f * c
+pub total-scale-right : (n c : ℕ) (f : ℕ → ℕ) → total n (λ i. f i * c) ≡ total n f * c
 total-scale-right n c f = total-agree n _ _ (λ i l. mul-comm (f i) c) ∙ (total-scale n c f ∙ mul-comm c (total n f))
-
-bit-and : (a b : Bool) → bit (a && b) ≡ bit a * bit b
-bit-and true b = sym (one-mul (bit b))
-bit-and false b = sym (zero-mul (bit b))
 
 -- the triples that pass three tests, one on each
 pub total-triples : (n : ℕ) (p q r : ℕ → Bool) → total n (λ x. total n (λ y. total n (λ z. bit (p x && (q y && r z))))) ≡ total n (λ x. bit (p x)) * total n (λ y. bit (q y)) * total n (λ z. bit (r z))
