@@ -4,6 +4,7 @@ use mathlib.Core.Bool.{Bool, true, false, cond, true≢false}
 use mathlib.Core.Option.{Option, none, some}
 use mathlib.Core.List.{List, [], _∷_}
 use Prim.Native.Nat.{ℕ, zero, suc, _+_, _≤_, _<_}
+use native.Mathlib.Numerals.{add-one}
 use native.Mathlib.Omega.{arith}
 use lib.Dec.{ltb}
 use lib.ListN.{length, getD, drop}
@@ -71,12 +72,15 @@ module _ (e : ℕ) (coords : List ℕ) (run : List ℕ) (i j k : ℕ) where
   abbrev pub RestDecides : ℕ → Type 0
   RestDecides n = firstCovering e coords (drop n run) i j k ≡ firstCovering e coords run i j k
 
-  pub rest-decides : (n : ℕ) → n ≤ length run → ((p : ℕ) → p < n → coversAt p ≡ false) → RestDecides n
+  pub rest-next : (n : ℕ) → n < length run → coversAt n ≡ false → RestDecides n → RestDecides (n + 1)
   unfolding firstCovering first
+  rest-next n h miss rest =
+      let step : firstCovering e coords (drop n run) i j k ≡ firstCovering e coords (drop (suc n) run) i j k = rw (drop-cons run n 0 h, miss) in
+      rw (add-one n) (sym step ∙ rest)
+
+  pub rest-decides : (n : ℕ) → n ≤ length run → ((p : ℕ) → p < n → coversAt p ≡ false) → RestDecides n
   rest-decides zero h miss = refl
-  rest-decides (suc n) h miss =
-      let step : firstCovering e coords (drop n run) i j k ≡ firstCovering e coords (drop (suc n) run) i j k = rw (drop-cons run n 0 h, miss n (omega arith)) in
-      sym step ∙ rest-decides n (omega arith) (λ p l. miss p (omega arith))
+  rest-decides (suc n) h miss = rw (← add-one n) (rest-next n h (miss n (omega arith)) (rest-decides n (omega arith) (λ p l. miss p (omega arith))))
 
   pub rest-found : (n : ℕ) → n < length run → coversAt n ≡ true → RestDecides n → some (getD run n 0) ≡ firstCovering e coords run i j k
   unfolding firstCovering first
