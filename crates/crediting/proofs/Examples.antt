@@ -1,6 +1,6 @@
 -- Two cubes of edge 2 that overlap in one cell, and a cube twice: what each shot is credited with, by computing it.
 use mathlib.Core.Path.{_≡_, refl}
-use mathlib.Core.List.{List, [], _∷_}
+use mathlib.Core.List.{[], _∷_}
 use Rattle.ground.specs.Sums.{total, join}
 use Rattle.lattice.specs.Cells.{volume}
 use Rattle.job.specs.Job.{jobOf}

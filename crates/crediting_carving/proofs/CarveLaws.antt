@@ -11,7 +11,7 @@ use lib.Dec.{eqb}
 use lib.ListN.{length, getD, take, drop, length-drop}
 use lib.Seq.{take-all}
 use Rattle.ground.specs.Sums.{total}
-use Rattle.ground.specs.First.{First}
+use Rattle.ground.specs.FirstPlace.{FirstPlace}
 use Rattle.ground.proofs.Conds.{cond-most}
 use Rattle.job.specs.Job.{shotCount}
 use Rattle.grid_cover.specs.Cover.{firstCovering, names}
@@ -68,7 +68,7 @@ module _ (E : ℕ) (coords run : List ℕ) (b : Block) where
   }
 
   -- one with cells: no shot before the place that a search finds covers one of them
-  pub first-meets : {t : Bool} → t ≡ emptyBlock b → t ≡ false → {n : ℕ} → First meetsAt 0 (length run) n → FirstMeeting E coords run b n
+  pub first-meets : {t : Bool} → t ≡ emptyBlock b → t ≡ false → {n : ℕ} → FirstPlace meetsAt 0 (length run) n → FirstMeeting E coords run b n
   first-meets is e {n} found = record {
     within = found .within;
     rest-decides = λ i j k l. rest-decides E coords run i j k n (found .within) (λ p h. missed-bare E coords (getD run p 0) b i j k l (found .earlier p (omega arith) h));

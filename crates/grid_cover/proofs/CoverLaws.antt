@@ -13,7 +13,7 @@ use borrow.Author.Tests.{le-ltb, lt-ltb, le-leb, lt-leb}
 use Rattle.lattice.specs.Shots.{spans}
 use Rattle.job.specs.Job.{shotCount, xAt, yAt, zAt, edgeAt}
 use Rattle.ground.specs.Numbers.{those}
-use Rattle.ground.specs.First.{First}
+use Rattle.ground.specs.FirstPlace.{FirstPlace}
 use Rattle.grid_cover.specs.Cover.{shotCovers, first, isSome, firstCovering, runCovers, coveringOf}
 use Rattle.grid_cover.specs.declared.Covering.{Covering}
 use Rattle.grid_cover.specs.declared.Covering.the-variants.{Shot, Nothing}
@@ -91,7 +91,7 @@ module _ (e : ℕ) (coords : List ℕ) (run : List ℕ) (i j k : ℕ) where
   rest-none n h rest = rw (← rest, h, drop-length run)
 
   -- what a search of the run finds
-  module _ {n : ℕ} (found : First coversAt 0 (length run) n) where
+  module _ {n : ℕ} (found : FirstPlace coversAt 0 (length run) n) where
     rest : RestDecides n
     rest = rest-decides n (found .within) (λ p l. found .earlier p (omega arith) l)
 

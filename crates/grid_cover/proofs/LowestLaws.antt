@@ -9,7 +9,7 @@ use native.Mathlib.Omega.{arith}
 use lib.Dec.{ltb}
 use borrow.Author.Tests.{lt-ltb}
 use Rattle.ground.specs.Numbers.{anyTo, upTo}
-use Rattle.ground.specs.First.{First}
+use Rattle.ground.specs.FirstPlace.{FirstPlace}
 use Rattle.ground.proofs.Bools.{and-true}
 use Rattle.ground.proofs.AnyLaws.{any-to-none, any-to-true}
 use Rattle.ground.proofs.FirstLaws.{first-none, first-more, first-all}
@@ -34,8 +34,8 @@ module _ (f : ℕ → Bool) where
 
   -- the first of 0, 1, .. n - 1 that passes is the first place that does
   abbrev Lowest : ℕ → Option ℕ → Type 0
-  Lowest n none = First f 0 n n
-  Lowest n (some s) = (s < n) × First f 0 n s
+  Lowest n none = FirstPlace f 0 n n
+  Lowest n (some s) = (s < n) × FirstPlace f 0 n s
 
   first-up : (n : ℕ) → Lowest n (first f (upTo n))
   unfolding upTo first orElse
@@ -57,7 +57,7 @@ module _ (f : ℕ → Bool) where
 -- ---- the lowest covering shot of a list
 
 module _ (E : ℕ) (coords : List ℕ) (i j k s : ℕ) (e : lowestCovering E coords i j k ≡ some s) where
-  lowest : (s < shotCount coords) × First (λ s. shotCovers E coords s i j k) 0 (shotCount coords) s
+  lowest : (s < shotCount coords) × FirstPlace (λ s. shotCovers E coords s i j k) 0 (shotCount coords) s
   unfolding lowestCovering firstCovering
   lowest = subst (Lowest (λ s. shotCovers E coords s i j k) (shotCount coords)) e (first-up (λ s. shotCovers E coords s i j k) (shotCount coords))
 

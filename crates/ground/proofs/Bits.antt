@@ -2,9 +2,10 @@
 use mathlib.Core.Path.{_≡_, refl, sym}
 use mathlib.Core.Bool.{Bool, true, false, cond, _&&_}
 use mathlib.Core.List.{[], _∷_}
-use Prim.Native.Nat.{ℕ, _*_, _≤_}
+use Prim.Native.Nat.{ℕ, zero, suc, _*_, _≤_, _<_}
 use native.Mathlib.Nat.{zero-mul, one-mul}
 use native.Mathlib.Omega.{arith}
+use lib.Dec.{eqb}
 use lib.IntN.{pos}
 use lib.ListN.{length}
 use Rattle.ground.specs.Numbers.{bit}
@@ -16,6 +17,12 @@ bit-most false = omega arith
 pub bit-and : (a b : Bool) → bit (a && b) ≡ bit a * bit b
 bit-and true b = sym (one-mul (bit b))
 bit-and false b = sym (zero-mul (bit b))
+
+-- a number below 2 is a test's
+pub bit-of : (n : ℕ) → n < 2 → n ≡ bit (eqb n 1)
+bit-of zero h = refl
+bit-of (suc zero) h = refl
+bit-of (suc (suc n)) h = absurd (omega arith)
 
 -- the number tells the test
 pub bit-none : (b : Bool) → bit b ≡ 0 → b ≡ false

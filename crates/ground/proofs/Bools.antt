@@ -1,8 +1,9 @@
 -- Bools joined by 'or', 'and' and 'not': what a joined one says of its parts, and back. Assumes nothing.
--- A Bool passes as a type (T b) or as an equation (b ≡ true); the kit turns a negated one round (borrow.Author.Tests: not-true, not-false).
+-- A Bool passes as a type (T b) or as an equation (b ≡ true). A negated one is turned round by the kit (borrow.Author.Tests: not-true, not-false), and
+-- the kit has equations of Bools (mathlib.Core.Bool); its mathlib.Mathlib.Data.Bool.Basic has some of these laws, but brings orders and lattices along.
 use mathlib.Core.Path.{_≡_, refl, sym, ap, _∙_}
 use mathlib.Core.Logic.{_⊎_, inl, inr}
-use mathlib.Core.Bool.{Bool, true, false, not, _&&_, _||_, true≢false, false≢true}
+use mathlib.Core.Bool.{Bool, true, false, not, _&&_, _||_, true≢false, false≢true, and-eq-true-iff}
 use lib.Dec.{T}
 
 -- ---- the two forms
@@ -54,8 +55,7 @@ same-refl {a} e = ap (same a) e ∙ go a
 
 -- ---- 'and'
 pub and-true : (a b : Bool) → a && b ≡ true → (a ≡ true) × (b ≡ true)
-and-true true b h = (refl, h)
-and-true false b h = (h, absurd (false≢true h))
+and-true a b h = and-eq-true-iff a b .0 h
 
 pub and-elim : (a b : Bool) → T (a && b) → T a × T b
 and-elim true b t = (tt, t)

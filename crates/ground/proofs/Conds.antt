@@ -20,11 +20,6 @@ cond-most true n = omega arith
 cond-most false n = omega arith
 
 module _ {A : Type 0} where
-  -- what both give, each gives
-  pub cond-same : (a : Bool) (g : A) → cond a g g ≡ g
-  cond-same true g = refl
-  cond-same false g = refl
-
   -- only what is selected matters
   pub cond-agree : (a : Bool) (g h f : A) → (a ≡ true → g ≡ h) → cond a g f ≡ cond a h f
   cond-agree true g h f e = e refl

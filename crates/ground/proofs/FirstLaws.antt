@@ -6,7 +6,7 @@ use native.Mathlib.Omega.{arith}
 use native.Mathlib.Nat.{le-antisymm}
 use native.Mathlib.Decide.{decLt}
 use borrow.Author.Count.{below-more}
-use Rattle.ground.specs.First.{First}
+use Rattle.ground.specs.FirstPlace.{FirstPlace}
 
 -- the search has come to place r: none before it passes
 pub record NoneBefore (f : ℕ → Bool) (from to r : ℕ) : Type 0 where
@@ -28,18 +28,18 @@ module _ {f : ℕ → Bool} {from to : ℕ} where
           earlier = λ i l k. below-more (λ (i : ℕ). from ≤ i → f i ≡ false) r (λ i k l. none .earlier i l k) (λ l. sym is ∙ e) i k l;
         }
 
-    pub first-all : to ≤ r → First f from to r
+    pub first-all : to ≤ r → FirstPlace f from to r
     first-all h = record { onward = none .onward; within = none .within; earlier = none .earlier; passes = λ l. absurd (omega (arith, h, l)) }
 
     -- or it ends at a place that passes
-    pub first-found : {t : Bool} → t ≡ f r → t ≡ true → First f from to r
+    pub first-found : {t : Bool} → t ≡ f r → t ≡ true → FirstPlace f from to r
     first-found is e = record { onward = none .onward; within = none .within; earlier = none .earlier; passes = λ l. sym is ∙ e }
 
 -- there is one such place, so a search that is said by an equation finds what its definition says
-pub first-unique : {f : ℕ → Bool} {from to r s : ℕ} → First f from to r → First f from to s → r ≡ s
+pub first-unique : {f : ℕ → Bool} {from to r s : ℕ} → FirstPlace f from to r → FirstPlace f from to s → r ≡ s
 first-unique a b = le-antisymm (not-later a b) (not-later b a)
   where
-    not-later : {f : ℕ → Bool} {from to r s : ℕ} → First f from to r → First f from to s → r ≤ s
+    not-later : {f : ℕ → Bool} {from to r s : ℕ} → FirstPlace f from to r → FirstPlace f from to s → r ≤ s
     not-later {r = r} {s = s} a b = go (decLt s r)
       where
         go : Dec (s < r) → r ≤ s

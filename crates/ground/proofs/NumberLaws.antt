@@ -2,16 +2,17 @@
 use mathlib.Core.Path.{_≡_, refl, sym, ap, _∙_}
 use mathlib.Core.Bool.{Bool, true, false, cond, _&&_, _||_, or-assoc, or-true, or-false}
 use mathlib.Core.List.{List, [], _∷_, _++_}
-use Prim.Native.Nat.{ℕ, zero, suc, _+_, _≤_, _<_}
-use native.Mathlib.Nat.{le-refl}
+use Prim.Native.Nat.{ℕ, zero, suc, _+_, _-_, _≤_, _<_}
+use native.Mathlib.Nat.{add-zero, add-suc, le-refl}
 use native.Mathlib.Numerals.{add-one}
 use native.Mathlib.Omega.{arith}
 use lib.Dec.{eqb, ltb}
 use lib.ListN.{length, getD, take, drop, length-append, take-append-drop}
-use lib.Seq.{take-suc}
+use lib.Seq.{take-suc, take-all, take-append-le}
 use borrow.Author.Tests.{ltb-true, ltb-false, eqb-true, eqb-false, lt-ltb, le-ltb, eq-eqb}
-use Rattle.ground.specs.Sums.{join}
-use Rattle.ground.specs.Numbers.{upTo, those, AllBelow, has}
+use Rattle.ground.specs.Sums.{total, join}
+use Rattle.ground.specs.Numbers.{bit, upTo, those, AllBelow, has}
+use Rattle.ground.proofs.Bits.{bit-length}
 
 -- ---- counting up
 
@@ -19,6 +20,16 @@ pub upTo-length : (n : ℕ) → length (upTo n) ≡ n
 unfolding upTo
 upTo-length zero = refl
 upTo-length (suc n) = omega (arith, length-append (upTo n) (n ∷ []), upTo-length n)
+
+upTo-more : (n k : ℕ) → take n (upTo (n + k)) ≡ upTo n
+unfolding upTo
+upTo-more n zero = rw (add-zero n) (take-all n (upTo n) (omega (arith, upTo-length n)))
+upTo-more n (suc k) = rw (add-suc n k, take-append-le n (upTo (n + k)) ((n + k) ∷ []) (omega (arith, upTo-length (n + k)))) (upTo-more n k)
+
+pub upTo-front : (n m : ℕ) → n ≤ m → take n (upTo m) ≡ upTo n
+upTo-front n m h =
+    let e : n + (m - n) ≡ m = omega arith in
+    rw e at (upTo-more n (m - n))
 
 -- ---- those that pass a test
 
@@ -63,6 +74,13 @@ module _ (f : ℕ → Bool) where
       one : (b : Bool) → those g (those f l) ≡ those (λ a. f a && g a) l → those g (cond b (a ∷ those f l) (those f l)) ≡ cond (b && g a) (a ∷ those (λ a. f a && g a) l) (those (λ a. f a && g a) l)
       one true h = rw h
       one false h = h
+
+-- how many pass a test
+pub those-count : (f : ℕ → Bool) (n : ℕ) → length (those f (upTo n)) ≡ total n (λ i. bit (f i))
+unfolding upTo those total
+those-count f zero = refl
+those-count f (suc n) =
+    omega (arith, ap length (those-append f (upTo n) (n ∷ [])), length-append (those f (upTo n)) (those f (n ∷ [])), those-count f n, bit-length (f n) n)
 
 -- tests that agree below n are passed by the same numbers below n
 pub those-agree : (f g : ℕ → Bool) (n : ℕ) → ((i : ℕ) → i < n → f i ≡ g i) → those f (upTo n) ≡ those g (upTo n)

@@ -1,3 +1,3 @@
 pub mod Sums
 pub mod Numbers
-pub mod First
+pub mod FirstPlace
