@@ -12,7 +12,7 @@ use Rattle.ground.specs.Numbers.{anyTo, upTo}
 use Rattle.ground.specs.FirstPlace.{FirstPlace}
 use Rattle.ground.proofs.Bools.{and-true}
 use Rattle.ground.proofs.AnyLaws.{any-to-none, any-to-true}
-use Rattle.ground.proofs.FirstLaws.{first-none, first-more, first-all}
+use Rattle.ground.proofs.SearchLaws.{search-none, search-more, search-all}
 use Rattle.lattice.specs.Shots.{covers}
 use Rattle.job.specs.Job.{shotCount, shotAt}
 use Rattle.grid_cover.specs.Cover.{shotCovers, first, isSome, firstCovering, lowestCovering}
@@ -39,12 +39,12 @@ module _ (f : ℕ → Bool) where
 
   first-up : (n : ℕ) → Lowest n (first f (upTo n))
   unfolding upTo first orElse
-  first-up zero = first-all (first-none (omega arith)) (omega arith)
+  first-up zero = search-all (search-none (omega arith)) (omega arith)
   first-up (suc n) = subst (Lowest (suc n)) (sym (first-append (upTo n) (n ∷ []))) (next (first f (upTo n)) (f n) refl (first-up n))
     where
       next : (o : Option ℕ) (b : Bool) → f n ≡ b → Lowest n o → Lowest (suc n) (orElse o (cond b (some n) none))
       next none true e h = (omega arith, record { onward = omega arith; within = omega arith; earlier = h .earlier; passes = λ l. e })
-      next none false e h = rw (← add-one n) (first-all (first-more (record { onward = omega arith; within = omega arith; earlier = h .earlier }) (omega arith) refl e) (omega arith))
+      next none false e h = rw (← add-one n) (search-all (search-more (record { onward = omega arith; within = omega arith; earlier = h .earlier }) (omega arith) refl e) (omega arith))
       next (some s) b e h = (omega (arith, h .0), record { onward = omega arith; within = omega (arith, h .0); earlier = h .1 .earlier; passes = λ l. h .1 .passes (h .0) })
 
   pub first-any : (n : ℕ) → isSome (first f (upTo n)) ≡ anyTo n f

@@ -4,7 +4,7 @@ pub mod Tests  -- what tests of numbers say
 pub mod Bits  -- a test as a number
 pub mod Cases  -- a test that is computed once holds at each
 pub mod AnyLaws  -- whether some number below n passes a test
-pub mod FirstLaws  -- the first place that passes a test, and a search for it
+pub mod SearchLaws  -- a search for the first place that passes a test
 pub mod Digits  -- numbers of two digits
 pub mod NumberLaws  -- lists of numbers: counting up, those that pass a test, membership
 pub mod JoinLaws  -- lists one after the other

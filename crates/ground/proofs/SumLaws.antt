@@ -1,7 +1,12 @@
--- Sums of signed numbers: they keep sums, differences and factors; summation by parts.
+-- Sums of signed numbers: they keep sums, differences and factors; summation by parts; a sum in which one term counts.
 use mathlib.Core.Path.{_≡_, refl, sym, _∙_, ap, fun-ext}
-use Prim.Native.Nat.{ℕ, zero, suc}
-use lib.IntN.{ℤ, pos, _+ℤ_, _-ℤ_, _*ℤ_, negℤ, sucℤ, +ℤ-assoc, +ℤ-idl, +ℤ-idr, negℤ-+ℤ, zero-*ℤ, *ℤ-zero, sucℤ-*ℤ, -ℤ-+ℤ-cancel}
+use mathlib.Core.Bool.{Bool, true, false, cond}
+use Prim.Native.Nat.{ℕ, zero, suc, _+_, _-_, _≤_}
+use native.Mathlib.Nat.{zero-add, suc-add}
+use native.Mathlib.Decide.{decLe}
+use native.Mathlib.Omega.{arith}
+use lib.Dec.{T, eqb, eqb→eq, eqb-refl}
+use lib.IntN.{ℤ, pos, _+ℤ_, _-ℤ_, _*ℤ_, negℤ, sucℤ, +ℤ-assoc, +ℤ-idl, +ℤ-idr, +ℤ-invr, negℤ-+ℤ, negℤ-negℤ, zero-*ℤ, *ℤ-zero, sucℤ-*ℤ, -ℤ-+ℤ-cancel}
 use Rattle.ground.specs.Sums.{total, sum}
 use Rattle.ground.proofs.Integers.{+ℤ·sort, *ℤ-dist}
 
@@ -55,3 +60,55 @@ parts-rest (suc n) f =
 
 pub sum-by-parts : (n : ℕ) (f : ℕ → ℤ) → f (suc n) ≡ pos 0 → sum (suc n) (λ x. pos x *ℤ fall f x) ≡ sum n (λ x. f (suc x))
 sum-by-parts n f h = sym (rw (h, *ℤ-zero, +ℤ-idr)) ∙ parts-rest n f
+
+-- ---- a function by its falls
+sub-sub : (a b : ℤ) → a -ℤ (a -ℤ b) ≡ b
+sub-sub a b = rw (negℤ-+ℤ, negℤ-negℤ, ← +ℤ-assoc a (negℤ a) b, +ℤ-invr, +ℤ-idl)
+
+-- a function of ℕ is known by its value at 0 and its falls
+pub known-by-falls : (f g : ℕ → ℤ) → f 0 ≡ g 0 → ((x : ℕ) → fall f x ≡ fall g x) → (x : ℕ) → f x ≡ g x
+known-by-falls f g z h zero = z
+known-by-falls f g z h (suc x) = sym (sub-sub (f x) (f (suc x))) ∙ rw (h x, known-by-falls f g z h x) (sub-sub (g x) (g (suc x)))
+
+-- ---- a sum in which one term counts, that of place a
+abbrev pub pick : ℕ → ℕ → ℤ → ℤ
+pick a i v = cond (eqb a i) v (pos 0)
+
+pub cond-zero : (b : Bool) {v : ℤ} → v ≡ pos 0 → cond b v (pos 0) ≡ pos 0
+cond-zero true h = h
+cond-zero false h = refl
+
+pub sum-cond : (b : Bool) (n : ℕ) (f : ℕ → ℤ) → sum n (λ i. cond b (f i) (pos 0)) ≡ cond b (sum n f) (pos 0)
+sum-cond true n f = refl
+sum-cond false n f = sum-zero n (λ i. refl)
+
+pick-other : (a i : ℕ) (v : ℤ) → (a ≡ i → ⊥) → pick a i v ≡ pos 0
+pick-other a i v h = go (eqb a i) (λ t. h (eqb→eq a i t))
+  where
+    go : (b : Bool) → (T b → ⊥) → cond b v (pos 0) ≡ pos 0
+    go true f = absurd (f tt)
+    go false f = refl
+
+pick-same : (a : ℕ) (v : ℤ) → pick a a v ≡ v
+pick-same a v = go (eqb a a) (eqb-refl a)
+  where
+    go : (b : Bool) → T b → cond b v (pos 0) ≡ v
+    go true t = refl
+    go false t = absurd t
+
+sum-before : (n a : ℕ) (f : ℕ → ℤ) → n ≤ a → sum n (λ i. pick a i (f i)) ≡ pos 0
+unfolding sum
+sum-before zero a f h = refl
+sum-before (suc n) a f h = rw (sum-before n a f (omega arith), pick-other a n (f n) (λ e. omega arith))
+
+sum-past : (k a : ℕ) (f : ℕ → ℤ) → sum (k + suc a) (λ i. pick a i (f i)) ≡ f a
+unfolding sum
+sum-past zero a f = rw (zero-add, sum-before a a f (omega arith), pick-same a (f a), +ℤ-idl)
+sum-past (suc k) a f = rw (suc-add k (suc a), sum-past k a f, pick-other a (k + suc a) (f (k + suc a)) (λ e. omega arith), +ℤ-idr)
+
+pub sum-pick : (n a : ℕ) (f : ℕ → ℤ) → ((i : ℕ) → n ≤ i → f i ≡ pos 0) → sum n (λ i. pick a i (f i)) ≡ f a
+sum-pick n a f h = go (decLe n a)
+  where
+    go : Dec (n ≤ a) → sum n (λ i. pick a i (f i)) ≡ f a
+    go (yes le) = sum-before n a f le ∙ sym (h a le)
+    go (no gt) = let e : n - suc a + suc a ≡ n = omega arith in ap (λ k. sum k (λ i. pick a i (f i))) (sym e) ∙ sum-past (n - suc a) a f

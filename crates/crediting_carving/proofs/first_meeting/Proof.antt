@@ -2,14 +2,14 @@
 use Prim.Native.Nat.{_-_}
 use native.Mathlib.Omega.{arith}
 use lib.ListN.{length}
-use Rattle.ground.proofs.FirstLaws.{NoneBefore, first-none, first-more, first-all, first-found}
+use Rattle.ground.proofs.SearchLaws.{Searched, search-none, search-more, search-all, search-found}
 use Rattle.crediting_carving.proofs.CarveLaws.{meetsAt, none-meets, first-meets}
 use borrow.Author.Needs.{needs}
 use Rattle.crediting_carving.proofs.first_meeting.Statement.{statement}
 use Rattle.crediting_carving.proofs.first_meeting.Tie as tie
 
 abbrev Inv-loop : tie.InvT-loop
-Inv-loop coords edge run block n₀ n = NoneBefore (meetsAt edge coords run block) 0 (length run) n
+Inv-loop coords edge run block n₀ n = Searched (meetsAt edge coords run block) 0 (length run) n
 
 abbrev μ-loop : tie.MeasureT-loop
 μ-loop coords edge run block n₀ n = length run - n
@@ -21,7 +21,7 @@ returns : tie.Need-returns Inv-loop μ-loop
 returns c = none-meets _ _ _ _ (c .before .has-no-cell .ensures) (c .if1 .taken)
 
 loop-holds : tie.Need-loop-holds Inv-loop μ-loop
-loop-holds c = first-none (omega arith)
+loop-holds c = search-none (omega arith)
 
 mul-shot-meets : tie.Need-mul-shot-meets Inv-loop μ-loop
 mul-shot-meets c = search needs
@@ -39,19 +39,19 @@ loop-less : tie.Need-loop-less Inv-loop μ-loop
 loop-less c = search needs
 
 loop-again : tie.Need-loop-again Inv-loop μ-loop
-loop-again c = first-more (c .before .before .before .before .loop .inv) (omega arith) (c .before .shot-meets .ensures) (c .if3 .left)
+loop-again c = search-more (c .before .before .before .before .loop .inv) (omega arith) (c .before .shot-meets .ensures) (c .if3 .left)
 
 returns-2 : tie.Need-returns-2 Inv-loop μ-loop
 returns-2 c =
     let at-loop = c .before in
     let start = at-loop .before .before in
-    first-meets _ _ _ _ (start .has-no-cell .ensures) (at-loop .before .if1 .left) (first-all (at-loop .loop .inv) (omega arith))
+    first-meets _ _ _ _ (start .has-no-cell .ensures) (at-loop .before .if1 .left) (search-all (at-loop .loop .inv) (omega arith))
 
 returns-3 : tie.Need-returns-3 Inv-loop μ-loop
 returns-3 c =
     let at-loop = c .before .before .before .before in
     let start = at-loop .before .before in
-    first-meets _ _ _ _ (start .has-no-cell .ensures) (at-loop .before .if1 .left) (first-found (at-loop .loop .inv) (c .before .shot-meets .ensures) (c .if3 .taken))
+    first-meets _ _ _ _ (start .has-no-cell .ensures) (at-loop .before .if1 .left) (search-found (at-loop .loop .inv) (c .before .shot-meets .ensures) (c .if3 .taken))
 
 pub first-meeting-spec : {M : Type 1} → statement M
 first-meeting-spec =
