@@ -11,7 +11,8 @@ use Rattle.refusals.specs.declared.Checked.{Checked}
 use Rattle.refusals.specs.declared.Checked.the-variants.{Accepted, Refused}
 use Rattle.job.specs.Job.{shotCount, placeOf}
 use Rattle.refusals.specs.Tests.{ifAccepted, firstOf}
-use Rattle.job.proofs.Tests.{within, or-false}
+use Rattle.job.proofs.Tests.{within}
+use Rattle.ground.proofs.Bools.{or-false}
 use Rattle.refusals.proofs.FirstOf.{passes, first-passed, first-stopped}
 use Rattle.shotfile.specs.Files.{refused, File, file, settingFields}
 use Rattle.shotfile.specs.Calls.{readAnswer, readNumbers, readValues, readCoords}
