@@ -60,7 +60,7 @@ module _ (numbers : List ℕ) {n : ℕ} (size : length numbers ≡ n) (answer : 
 -- how many numbers a file has
 read-six : (f : File) → length (readValues f) ≡ 6
 unfolding readValues
-read-six (file f coords) = refl
+read-six (file job) = refl
 read-six (refused r) = refl
 
 write-three : (job : Job) (room : ℕ) → length (writeValues job room) ≡ 3

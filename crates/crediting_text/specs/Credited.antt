@@ -5,7 +5,7 @@ use Prim.Native.Nat.{ℕ}
 use lib.ListN.{length, getD}
 use Rattle.buffer.specs.Wrote.{Wrote}
 use Rattle.lattice.specs.Sums.{join}
-use Rattle.job.specs.Job.{Job, jobOf, shot, shotCount}
+use Rattle.job.specs.Job.{Job, shotCount}
 use Rattle.job.specs.declared.Checked.{Checked}
 use Rattle.job.specs.declared.Checked.the-variants.{Accepted, Refused}
 use Rattle.shotfile.specs.Files.{File, file, refused, fileIn}
@@ -34,12 +34,12 @@ listText job entries places = creditedText (creditChecked job entries places) (c
 
 -- the file is read, and the cells of the list that it holds are credited
 abbrev pub fileText : File → ℕ → ℕ → List ℕ
-fileText (file f coords) entries places = listText (jobOf (f .first) (f .second) (f .third) coords) entries places
+fileText (file job) entries places = listText job entries places
 fileText (refused r) entries places = refusalText r
 
 -- the credit slice then
 abbrev pub fileCredits : File → ℕ → List ℕ → List ℕ
-fileCredits (file f coords) entries credits = creditsAfter (jobOf (f .first) (f .second) (f .third) coords) entries credits
+fileCredits (file job) entries credits = creditsAfter job entries credits
 fileCredits (refused r) entries credits = credits
 
 -- ---- the promises

@@ -4,7 +4,7 @@ use mathlib.Core.List.{List}
 use Prim.Native.Nat.{ℕ}
 use lib.ListN.{length}
 use Rattle.buffer.specs.Wrote.{Wrote}
-use Rattle.job.specs.Job.{jobOf, shotCount}
+use Rattle.job.specs.Job.{shotCount}
 use Rattle.job.specs.Refusals.{numberOf, detailOf}
 use Rattle.job.specs.declared.Refusal.{Refusal}
 use Rattle.shotfile.specs.Files.{File, file, refused, fileIn}
@@ -24,7 +24,7 @@ answerText (Refused r) = refusalText r
 
 -- the file is read, and the list that it holds is measured
 abbrev pub measuredFile : File → ℕ → Measured
-measuredFile (file f coords) entries = measureAnswer (jobOf (f .first) (f .second) (f .third) coords) entries
+measuredFile (file job) entries = measureAnswer job entries
 measuredFile (refused r) entries = Refused r
 
 abbrev pub quotedText : File → ℕ → List ℕ
@@ -36,7 +36,7 @@ quoteText bytes places entries = quotedText (fileIn places bytes) entries
 
 -- the work slice then: the index of the list, if neither the file nor the list is refused
 abbrev pub indexAfter : File → List ℕ → List ℕ
-indexAfter (file f coords) work = workAfter (jobOf (f .first) (f .second) (f .third) coords) work
+indexAfter (file job) work = workAfter job work
 indexAfter (refused r) work = work
 
 -- ---- the promise

@@ -11,13 +11,13 @@ use Rattle.buffer.specs.Wrote.{inFront}
 use Rattle.job.specs.declared.Refusal.{Refusal}
 use Rattle.job.specs.declared.Checked.{Checked}
 use Rattle.job.specs.declared.Checked.the-variants.{Accepted, Refused as Turned}
-use Rattle.job.specs.Job.{Job, shotCount, placeOf, firstShots, Valid}
+use Rattle.job.specs.Job.{Job, jobOf, shotCount, placeOf, firstShots, Valid}
 use Rattle.job.specs.Checking.{firstOf}
 use Rattle.shotfile.specs.declared.reader.ReadAnswer.{ReadAnswer}
 use Rattle.shotfile.specs.declared.reader.ReadAnswer.the-variants.{Read, Refused as Unread}
 use Rattle.shotfile.specs.declared.writer.WriteAnswer.{WriteAnswer}
 use Rattle.shotfile.specs.declared.writer.WriteAnswer.the-variants.{Written, Refused as Unwritten}
-use Rattle.shotfile.specs.Files.{settingFields, File, file, refused, fileIn, fileOf}
+use Rattle.shotfile.specs.Files.{File, file, refused, fileIn, fileOf}
 use Rattle.shotfile.specs.Calls.{readAnswer, readCoords, ReadCall, writeTests, ifWritten, writeAnswer, writeBytes, WriteCall}
 use Rattle.shotfile.proofs.Coords.{places-fit}
 use Rattle.shotfile.proofs.ShotsRead.{reads-whole, reads-room}
@@ -27,14 +27,14 @@ use Rattle.shotfile.proofs.Writing.{write-decides}
 -- ---- reading
 -- the coordinates of an accepted file are whole shots, and each has its place
 abbrev pub Fits : ℕ → File → Type 0
-Fits places (file f coords) = (length coords ≡ placeOf (shotCount coords)) × (shotCount coords ≤ places)
+Fits places (file job) = (length job.coords ≡ placeOf (shotCount job.coords)) × (shotCount job.coords ≤ places)
 Fits places (refused r) = Unit {0}
 
 pub file-fits : (places : ℕ) (s : List ℕ) → Fits places (fileIn places s)
 file-fits places s = go (fileIn places s) refl
   where
     go : (k : File) → fileIn places s ≡ k → Fits places k
-    go (file f coords) q = let rest = file-parts s places q .rest in (reads-whole rest, reads-room rest)
+    go (file job) q = let rest = file-parts s places q .rest in (reads-whole rest, reads-room rest)
     go (refused r) q = tt
 
 -- what a call that reads a file of any form answers and stores, where k is what the file says
@@ -45,36 +45,32 @@ pub record FileRead (k : File) (before : List ℕ) (r : ReadAnswer) (after : Lis
 
 -- a file that is accepted, and its list in the coordinate slice
 pub record ListStored (k : File) (before : List ℕ) (F E G n : ℕ) (after : List ℕ) : Type 0 where
-  pub coords : List ℕ
-  pub is : k ≡ file (settingFields F E G) coords
-  pub count : n ≡ shotCount coords
+  pub is : k ≡ file (jobOf F E G (firstShots n after))
   pub room : n ≤ shotCount before
   pub same-length : length after ≡ length before
-  pub stored : firstShots n after ≡ coords
 
 pub stored-list : (k : File) {before after : List ℕ} {r : ReadAnswer} → FileRead k before r after → {F E G n : ℕ} → r ≡ Read F E G n → ListStored k before F E G n after
 stored-list (refused p) c {F} {E} {G} {n} e = let u : Unread p ≡ Read F E G n = sym (c .answer) ∙ e in let z : _≡_ {A = ℕ} 0 1 = cc in absurd (omega arith)
-stored-list (file f coords) {before} {after} c {F} {E} {G} {n} e =
-    let u : Read (f .first) (f .second) (f .third) (shotCount coords) ≡ Read F E G n = sym (c .answer) ∙ e in
-    let p₁ : f .first ≡ F = cc in
-    let p₂ : f .second ≡ E = cc in
-    let p₃ : f .third ≡ G = cc in
+stored-list (file job) {before} {after} c {F} {E} {G} {n} e =
+    let coords = job.coords in
+    let u : Read job.field job.edge job.grid (shotCount coords) ≡ Read F E G n = sym (c .answer) ∙ e in
+    let p₁ : job.field ≡ F = cc in
+    let p₂ : job.edge ≡ E = cc in
+    let p₃ : job.grid ≡ G = cc in
     let m : shotCount coords ≡ n = cc in
     let (whole, room) = c .fits in
     let is : after ≡ inFront coords before = c .coordinates in
     let fits : length coords ≤ length before = places-fit coords before whole room in
+    let stored : firstShots n after ≡ coords = ap (firstShots n) is ∙ take-at coords (drop (length coords) before) (placeOf n) (whole ∙ rw m) in
     record {
-      coords = coords;
-      is = rw (← p₁, ← p₂, ← p₃);
-      count = sym m;
+      is = rw (stored, ← p₁, ← p₂, ← p₃);
       room = omega (arith, m, room);
       same-length = ap length is ∙ (length-append coords (drop (length coords) before) ∙ omega (arith, length-drop (length coords) before));
-      stored = ap (firstShots n) is ∙ take-at coords (drop (length coords) before) (placeOf n) (whole ∙ rw m);
     }
 
 -- a file that is refused stores nothing
 pub stored-none : (k : File) {before after : List ℕ} {r : ReadAnswer} → FileRead k before r after → {q : Refusal} → r ≡ Unread q → (k ≡ refused q) × (after ≡ before)
-stored-none (file f coords) c {q} e = let u : Read (f .first) (f .second) (f .third) (shotCount coords) ≡ Unread q = sym (c .answer) ∙ e in let z : _≡_ {A = ℕ} 0 1 = cc in absurd (omega arith)
+stored-none (file job) c {q} e = let u : Read job.field job.edge job.grid (shotCount job.coords) ≡ Unread q = sym (c .answer) ∙ e in let z : _≡_ {A = ℕ} 0 1 = cc in absurd (omega arith)
 stored-none (refused p) c {q} e =
     let u : Unread p ≡ Unread q = sym (c .answer) ∙ e in
     let same : p ≡ q = cc in

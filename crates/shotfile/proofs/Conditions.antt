@@ -9,9 +9,8 @@ use lib.ListN.{length}
 use Rattle.job.specs.declared.Refusal.{Refusal}
 use Rattle.job.specs.declared.Checked.{Checked}
 use Rattle.job.specs.declared.Checked.the-variants.{Accepted, Refused as Turned}
-use Rattle.job.specs.Job.{Job, shotCount}
+use Rattle.job.specs.Job.{Job, jobOf, shotCount, firstShots}
 use Rattle.job.specs.Checking.{firstOf}
-use Rattle.shotfile_records.specs.declared.Fields.{Fields}
 use Rattle.shotfile.specs.declared.reader.ReadAnswer.{ReadAnswer}
 use Rattle.shotfile.specs.declared.reader.ReadAnswer.the-variants.{Read, Refused as Unread}
 use Rattle.shotfile.specs.declared.writer.WriteAnswer.{WriteAnswer}
@@ -24,7 +23,7 @@ use Rattle.shotfile.proofs.Writing.{write-decides}
 use Rattle.shotfile.proofs.Accepted.{accepted-file, refused-file, accepted-list}
 
 -- ---- reading
-apart : {P : Type 0} {f : Fields} {coords : List ℕ} {r : Refusal} → file f coords ≡ refused r → P
+apart : {P : Type 0} {job : Job} {r : Refusal} → file job ≡ refused r → P
 apart e = let z : _≡_ {A = ℕ} 0 1 = cc in absurd (omega arith)
 
 module _ (places : ℕ) (s : List ℕ) where
@@ -44,15 +43,15 @@ module _ (places : ℕ) (s : List ℕ) where
       from (turned-down e h) k = e ∙ ap refused (first-fault-one h k)
 
   -- a file is read if and only if no record of it is faulty
-  pub file-reads : ((f : Fields) × (coords : List ℕ) × (fileIn places s ≡ file f coords)) ↔ Faultless places s
+  pub file-reads : ((job : Job) × (fileIn places s ≡ file job)) ↔ Faultless places s
   file-reads = (to (outcome places s), from (outcome places s))
     where
-      to : Outcome places s (fileIn places s) → (f : Fields) × (coords : List ℕ) × (fileIn places s ≡ file f coords) → Faultless places s
+      to : Outcome places s (fileIn places s) → (job : Job) × (fileIn places s ≡ file job) → Faultless places s
       to (accepted e h) k = h
-      to (turned-down e h) k = apart (sym (k .2) ∙ e)
+      to (turned-down e h) k = apart (sym (k .1) ∙ e)
 
-      from : Outcome places s (fileIn places s) → Faultless places s → (f : Fields) × (coords : List ℕ) × (fileIn places s ≡ file f coords)
-      from (accepted {f = f} {coords = coords} e h) k = (f, coords, e)
+      from : Outcome places s (fileIn places s) → Faultless places s → (job : Job) × (fileIn places s ≡ file job)
+      from (accepted {job = job} e h) k = (job, e)
       from (turned-down {r = r} e h) k = absurd (k (h .n) (h .at) (h .absent) (h .is-record) r (h .holds))
 
 module _ {s before after : List ℕ} {r : ReadAnswer} (c : ReadCall s before r after) where
@@ -65,10 +64,10 @@ module _ {s before after : List ℕ} {r : ReadAnswer} (c : ReadCall s before r a
   read-accepts = (to, from)
     where
       to : (F E G n : ℕ) × (r ≡ Read F E G n) → Faultless (shotCount before) s
-      to (F, E, G, n, e) = let a = accepted-file c e in file-reads (shotCount before) s .0 (_, a .coords, a .is)
+      to (F, E, G, n, e) = file-reads (shotCount before) s .0 (jobOf F E G (firstShots n after), accepted-file c e .is)
 
       from : Faultless (shotCount before) s → (F E G n : ℕ) × (r ≡ Read F E G n)
-      from h = let (f, coords, e) = file-reads (shotCount before) s .1 h in (f .first, f .second, f .third, shotCount coords, c .answer ∙ ap readAnswer e)
+      from h = let (job, e) = file-reads (shotCount before) s .1 h in (job.field, job.edge, job.grid, shotCount job.coords, c .answer ∙ ap readAnswer e)
 
 -- ---- writing
 module _ {job : Job} {before after : List ℕ} {w : WriteAnswer} (c : WriteCall job before w after) where

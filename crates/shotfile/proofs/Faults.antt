@@ -10,6 +10,7 @@ use lib.ListN.{length, getD, List·getD-eq-default}
 use borrow.Author.Tests.{ltb-true, ltb-false, leb-false}
 use Rattle.job.specs.declared.Refusal.{Refusal}
 use Rattle.job.specs.declared.Refusal.the-variants.{TooManyShots, NoPlace, UnknownBit, CutShort}
+use Rattle.job.specs.Job.{Job}
 use Rattle.job.specs.Refusals.{numberOf}
 use Rattle.shotfile_records.specs.declared.Fields.{Fields}
 use Rattle.shotfile_records.specs.declared.Taken.{Taken}
@@ -17,7 +18,7 @@ use Rattle.shotfile_records.specs.declared.Taken.the-variants.{Whole, Refused}
 use Rattle.shotfile_records.specs.Records.{headerAbsent, firstAbsent, fieldsAt, recordAt}
 use Rattle.shotfile.specs.declared.reader.Cursor.{Cursor}
 use Rattle.shotfile.specs.declared.reader.Step.the-variants.{End}
-use Rattle.shotfile.specs.Files.{stepOf, stepAt, Rest, shots, faulty, withShot, onStep, shotsFrom, File, file, refused, withSettings, firstShot, onHeader, fileIn}
+use Rattle.shotfile.specs.Files.{stepOf, stepAt, Rest, coordinates, faulty, withShot, onStep, shotsFrom, File, file, refused, withSettings, firstShot, onHeader, fileIn}
 use Rattle.shotfile.specs.Conditions.{endOf, IsRecord, header, first-shot, next-shot, Fault, too-many-shots, no-place, unknown-bit, cut-short, FirstFault, Faultless}
 use Rattle.shotfile.proofs.WriteBack.{parts}
 
@@ -176,7 +177,7 @@ module _ (places : ℕ) (s : List ℕ) where
 
   -- what the shots from a cursor on come to, after k shots
   data RestOutcome (rest : Rest) : Type 0 where
-    fine : {coords : List ℕ} → rest ≡ shots coords → Faultless places s → RestOutcome rest
+    fine : {coords : List ℕ} → rest ≡ coordinates coords → Faultless places s → RestOutcome rest
     fails : {r : Refusal} → rest ≡ faulty r → FirstFault places s r → RestOutcome rest
 
   with-shot : (f : Fields) (rest : Rest) → RestOutcome rest → RestOutcome (withShot f rest)
@@ -184,10 +185,10 @@ module _ (places : ℕ) (s : List ℕ) where
   with-shot f rest (fails e h) = fails (ap (withShot f) e) h
 
   -- at the end, or a refusal for one shot more
-  last-outcome : {k : ℕ} {c : Cursor} → Reached k c → Sound k → (r : Refusal) → Broken places s (suc k) (c .at) r → RestOutcome (cond (ltb (c .at) (length s)) (faulty r) (shots []))
+  last-outcome : {k : ℕ} {c : Cursor} → Reached k c → Sound k → (r : Refusal) → Broken places s (suc k) (c .at) r → RestOutcome (cond (ltb (c .at) (length s)) (faulty r) (coordinates []))
   last-outcome {k} {c} reached sound r b = go (ltb (c .at) (length s)) refl
     where
-      go : (t : Bool) → ltb (c .at) (length s) ≡ t → RestOutcome (cond t (faulty r) (shots []))
+      go : (t : Bool) → ltb (c .at) (length s) ≡ t → RestOutcome (cond t (faulty r) (coordinates []))
       go true l = fails refl (first-broken reached sound (ltb-true (c .at) (length s) l) b)
       go false l = fine refl (all-sound reached sound (ltb-false (c .at) (length s) l))
 
@@ -213,7 +214,7 @@ module _ (places : ℕ) (s : List ℕ) where
 
   -- what a file comes to
   pub data Outcome (k : File) : Type 0 where
-    accepted : {f : Fields} {coords : List ℕ} → k ≡ file f coords → Faultless places s → Outcome k
+    accepted : {job : Job} → k ≡ file job → Faultless places s → Outcome k
     turned-down : {r : Refusal} → k ≡ refused r → FirstFault places s r → Outcome k
 
   with-settings : (f : Fields) (rest : Rest) → RestOutcome rest → Outcome (withSettings f rest)

@@ -12,7 +12,7 @@ use Rattle.shotfile.specs.declared.reader.Cursor.{Cursor}
 use Rattle.shotfile.specs.declared.reader.Counted.the-variants.{Shots, Refused as Uncounted}
 use Rattle.shotfile.specs.declared.reader.ReadAnswer.the-variants.{Read, Refused as Unread}
 use Rattle.shotfile_records.specs.Records.{headerAbsent, firstAbsent, recordAt}
-use Rattle.shotfile.specs.Files.{Rest, shots, faulty, shotsFrom, File, file, refused, withSettings, fileIn, nextShots}
+use Rattle.shotfile.specs.Files.{Rest, coordinates, faulty, shotsFrom, File, file, refused, withSettings, fileIn, nextShots}
 use Rattle.shotfile.proofs.ShotsRead.{reads, reads-room, reads-next}
 use Rattle.shotfile.specs.Calls.{countOf, readAnswer, readNumbers, readValues, readCoords, ReadCall}
 
@@ -20,7 +20,7 @@ module _ (s : List ℕ) where
   -- what a count of the shots says
   pub record Count (places : ℕ) (c : Cursor) (n : ℕ) : Type 0 where
     pub coords : List ℕ
-    pub rest : shotsFrom 4096 places s c ≡ shots coords
+    pub rest : shotsFrom 4096 places s c ≡ coordinates coords
     pub count : n ≡ shotCount coords
     pub next : nextShots n s c ≡ coords
     pub room : n ≤ places
@@ -29,7 +29,7 @@ module _ (s : List ℕ) where
   counted places c {n} e = go (shotsFrom 4096 places s c) refl e
     where
       go : (r : Rest) → shotsFrom 4096 places s c ≡ r → Shots n ≡ countOf r → Count places c n
-      go (shots coords) q e =
+      go (coordinates coords) q e =
           let f = reads s 4096 places c q in
           let m : n ≡ shotCount coords = cc in
           record { coords = coords; rest = q; count = m; next = rw m (reads-next f); room = omega (arith, m, reads-room f) }
@@ -39,13 +39,13 @@ module _ (s : List ℕ) where
   uncounted places c {r} e = go (shotsFrom 4096 places s c) refl e
     where
       go : (k : Rest) → shotsFrom 4096 places s c ≡ k → Uncounted r ≡ countOf k → shotsFrom 4096 places s c ≡ faulty r
-      go (shots coords) q e = let z : _≡_ {A = ℕ} 0 1 = cc in absurd (omega arith)
+      go (coordinates coords) q e = let z : _≡_ {A = ℕ} 0 1 = cc in absurd (omega arith)
       go (faulty k) q e = let m : k ≡ r = cc in q ∙ ap faulty m
 
 -- the numbers of an answer are those of the file
 pub answer-numbers : (k : File) → readNumbers (readAnswer k) ≡ readValues k
 unfolding readNumbers readValues
-answer-numbers (file f coords) = refl
+answer-numbers (file job) = refl
 answer-numbers (refused r) = refl
 
 -- ---- what `read` answers and leaves

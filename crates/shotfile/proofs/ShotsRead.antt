@@ -15,7 +15,7 @@ use Rattle.shotfile_records.specs.declared.Taken.the-variants.{Whole, Refused}
 use Rattle.shotfile.specs.declared.reader.Cursor.{Cursor}
 use Rattle.shotfile.specs.declared.reader.Step.the-variants.{Shot, End}
 use Rattle.shotfile_records.specs.Records.{recordAt}
-use Rattle.shotfile.specs.Files.{shotNumbers, stepOf, stepAt, Rest, shots, faulty, withShot, onStep, shotsFrom, nextShots}
+use Rattle.shotfile.specs.Files.{shotNumbers, stepOf, stepAt, Rest, coordinates, faulty, withShot, onStep, shotsFrom, nextShots}
 use Rattle.shotfile.proofs.Coords.{count-none, count-more, places-more}
 use Rattle.shotfile.proofs.Steps.{step-on}
 
@@ -28,39 +28,39 @@ pub data Reads (s : List ℕ) : ℕ → ℕ → Cursor → List ℕ → Type 0 w
       → Reads s left places (record { at = end; last = f }) coords
       → Reads s (suc left) (suc places) c (shotNumbers f ++ coords)
 
-apart : {P : Type 0} {r : Refusal} {coords : List ℕ} → faulty r ≡ shots coords → P
+apart : {P : Type 0} {r : Refusal} {coords : List ℕ} → faulty r ≡ coordinates coords → P
 apart e = let z : _≡_ {A = ℕ} 0 1 = cc in absurd (omega arith)
 
 module _ (s : List ℕ) where
-  no-shots : (left places : ℕ) (c : Cursor) {coords : List ℕ} → length s ≤ c .at → shots [] ≡ shots coords → Reads s left places c coords
+  no-shots : (left places : ℕ) (c : Cursor) {coords : List ℕ} → length s ≤ c .at → coordinates [] ≡ coordinates coords → Reads s left places c coords
   no-shots left places c {coords} h e = subst (Reads s left places c) (let z : [] ≡ coords = cc in z) (done h)
 
   -- at the end, or a refusal for one shot more
-  last-shots : (left places : ℕ) (c : Cursor) (r : Refusal) {coords : List ℕ} → cond (ltb (c .at) (length s)) (faulty r) (shots []) ≡ shots coords → Reads s left places c coords
+  last-shots : (left places : ℕ) (c : Cursor) (r : Refusal) {coords : List ℕ} → cond (ltb (c .at) (length s)) (faulty r) (coordinates []) ≡ coordinates coords → Reads s left places c coords
   last-shots left places c r {coords} e = go (ltb (c .at) (length s)) refl e
     where
-      go : (b : Bool) → ltb (c .at) (length s) ≡ b → cond b (faulty r) (shots []) ≡ shots coords → Reads s left places c coords
+      go : (b : Bool) → ltb (c .at) (length s) ≡ b → cond b (faulty r) (coordinates []) ≡ coordinates coords → Reads s left places c coords
       go true l e = apart e
       go false l e = no-shots left places c (ltb-false (c .at) (length s) l) e
 
   then : (left places : ℕ) (c : Cursor) (f : Fields) (end : ℕ) (r : Rest) {coords : List ℕ}
       → c .at < length s
       → recordAt s (c .at) (c .last) ≡ Whole f end
-      → ((later : List ℕ) → r ≡ shots later → Reads s left places (record { at = end; last = f }) later)
-      → withShot f r ≡ shots coords
+      → ((later : List ℕ) → r ≡ coordinates later → Reads s left places (record { at = end; last = f }) later)
+      → withShot f r ≡ coordinates coords
       → Reads s (suc left) (suc places) c coords
   then left places c f end (faulty r) l t k e = apart e
-  then left places c f end (shots later) {coords} l t k e = subst (Reads s (suc left) (suc places) c) (let z : shotNumbers f ++ later ≡ coords = cc in z) (shot l t (k later refl))
+  then left places c f end (coordinates later) {coords} l t k e = subst (Reads s (suc left) (suc places) c) (let z : shotNumbers f ++ later ≡ coords = cc in z) (shot l t (k later refl))
 
-  pub reads : (left places : ℕ) (c : Cursor) {coords : List ℕ} → shotsFrom left places s c ≡ shots coords → Reads s left places c coords
+  pub reads : (left places : ℕ) (c : Cursor) {coords : List ℕ} → shotsFrom left places s c ≡ coordinates coords → Reads s left places c coords
   unfolding shotsFrom stepAt
   reads zero places c e = last-shots 0 places c _ e
   reads (suc left) zero c e = last-shots (suc left) 0 c _ e
   reads (suc left) (suc places) c {coords} e = go (ltb (c .at) (length s)) refl (recordAt s (c .at) (c .last)) refl (λ c' later e'. reads left places c' e') e
     where
       go : (b : Bool) → ltb (c .at) (length s) ≡ b → (t : Taken) → recordAt s (c .at) (c .last) ≡ t
-          → ((c' : Cursor) (later : List ℕ) → shotsFrom left places s c' ≡ shots later → Reads s left places c' later)
-          → onStep (cond b (stepOf t) End) (shotsFrom left places s) ≡ shots coords → Reads s (suc left) (suc places) c coords
+          → ((c' : Cursor) (later : List ℕ) → shotsFrom left places s c' ≡ coordinates later → Reads s left places c' later)
+          → onStep (cond b (stepOf t) End) (shotsFrom left places s) ≡ coordinates coords → Reads s (suc left) (suc places) c coords
       go false l t q k e = no-shots (suc left) (suc places) c (ltb-false (c .at) (length s) l) e
       go true l (Whole f end) q k e = then left places c f end (shotsFrom left places s (record { at = end; last = f })) (ltb-true (c .at) (length s) l) q (k (record { at = end; last = f })) e
       go true l (Refused r) q k e = apart e

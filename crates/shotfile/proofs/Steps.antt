@@ -15,7 +15,7 @@ use Rattle.shotfile.specs.declared.reader.Step.the-variants.{Shot, Refus
 use Rattle.shotfile.specs.declared.reader.Counted.{Counted}
 use Rattle.shotfile.specs.declared.reader.Counted.the-variants.{Shots, Refused as Uncounted}
 use Rattle.shotfile_records.specs.Records.{recordAt}
-use Rattle.shotfile.specs.Files.{stepOf, stepAt, Rest, shots, faulty, withShot, onStep, shotsFrom}
+use Rattle.shotfile.specs.Files.{stepOf, stepAt, Rest, coordinates, faulty, withShot, onStep, shotsFrom}
 use Rattle.shotfile.specs.Calls.{countOf}
 use Rattle.shotfile.proofs.Coords.{count-more}
 
@@ -33,7 +33,7 @@ module _ (s : List ℕ) (c : Cursor) where
   unfolding shotsFrom
   shots-on left places = refl
 
-  pub shots-end : (left places : ℕ) → length s ≤ c .at → shotsFrom left places s c ≡ shots []
+  pub shots-end : (left places : ℕ) → length s ≤ c .at → shotsFrom left places s c ≡ coordinates []
   unfolding shotsFrom
   shots-end zero places h = simp (le-ltb (c .at) (length s) h)
   shots-end (suc left) zero h = simp (le-ltb (c .at) (length s) h)
@@ -59,7 +59,7 @@ more-none (Shots k) = ap Shots (omega arith)
 more-none (Uncounted r) = refl
 
 more-shot : (n : ℕ) (f : Fields) (r : Rest) → more n (countOf (withShot f r)) ≡ more (n + 1) (countOf r)
-more-shot n f (shots coords) = ap Shots (omega (arith, count-more f coords))
+more-shot n f (coordinates coords) = ap Shots (omega (arith, count-more f coords))
 more-shot n f (faulty r) = refl
 
 -- the count of all shots, after n of them

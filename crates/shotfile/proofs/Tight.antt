@@ -7,7 +7,7 @@ use native.Mathlib.Omega.{arith}
 use lib.Dec.{eqb}
 use lib.ListN.{length, length-append, List·getD-eq-default}
 use Rattle.lattice.specs.Shots.{Shot}
-use Rattle.job.specs.Job.{Job, shotsOf}
+use Rattle.job.specs.Job.{Job, shots}
 use Rattle.shotfile_records.specs.declared.Fields.{Fields}
 use Rattle.shotfile_records.specs.declared.Taken.the-variants.{Whole}
 use Rattle.shotfile.specs.declared.reader.Step.{Step}
@@ -50,17 +50,17 @@ module _ (s : List ℕ) where
       ∙ (ap (λ (k : Step). onShot k true (tightFrom n s)) (one-step s pre (shotRecords f ts) p f e (small .0)) ∙ later)
 
 -- the whole file
-pub file-tight : (job : Job) → SmallFields (settingFields job.field job.edge job.grid) → SmallShots (shotsOf job.edge job.coords) → shortest (fileOf job) ≡ true
+pub file-tight : (job : Job) → SmallFields (settingFields job) → SmallShots (shots job) → shortest (fileOf job) ≡ true
 unfolding shortest fileOf
 file-tight job header-small small =
     ap (λ (b : Bool). b && tightRest s (recordAt s 0 headerAbsent)) (placed-tight header)
-    ∙ (ap (tightRest s) (placed-read header ∙ ap (Whole f) (omega arith)) ∙ shots-tight s (length s) (recordOf headerAbsent f) firstAbsent (shotsOf job.edge job.coords) refl small)
+    ∙ (ap (tightRest s) (placed-read header ∙ ap (Whole f) (omega arith)) ∙ shots-tight s (length s) (recordOf headerAbsent f) firstAbsent (shots job) refl small)
   where
     f : Fields
-    f = settingFields job.field job.edge job.grid
+    f = settingFields job
 
     s : List ℕ
     s = fileOf job
 
     header : Placed s 0 headerAbsent f
-    header = placed [] (shotRecords firstAbsent (shotsOf job.edge job.coords)) headerAbsent f header-small
+    header = placed [] (shotRecords firstAbsent (shots job)) headerAbsent f header-small

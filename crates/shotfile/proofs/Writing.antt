@@ -9,7 +9,7 @@ use Rattle.lattice.specs.Shots.{Shot}
 use Rattle.job.specs.declared.Refusal.{Refusal}
 use Rattle.job.specs.declared.Refusal.the-variants.{ShortFile}
 use Rattle.job.specs.declared.Checked.the-variants.{Accepted, Refused as Turned}
-use Rattle.job.specs.Job.{Job, shotsOf, shotCount, placeOf}
+use Rattle.job.specs.Job.{Job, shots, shotsOf, shotCount, placeOf}
 use Rattle.job.specs.Checking.{firstOf, tests, checked}
 use Rattle.job.proofs.Places.{first-stopped}
 use Rattle.job.specs.Conditions.{Decides}
@@ -52,22 +52,22 @@ module _ (E : ℕ) (coords : List ℕ) (i : ℕ) (last : Fields) where
   records-end h = ap (shotRecords last) (shots-end E coords i h)
 
 module _ (job : Job) where
-  open Job job using (field as F, edge as E, grid as G, coords)
+  open Job job using (edge as E, coords)
 
   -- a file is its header and the records from shot 0 on
   module _ {absent last : Fields} (a : absent ≡ headerAbsent) (l : last ≡ firstAbsent) where
-    pub file-parts : fileOf job ≡ recordOf absent (settingFields F E G) ++ recordsFrom E coords 0 last
+    pub file-parts : fileOf job ≡ recordOf absent (settingFields job) ++ recordsFrom E coords 0 last
     unfolding fileOf
     file-parts = rw (a, l)
 
-    parts-length : length (fileOf job) ≡ length (recordOf absent (settingFields F E G)) + length (recordsFrom E coords 0 last)
-    parts-length = ap length file-parts ∙ length-append (recordOf absent (settingFields F E G)) (recordsFrom E coords 0 last)
+    parts-length : length (fileOf job) ≡ length (recordOf absent (settingFields job)) + length (recordsFrom E coords 0 last)
+    parts-length = ap length file-parts ∙ length-append (recordOf absent (settingFields job)) (recordsFrom E coords 0 last)
 
-    pub header-room : (w : List ℕ) → length (fileOf job) ≤ length w → 0 + length (recordOf absent (settingFields F E G)) ≤ length w
+    pub header-room : (w : List ℕ) → length (fileOf job) ≤ length w → 0 + length (recordOf absent (settingFields job)) ≤ length w
     header-room w h = omega (arith, parts-length)
 
     -- the header, and then the records
-    module _ {w w' : List ℕ} {at : ℕ} (t : Wrote w w' 0 at (recordOf absent (settingFields F E G))) where
+    module _ {w w' : List ℕ} {at : ℕ} (t : Wrote w w' 0 at (recordOf absent (settingFields job))) where
       pub shots-room : length (fileOf job) ≤ length w → length w' ≡ length w → at + length (recordsFrom E coords 0 last) ≤ length w'
       shots-room h k = omega (arith, t .next, parts-length)
 
@@ -77,14 +77,14 @@ module _ (job : Job) where
   -- the longest file
   pub file-most : shotCount coords ≤ 4096 → length (fileOf job) ≤ 28679
   file-most h =
-      omega (arith, parts-length refl refl, record-most headerAbsent (settingFields F E G), records-most firstAbsent (shotsOf job.edge job.coords), shots-count E coords)
+      omega (arith, parts-length refl refl, record-most headerAbsent (settingFields job), records-most firstAbsent (shots job), shots-count E coords)
 
 -- ---- counting the bytes
 -- the bytes so far, and those from shot i on
 pub record Measured (E : ℕ) (coords : List ℕ) (last : Fields) (i total whole : ℕ) : Type 0 where
   pub is : total + length (recordsFrom E coords i last) ≡ whole
 
-pub measured-none : (job : Job) {absent last : Fields} {k : ℕ} → absent ≡ headerAbsent → last ≡ firstAbsent → k ≡ length (recordOf absent (settingFields job.field job.edge job.grid))
+pub measured-none : (job : Job) {absent last : Fields} {k : ℕ} → absent ≡ headerAbsent → last ≡ firstAbsent → k ≡ length (recordOf absent (settingFields job))
     → Measured job.edge job.coords last 0 k (length (fileOf job))
 measured-none job a l e = record { is = omega (arith, e, parts-length job a l) }
 

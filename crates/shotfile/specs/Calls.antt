@@ -18,17 +18,17 @@ use Rattle.shotfile.specs.declared.reader.Counted.{Counted}
 use Rattle.shotfile.specs.declared.reader.Counted.the-variants.{Shots, Refused as Uncounted}
 use Rattle.shotfile.specs.declared.reader.ReadAnswer.{ReadAnswer}
 use Rattle.shotfile.specs.declared.reader.ReadAnswer.the-variants.{Read, Refused as Unread}
-use Rattle.shotfile.specs.Files.{Rest, shots, faulty, File, file, refused, fileIn, fileOf}
+use Rattle.shotfile.specs.Files.{Rest, coordinates, faulty, File, file, refused, fileIn, fileOf}
 
 -- ---- reading
 -- how many shots the rest of a file has
 abbrev pub countOf : Rest → Counted
-countOf (shots coords) = Shots (shotCount coords)
+countOf (coordinates coords) = Shots (shotCount coords)
 countOf (faulty r) = Uncounted r
 
 -- a file's settings and its number of shots, or its refusal
 abbrev pub readAnswer : File → ReadAnswer
-readAnswer (file f coords) = Read (f .first) (f .second) (f .third) (shotCount coords)
+readAnswer (file job) = Read job.field job.edge job.grid (shotCount job.coords)
 readAnswer (refused r) = Unread r
 
 -- the numbers of an answer: the refusal's number and detail, 0 and 0 where there is none, then the field side, the shot edge, the grid
@@ -39,12 +39,12 @@ readNumbers (Unread r) = numberOf r ∷ detailOf r ∷ 0 ∷ 0 ∷ 0 ∷ 0 ∷ [
 
 -- the same numbers, from what the file says
 unfoldable pub readValues : File → List ℕ
-readValues (file f coords) = 0 ∷ 0 ∷ f .first ∷ f .second ∷ f .third ∷ shotCount coords ∷ []
+readValues (file job) = 0 ∷ 0 ∷ job.field ∷ job.edge ∷ job.grid ∷ shotCount job.coords ∷ []
 readValues (refused r) = numberOf r ∷ detailOf r ∷ 0 ∷ 0 ∷ 0 ∷ 0 ∷ []
 
 -- the first places are the coordinates, and the others keep their values, as all do after a refusal
 abbrev pub readCoords : File → List ℕ → List ℕ
-readCoords (file f coords) before = inFront coords before
+readCoords (file job) before = inFront job.coords before
 readCoords (refused r) before = before
 
 -- what `read` promises of its answer r and of the coordinate slice after it

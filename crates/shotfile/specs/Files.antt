@@ -7,7 +7,7 @@ use lib.ListN.{length}
 use Rattle.lattice.specs.Shots.{Shot}
 use Rattle.job.specs.declared.Refusal.{Refusal}
 use Rattle.job.specs.declared.Refusal.the-variants.{TooManyShots, NoPlace}
-use Rattle.job.specs.Job.{Job, xAt, yAt, zAt, numbersOf, shotsOf}
+use Rattle.job.specs.Job.{Job, jobOf, xAt, yAt, zAt, numbersOf, shots}
 use Rattle.shotfile_records.specs.declared.Fields.{Fields}
 use Rattle.shotfile_records.specs.declared.Taken.{Taken}
 use Rattle.shotfile_records.specs.declared.Taken.the-variants.{Whole, Refused}
@@ -17,8 +17,8 @@ use Rattle.shotfile.specs.declared.reader.Step.the-variants.{Shot as Ste
 use Rattle.shotfile_records.specs.Records.{headerAbsent, firstAbsent, recordAt, recordOf, tight}
 
 -- the numbers of a header's record, and those of a shot's
-abbrev pub settingFields : ℕ → ℕ → ℕ → Fields
-settingFields F E G = record { first = F; second = E; third = G }
+abbrev pub settingFields : Job → Fields
+settingFields job = record { first = job.field; second = job.edge; third = job.grid }
 
 abbrev pub shotFields : Shot → Fields
 shotFields t = record { first = t .x; second = t .y; third = t .z }
@@ -38,33 +38,33 @@ stepAt s c = cond (ltb (c .at) (length s)) (stepOf (recordAt s (c .at) (c .last)
 
 -- what the rest of a file says: coordinates, or the refusal of its first faulty record
 pub data Rest : Type 0 where
-  shots : List ℕ → Rest
+  coordinates : List ℕ → Rest
   faulty : Refusal → Rest
 
 -- a shot and then the rest
 abbrev pub withShot : Fields → Rest → Rest
-withShot f (shots coords) = shots (shotNumbers f ++ coords)
+withShot f (coordinates coords) = coordinates (shotNumbers f ++ coords)
 withShot f (faulty r) = faulty r
 
 abbrev pub onStep : Step → (Cursor → Rest) → Rest
 onStep (Stepped c) next = withShot (c .last) (next c)
 onStep (Stopped r) next = faulty r
-onStep End next = shots []
+onStep End next = coordinates []
 
 -- the shots from a cursor on, where `left` more are allowed and the coordinate slice has places for `places` more:
 -- refusals 2, 3, 4, 5 in this order on each record, and the first faulty record decides
 unfoldable pub shotsFrom : ℕ → ℕ → List ℕ → Cursor → Rest
-shotsFrom zero places s c = cond (ltb (c .at) (length s)) (faulty (TooManyShots (c .at))) (shots [])
-shotsFrom (suc left) zero s c = cond (ltb (c .at) (length s)) (faulty (NoPlace (c .at))) (shots [])
+shotsFrom zero places s c = cond (ltb (c .at) (length s)) (faulty (TooManyShots (c .at))) (coordinates [])
+shotsFrom (suc left) zero s c = cond (ltb (c .at) (length s)) (faulty (NoPlace (c .at))) (coordinates [])
 shotsFrom (suc left) (suc places) s c = onStep (stepAt s c) (shotsFrom left places s)
 
--- a file: the settings of its header and the coordinates of its shots, or its refusal
+-- a file: the settings of its header with the coordinates of its shots, or its refusal
 pub data File : Type 0 where
-  file : Fields → List ℕ → File
+  file : Job → File
   refused : Refusal → File
 
 abbrev pub withSettings : Fields → Rest → File
-withSettings f (shots coords) = file f coords
+withSettings f (coordinates coords) = file (jobOf (f .first) (f .second) (f .third) coords)
 withSettings f (faulty r) = refused r
 
 -- the cursor at the first shot
@@ -100,7 +100,7 @@ abbrev pub coordsAt : List ℕ → ℕ → Fields
 coordsAt coords i = record { first = xAt coords i; second = yAt coords i; third = zAt coords i }
 
 unfoldable pub fileOf : Job → List ℕ
-fileOf job = recordOf headerAbsent (settingFields job.field job.edge job.grid) ++ shotRecords firstAbsent (shotsOf job.edge job.coords)
+fileOf job = recordOf headerAbsent (settingFields job) ++ shotRecords firstAbsent (shots job)
 
 -- no field of the next n records says what its absence would mean
 unfoldable pub tightFrom : ℕ → List ℕ → Cursor → Bool

@@ -37,7 +37,7 @@ module _ {s before after : List ℕ} {r : ReadAnswer} (c : ReadCall s before r a
     read-room = let a = accepted-file c e in omega (arith, a .room, a .same-length)
 
     pub read-verdict : {list : List ℕ} → list ≡ firstShots n after → listVerdict (checked (jobOf F E G list)) ≡ verdict (fileIn (shotCount before) s)
-    read-verdict k = let a = accepted-file c e in ap (λ (l : List ℕ). listVerdict (checked (jobOf F E G l))) (k ∙ a .stored) ∙ ap verdict (sym (a .is))
+    read-verdict k = ap (λ (l : List ℕ). listVerdict (checked (jobOf F E G l))) k ∙ ap verdict (sym (accepted-file c e .is))
 
   pub refused-verdict : {q : Refusal} (w : List ℕ) (at : ℕ) → r ≡ Unread q → at + 128 ≤ length w → Wrote w w at at (verdict (fileIn (shotCount before) s))
   refused-verdict w at e h = wrote-as (ap verdict (sym (refused-file c e .0))) (wrote-none w at (omega arith))

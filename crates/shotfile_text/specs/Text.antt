@@ -7,7 +7,7 @@ use Prim.Native.Nat.{ℕ, zero, suc, _+_}
 use lib.Dec.{ltb}
 use lib.ListN.{length, getD}
 use Rattle.buffer.specs.Wrote.{Wrote}
-use Rattle.job.specs.Job.{jobOf, shotCount}
+use Rattle.job.specs.Job.{shotCount}
 use Rattle.job.specs.Checking.{checked}
 use Rattle.job.specs.declared.Checked.{Checked}
 use Rattle.job.specs.declared.Checked.the-variants.{Accepted, Refused as Turned}
@@ -39,7 +39,7 @@ listVerdict Accepted = []
 listVerdict (Turned r) = refusedLine r
 
 abbrev pub verdict : File → List ℕ
-verdict (file f coords) = listVerdict (checked (jobOf (f .first) (f .second) (f .third) coords))
+verdict (file job) = listVerdict (checked job)
 verdict (refused r) = []
 
 -- the settings, at most 4,096 shots, and the verdict; or the refusal of the header

@@ -13,13 +13,13 @@ use Rattle.job.specs.Job.{shotCount, placeOf}
 use Rattle.job.specs.Checking.{firstOf}
 use Rattle.job.proofs.Tests.{within, or-false}
 use Rattle.job.proofs.Places.{passes, first-passed, first-stopped}
-use Rattle.shotfile.specs.Files.{File, file, settingFields}
+use Rattle.shotfile.specs.Files.{File, file}
 use Rattle.shotfile.specs.Calls.{readAnswer, readNumbers, readValues, readCoords}
 use Rattle.shotfile.specs.declared.reader.ReadAnswer.the-variants.{Read, Refused as Unread}
 use Rattle.shotfile.proofs.Coords.{count-none, count-more, places-more}
 use Rattle.vox_chunks.proofs.ChunkLaws.{matched-whole}
 use Rattle.vox_voxels.specs.Voxels.{sideOn, wrongSide, largestSide, voxelAt, firstWrong}
-use Rattle.vox.specs.Vox.{voxelCount, voxelFields, voxels, openingTests, voxelTests, voxTests, ifPassed, voxIn, VoxCall}
+use Rattle.vox.specs.Vox.{voxelCount, voxelFields, voxels, openingTests, voxelTests, voxTests, ifPassed, voxJob, voxIn, VoxCall}
 
 -- ---- the two parts of the checks
 module _ (places : ℕ) (s : List ℕ) where
@@ -78,7 +78,7 @@ voxels-whole s n (suc left) = places-more (voxelFields s n) (voxels s (suc n) le
 -- ---- the call
 -- what the file says, by what the checks found
 abbrev pub given : List ℕ → Checked → File
-given s c = ifPassed c (file (settingFields (largestSide s) 1 1) (voxels s 0 (voxelCount s)))
+given s c = ifPassed c (file (voxJob s))
 
 module _ (s before : List ℕ) where
   vox-is : {c : Checked} → c ≡ firstOf (voxTests (shotCount before) s) → given s c ≡ voxIn (shotCount before) s

@@ -9,10 +9,10 @@ use lib.ListN.{length}
 use Rattle.job.specs.declared.Refusal.the-variants.{TooManyShots, NoPlace, NotVox, BrokenChunk, VoxelRange}
 use Rattle.job.specs.declared.Checked.{Checked}
 use Rattle.job.specs.declared.Checked.the-variants.{Accepted, Refused}
-use Rattle.job.specs.Job.{shotCount}
+use Rattle.job.specs.Job.{Job, jobOf, shotCount}
 use Rattle.job.specs.Checking.{Test, firstOf}
 use Rattle.shotfile_records.specs.declared.Fields.{Fields}
-use Rattle.shotfile.specs.Files.{File, file, refused, settingFields, shotNumbers}
+use Rattle.shotfile.specs.Files.{File, file, refused, shotNumbers}
 use Rattle.shotfile.specs.Calls.{readAnswer, readNumbers, readValues, readCoords}
 use Rattle.shotfile.specs.declared.reader.ReadAnswer.{ReadAnswer}
 use Rattle.text_parts.specs.Text.{text}
@@ -81,9 +81,13 @@ abbrev pub ifPassed : Checked → File → File
 ifPassed Accepted f = f
 ifPassed (Refused r) f = refused r
 
--- what a file says where the coordinate slice has places for so many shots: the largest side as field, edge 1, grid 1, and the voxels
+-- the list of a file: the largest side as field, edge 1, grid 1, and the voxels
+abbrev pub voxJob : List ℕ → Job
+voxJob s = jobOf (largestSide s) 1 1 (voxels s 0 (voxelCount s))
+
+-- what a file says where the coordinate slice has places for so many shots
 unfoldable pub voxIn : ℕ → List ℕ → File
-voxIn places s = ifPassed (firstOf (voxTests places s)) (file (settingFields (largestSide s) 1 1) (voxels s 0 (voxelCount s)))
+voxIn places s = ifPassed (firstOf (voxTests places s)) (file (voxJob s))
 
 -- what `read_vox` promises of its answer r and of the coordinate slice after it
 pub record VoxCall (bytes before : List ℕ) (r : ReadAnswer) (after : List ℕ) : Type 0 where
