@@ -15,12 +15,14 @@ use Rattle.job.specs.declared.Checked.the-variants.{Accepted, Refused as Turned
 use Rattle.measure_intake.specs.Intake.{measuredNumbers, measureTests, measureNumbers, workAfter, IndexCall, MeasureCall}
 use Rattle.measure_intake.specs.declared.Measured.{Measured}
 use Rattle.measure.specs.Answers.{listNumbers, listingAfter, ListCall}
-use Rattle.shotfile.specs.Files.{File, file, refused, fileIn, fileOf}
+use Rattle.shotfile_reader.specs.Files.{File, file, refused, fileIn}
+use Rattle.shotfile_writer.specs.Files.{fileOf}
 use Rattle.buffer.specs.Wrote.{inFront}
-use Rattle.shotfile.specs.Calls.{readNumbers, readValues, readCoords, writtenNumbers, writeTests, ifWritten, writeValues, writeBytes, ReadCall, WriteCall}
-use Rattle.shotfile.specs.declared.reader.ReadAnswer.{ReadAnswer}
+use Rattle.shotfile_reader.specs.Calls.{readNumbers, readValues, readCoords, ReadCall}
+use Rattle.shotfile_writer.specs.Calls.{writtenNumbers, writeTests, ifWritten, writeValues, writeBytes, WriteCall}
+use Rattle.shotfile_reader.specs.declared.ReadAnswer.{ReadAnswer}
 use Rattle.vox.specs.Vox.{voxIn, VoxCall}
-use Rattle.shotfile.specs.declared.writer.WriteAnswer.{WriteAnswer}
+use Rattle.shotfile_writer.specs.declared.WriteAnswer.{WriteAnswer}
 use Rattle.grid_cover.specs.Cover.{firstCovering, coveringOf}
 use Rattle.grid_cover.specs.declared.Covering.{Covering}
 use Rattle.crediting.specs.Credits.{creditsAfter, CreditCall}

@@ -1,7 +1,7 @@
 -- The lines of the credits one after another; and what crediting a list and a file leaves, by what reading the file and crediting its list
 -- answer.
 use mathlib.Core.Path.{_≡_, sym, _∙_, ap, subst}
-use mathlib.Core.List.{List, _++_}
+use mathlib.Core.List.{List}
 use Prim.Native.Nat.{ℕ, zero, suc, _+_, _*_, _≤_, _<_}
 use native.Mathlib.Omega.{arith}
 use lib.ListN.{length, getD, take, drop, length-append}
@@ -13,11 +13,11 @@ use Rattle.job.specs.Job.{Job, jobOf, shotCount, firstShots}
 use Rattle.job.specs.declared.Refusal.{Refusal}
 use Rattle.job.specs.declared.Checked.{Checked}
 use Rattle.job.specs.declared.Checked.the-variants.{Accepted, Refused}
-use Rattle.shotfile.specs.Files.{File, file, refused, fileIn}
-use Rattle.shotfile.specs.Calls.{ReadCall}
-use Rattle.shotfile.specs.declared.reader.ReadAnswer.{ReadAnswer}
-use Rattle.shotfile.specs.declared.reader.ReadAnswer.the-variants.{Read, Refused as Unread}
-use Rattle.shotfile.proofs.Accepted.{accepted-file, refused-file}
+use Rattle.shotfile_reader.specs.Files.{File, file, fileIn}
+use Rattle.shotfile_reader.specs.Calls.{ReadCall}
+use Rattle.shotfile_reader.specs.declared.ReadAnswer.{ReadAnswer}
+use Rattle.shotfile_reader.specs.declared.ReadAnswer.the-variants.{Read, Refused as Unread}
+use Rattle.shotfile_reader.proofs.Accepted.{accepted-file, refused-file}
 use Rattle.grid.proofs.NumberLaws.{join-next, singles-length}
 use Rattle.text_parts.proofs.LineLaws.{digits-length, line-length}
 use Rattle.text_parts.specs.Decimal.{decimal}

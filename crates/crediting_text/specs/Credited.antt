@@ -8,8 +8,8 @@ use Rattle.lattice.specs.Sums.{join}
 use Rattle.job.specs.Job.{Job, shotCount}
 use Rattle.job.specs.declared.Checked.{Checked}
 use Rattle.job.specs.declared.Checked.the-variants.{Accepted, Refused}
-use Rattle.shotfile.specs.Files.{File, file, refused, fileIn}
-use Rattle.shotfile.specs.Calls.{readCoords}
+use Rattle.shotfile_reader.specs.Files.{File, file, refused, fileIn}
+use Rattle.shotfile_reader.specs.Calls.{readCoords}
 use Rattle.measure_intake.specs.Intake.{workAfter}
 use Rattle.text_parts.specs.Decimal.{decimal, line}
 use Rattle.quoting_text.specs.Quoting.{refusalText, indexAfter}

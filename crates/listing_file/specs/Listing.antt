@@ -5,8 +5,8 @@ use mathlib.Core.List.{List}
 use Prim.Native.Nat.{ℕ}
 use lib.ListN.{length}
 use Rattle.job.specs.Job.{shotCount}
-use Rattle.shotfile.specs.Files.{File, file, refused, fileIn}
-use Rattle.shotfile.specs.Calls.{readCoords}
+use Rattle.shotfile_reader.specs.Files.{File, file, refused, fileIn}
+use Rattle.shotfile_reader.specs.Calls.{readCoords}
 use Rattle.measure_intake.specs.Intake.{MeasuredNumbers, measuredNumbers, refusedNumbers}
 use Rattle.measure_intake.specs.declared.Measured.{Measured}
 use Rattle.measure_intake.specs.declared.Measured.the-variants.{Refused}

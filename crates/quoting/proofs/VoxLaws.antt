@@ -11,7 +11,7 @@ use Rattle.lattice_sums.specs.CornerSums.{totalsOf}
 use Rattle.job.specs.Job.{Job, shotCount, Valid}
 use Rattle.job.specs.declared.Checked.{Checked}
 use Rattle.grid.specs.Grid.{need}
-use Rattle.shotfile.specs.Files.{File, file}
+use Rattle.shotfile_reader.specs.Files.{File, file}
 use Rattle.vox.specs.Vox.{voxIn}
 use Rattle.vox.proofs.Voxels.{vox-list}
 use Rattle.measure_intake.specs.Intake.{solid, answerOf, measureAnswer}

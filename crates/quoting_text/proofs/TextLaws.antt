@@ -7,11 +7,11 @@ use Rattle.buffer.specs.Wrote.{Wrote}
 use Rattle.buffer.proofs.WroteLaws.{wrote-as}
 use Rattle.job.specs.Job.{jobOf, shotCount, firstShots}
 use Rattle.job.specs.declared.Refusal.{Refusal}
-use Rattle.shotfile.specs.Files.{File, file}
-use Rattle.shotfile.specs.Calls.{ReadCall}
-use Rattle.shotfile.specs.declared.reader.ReadAnswer.{ReadAnswer}
-use Rattle.shotfile.specs.declared.reader.ReadAnswer.the-variants.{Read, Refused}
-use Rattle.shotfile.proofs.Accepted.{FileRead, stored-list, stored-none, file-read}
+use Rattle.shotfile_reader.specs.Files.{File, file}
+use Rattle.shotfile_reader.specs.Calls.{ReadCall}
+use Rattle.shotfile_reader.specs.declared.ReadAnswer.{ReadAnswer}
+use Rattle.shotfile_reader.specs.declared.ReadAnswer.the-variants.{Read, Refused}
+use Rattle.shotfile_reader.proofs.Accepted.{FileRead, stored-list, stored-none, file-read}
 use Rattle.measure_intake.specs.Intake.{MeasureCall}
 use Rattle.measure_intake.specs.declared.Measured.{Measured}
 use Rattle.measure_intake.specs.declared.Measured.the-variants.{Refused as Unmeasured}

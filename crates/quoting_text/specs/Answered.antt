@@ -5,9 +5,9 @@ use mathlib.Core.List.{List}
 use Prim.Native.Nat.{ℕ, _≤_}
 use lib.ListN.{length}
 use Rattle.job.specs.Job.{jobOf, shotCount, firstShots}
-use Rattle.shotfile.specs.Files.{File, file, refused}
-use Rattle.shotfile.specs.declared.reader.ReadAnswer.{ReadAnswer}
-use Rattle.shotfile.specs.declared.reader.ReadAnswer.the-variants.{Read, Refused as Unread}
+use Rattle.shotfile_reader.specs.Files.{File, file, refused}
+use Rattle.shotfile_reader.specs.declared.ReadAnswer.{ReadAnswer}
+use Rattle.shotfile_reader.specs.declared.ReadAnswer.the-variants.{Read, Refused as Unread}
 use Rattle.measure_intake.specs.declared.Measured.{Measured}
 use Rattle.quoting_text.specs.Quoting.{measuredFile, indexAfter}
 

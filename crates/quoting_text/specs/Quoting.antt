@@ -7,8 +7,8 @@ use Rattle.buffer.specs.Wrote.{Wrote}
 use Rattle.job.specs.Job.{shotCount}
 use Rattle.job.specs.Refusals.{numberOf, detailOf}
 use Rattle.job.specs.declared.Refusal.{Refusal}
-use Rattle.shotfile.specs.Files.{File, file, refused, fileIn}
-use Rattle.shotfile.specs.Calls.{readCoords}
+use Rattle.shotfile_reader.specs.Files.{File, file, refused, fileIn}
+use Rattle.shotfile_reader.specs.Calls.{readCoords}
 use Rattle.measure_intake.specs.Intake.{measureAnswer, workAfter}
 use Rattle.measure_intake.specs.declared.Measured.{Measured}
 use Rattle.measure_intake.specs.declared.Measured.the-variants.{Quote, Refused}

@@ -1,6 +1,6 @@
 // What is printed for an answer of measuring: the lines of its quote, or the line of its refusal. specs/Quoting.antt has the text of a file's
 // list, and proofs/TextLaws.antt what a call leaves that reads a file, measures its list and puts the text. Stands on `text_report`, and on
-// the answers of `shotfile` and `measure_intake`.
+// the answers of `shotfile_reader` and `measure_intake`.
 ghost use Prim.Native.Nat.{_≤_};
 ghost use lib.ListN.{length};
 ghost use Rattle.buffer.specs.Wrote.{Wrote};

@@ -11,19 +11,24 @@ use Rattle.lattice.specs.Shots.{Shot}
 use Rattle.job.specs.Job.{Job, shots, shotsOf}
 use Rattle.shotfile_records.specs.declared.Fields.{Fields}
 use Rattle.shotfile_records.specs.declared.Taken.the-variants.{Whole}
-use Rattle.shotfile.specs.declared.reader.Cursor.{Cursor}
-use Rattle.shotfile.specs.declared.reader.Step.{Step}
-use Rattle.shotfile.specs.declared.reader.Step.the-variants.{Shot as Stepped}
+use Rattle.shotfile_reader.specs.declared.Cursor.{Cursor}
+use Rattle.shotfile_reader.specs.declared.Step.{Step}
+use Rattle.shotfile_reader.specs.declared.Step.the-variants.{Shot as Stepped}
 use Rattle.shotfile_records.specs.Records.{headerAbsent, firstAbsent, wordAt, fieldAt, secondAt, thirdAt, fieldsAt, recordAt, bitOf, fieldOf, recordOf, needless, tight}
-use Rattle.shotfile.specs.Files.{settingFields, shotFields, stepAt, file, fileIn, onShot, shotRecords, fileOf, tightFrom, tightRest, shortest}
+use Rattle.shotfile_records.specs.Numbers.{settingFields, shotFields}
+use Rattle.shotfile_reader.specs.Files.{stepAt, file, fileIn, onShot}
+use Rattle.shotfile_writer.specs.Files.{shotRecords, fileOf}
+use Rattle.shotfile.specs.Shortest.{tightFrom, tightRest, shortest}
 use Rattle.shotfile_records.proofs.Taking.{field-there}
 use Rattle.shotfile_records.proofs.Putting.{bit-absent, bit-small, field-size, record-size}
-use Rattle.shotfile.proofs.Coords.{shots-none, shots-more}
-use Rattle.shotfile.proofs.Steps.{step-end, step-on}
-use Rattle.shotfile.proofs.ShotsRead.{Reads, done, shot, reads-whole, reads-room, reads-few}
+use Rattle.shotfile_reader.proofs.Coords.{shots-none, shots-more}
+use Rattle.shotfile_reader.proofs.Steps.{step-end, step-on}
+use Rattle.shotfile_reader.proofs.ShotsRead.{Reads, done, shot, reads-whole, reads-room, reads-few}
 use Rattle.shotfile.proofs.ReadBack.{SmallFields, SmallShots, file-read}
-use Rattle.shotfile.proofs.WriteBack.{Bytes, Parts, parts, bit-least, record-least}
-use Rattle.shotfile.proofs.Shortest.{file-parts, more-length, shots-least, file-size}
+use Rattle.shotfile.proofs.WriteBack.{Bytes, bit-least, record-least}
+use Rattle.shotfile_records.proofs.Parts.{Parts, parts}
+use Rattle.shotfile_reader.proofs.FileParts.{file-parts}
+use Rattle.shotfile.proofs.Shortest.{more-length, shots-least, file-size}
 use Rattle.shotfile.proofs.Tight.{end-tight}
 
 -- ---- a record that is as short as the shortest is that: no field of it is needless

@@ -13,12 +13,14 @@ use Rattle.job.specs.Job.{Job, shots, shotsOf, shotCount, placeOf}
 use Rattle.job.proofs.Shots.{shots-count}
 use Rattle.shotfile_records.specs.declared.Fields.{Fields}
 use Rattle.shotfile_records.specs.declared.Taken.the-variants.{Whole}
-use Rattle.shotfile.specs.declared.reader.Step.the-variants.{Shot as Stepped}
+use Rattle.shotfile_reader.specs.declared.Step.the-variants.{Shot as Stepped}
 use Rattle.shotfile_records.specs.Records.{headerAbsent, firstAbsent, fieldAt, recordAt, bitOf, fieldOf, mapOf, recordOf}
-use Rattle.shotfile.specs.Files.{settingFields, shotFields, shotNumbers, stepAt, coordinates, withShot, onStep, shotsFrom, file, withSettings, firstShot, onHeader, fileIn, shotRecords, fileOf}
+use Rattle.shotfile_records.specs.Numbers.{settingFields, shotFields, shotNumbers}
+use Rattle.shotfile_reader.specs.Files.{stepAt, coordinates, withShot, onStep, shotsFrom, file, withSettings, firstShot, onHeader, fileIn}
+use Rattle.shotfile_writer.specs.Files.{shotRecords, fileOf}
 use Rattle.shotfile_records.proofs.Taking.{field-absent, field-there, taken-whole}
-use Rattle.shotfile.proofs.Coords.{shots-more, allNumbers, all-numbers}
-use Rattle.shotfile.proofs.Steps.{step-on, shots-end, shots-on}
+use Rattle.shotfile_reader.proofs.Coords.{shots-more, allNumbers, all-numbers}
+use Rattle.shotfile_reader.proofs.Steps.{step-on, shots-end, shots-on}
 use Rattle.shotfile_records.proofs.Putting.{bit-absent, bit-there, bit-small, field-some, field-size, record-size}
 
 -- the numbers are of 16 bits

@@ -16,20 +16,25 @@ use Rattle.buffer.specs.Wrote.{inFront}
 use Rattle.lattice.specs.Shots.{Shot, AllInField}
 use Rattle.job.specs.Job.{Job, jobOf, shots, shotCount, firstShots, Valid}
 use Rattle.job.proofs.Conditions.{accepted-valid}
-use Rattle.shotfile.specs.declared.reader.ReadAnswer.{ReadAnswer}
-use Rattle.shotfile.specs.declared.reader.ReadAnswer.the-variants.{Read}
-use Rattle.shotfile.specs.declared.writer.WriteAnswer.{WriteAnswer}
-use Rattle.shotfile.specs.declared.writer.WriteAnswer.the-variants.{Written}
-use Rattle.shotfile.specs.Files.{settingFields, File, file, fileIn, fileOf, shortest}
-use Rattle.shotfile.specs.Calls.{readNumbers, readAnswer, readValues, readCoords, ReadCall, writtenNumbers, WriteCall}
-use Rattle.shotfile.proofs.Coords.{threes-whole}
+use Rattle.shotfile_reader.specs.declared.ReadAnswer.{ReadAnswer}
+use Rattle.shotfile_reader.specs.declared.ReadAnswer.the-variants.{Read}
+use Rattle.shotfile_writer.specs.declared.WriteAnswer.{WriteAnswer}
+use Rattle.shotfile_writer.specs.declared.WriteAnswer.the-variants.{Written}
+use Rattle.shotfile_records.specs.Numbers.{settingFields}
+use Rattle.shotfile_reader.specs.Files.{File, file, fileIn}
+use Rattle.shotfile_writer.specs.Files.{fileOf}
+use Rattle.shotfile.specs.Shortest.{shortest}
+use Rattle.shotfile_reader.specs.Calls.{readNumbers, readAnswer, readValues, readCoords, ReadCall}
+use Rattle.shotfile_writer.specs.Calls.{writtenNumbers, WriteCall}
+use Rattle.shotfile_reader.proofs.Coords.{threes-whole}
 use Rattle.shotfile.proofs.ReadBack.{SmallFields, SmallShots, file-read}
 use Rattle.shotfile.proofs.Tight.{file-tight}
 use Rattle.shotfile.proofs.WriteBack.{Bytes}
 use Rattle.shotfile.proofs.Shortest.{file-least, file-same}
 use Rattle.shotfile.proofs.Fewest.{file-fewest, again-bytes, again-read}
-use Rattle.shotfile.proofs.Writing.{write-done}
-use Rattle.shotfile.proofs.Accepted.{accepted-file, AcceptedList, accepted-list}
+use Rattle.shotfile_writer.proofs.Writing.{write-done}
+use Rattle.shotfile_reader.proofs.Accepted.{accepted-file}
+use Rattle.shotfile_writer.proofs.Accepted.{AcceptedList, accepted-list}
 
 -- ---- of the definitions
 -- the numbers of a valid list are of 16 bits

@@ -1,5 +1,5 @@
 -- The shortest form is shortest, and a file in its shortest form is what its list is written as. Assumes nothing.
-use mathlib.Core.Path.{_≡_, refl, sym, ap, subst, _∙_}
+use mathlib.Core.Path.{_≡_, sym, ap, subst, _∙_}
 use mathlib.Core.Bool.{true}
 use mathlib.Core.List.{List, [], _++_}
 use Prim.Native.Nat.{ℕ, zero, suc, _+_, _-_, _≤_}
@@ -7,47 +7,24 @@ use native.Mathlib.Omega.{arith}
 use lib.Dec.{T}
 use lib.ListN.{length, drop, length-append, drop-of-length-le}
 use Rattle.lattice.proofs.Cases.{and-left, and-right}
-use Rattle.job.specs.declared.Refusal.{Refusal}
-use Rattle.job.specs.Job.{Job, jobOf, shots, shotsOf, shotCount}
+use Rattle.job.specs.Job.{Job, shots, shotsOf, shotCount}
 use Rattle.shotfile_records.specs.declared.Fields.{Fields}
 use Rattle.shotfile_records.specs.declared.Taken.{Taken}
-use Rattle.shotfile_records.specs.declared.Taken.the-variants.{Whole, Refused}
-use Rattle.shotfile.specs.declared.reader.Cursor.{Cursor}
-use Rattle.shotfile.specs.declared.reader.Step.{Step}
-use Rattle.shotfile.specs.declared.reader.Step.the-variants.{Shot}
+use Rattle.shotfile_records.specs.declared.Taken.the-variants.{Whole}
+use Rattle.shotfile_reader.specs.declared.Cursor.{Cursor}
+use Rattle.shotfile_reader.specs.declared.Step.{Step}
+use Rattle.shotfile_reader.specs.declared.Step.the-variants.{Shot}
 use Rattle.shotfile_records.specs.Records.{headerAbsent, firstAbsent, recordAt, recordOf, tight}
-use Rattle.shotfile.specs.Files.{settingFields, shotNumbers, stepAt, Rest, coordinates, faulty, shotsFrom, file, refused, withSettings, firstShot, onHeader, fileIn, onShot, shotRecords, fileOf, tightFrom, tightRest, shortest}
-use Rattle.shotfile.proofs.Coords.{shots-none, shots-more, count-none, count-more}
-use Rattle.shotfile.proofs.Steps.{step-on}
-use Rattle.shotfile.proofs.ShotsRead.{Reads, done, shot, reads}
-use Rattle.shotfile.proofs.WriteBack.{Bytes, parts, record-least, record-same}
-
--- ---- a file that was read, taken apart
-pub record FileParts (s : List ℕ) (places : ℕ) (job : Job) : Type 0 where
-  pub end : ℕ
-  pub header : recordAt s 0 headerAbsent ≡ Whole (settingFields job) end
-  pub rest : Reads s 4096 places (firstShot end) job.coords
-
-pub file-parts : (s : List ℕ) (places : ℕ) {job : Job} → fileIn places s ≡ file job → FileParts s places job
-unfolding fileIn
-file-parts s places {job} e = header (recordAt s 0 headerAbsent) refl e
-  where
-    apart : {P : Type 0} {r : Refusal} → refused r ≡ file job → P
-    apart e = let z : _≡_ {A = ℕ} 0 1 = cc in absurd (omega arith)
-
-    rest : (f : Fields) (end : ℕ) → recordAt s 0 headerAbsent ≡ Whole f end → (k : Rest) → shotsFrom 4096 places s (firstShot end) ≡ k → withSettings f k ≡ file job → FileParts s places job
-    rest f end h (faulty r) q e = apart e
-    rest f end h (coordinates coords) q e =
-        let same : jobOf (f .first) (f .second) (f .third) coords ≡ job = cc in
-        record {
-          end = end;
-          header = h ∙ ap (λ (j : Job). Whole (settingFields j) end) same;
-          rest = reads s 4096 places (firstShot end) (q ∙ ap (λ (j : Job). coordinates j.coords) same);
-        }
-
-    header : (t : Taken) → recordAt s 0 headerAbsent ≡ t → onHeader t (λ end. shotsFrom 4096 places s (firstShot end)) ≡ file job → FileParts s places job
-    header (Refused r) h e = apart e
-    header (Whole f end) h e = rest f end h (shotsFrom 4096 places s (firstShot end)) refl e
+use Rattle.shotfile_records.specs.Numbers.{settingFields, shotNumbers}
+use Rattle.shotfile_reader.specs.Files.{stepAt, file, firstShot, fileIn, onShot}
+use Rattle.shotfile_writer.specs.Files.{shotRecords, fileOf}
+use Rattle.shotfile.specs.Shortest.{tightFrom, tightRest, shortest}
+use Rattle.shotfile_reader.proofs.Coords.{shots-none, shots-more, count-none, count-more}
+use Rattle.shotfile_reader.proofs.Steps.{step-on}
+use Rattle.shotfile_reader.proofs.ShotsRead.{Reads, done, shot}
+use Rattle.shotfile_reader.proofs.FileParts.{file-parts}
+use Rattle.shotfile.proofs.WriteBack.{Bytes, record-least, record-same}
+use Rattle.shotfile_records.proofs.Parts.{parts}
 
 -- ---- no file of the same list is shorter
 module _ (e : ℕ) where

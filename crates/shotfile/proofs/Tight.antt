@@ -10,10 +10,13 @@ use Rattle.lattice.specs.Shots.{Shot}
 use Rattle.job.specs.Job.{Job, shots}
 use Rattle.shotfile_records.specs.declared.Fields.{Fields}
 use Rattle.shotfile_records.specs.declared.Taken.the-variants.{Whole}
-use Rattle.shotfile.specs.declared.reader.Step.{Step}
+use Rattle.shotfile_reader.specs.declared.Step.{Step}
 use Rattle.shotfile_records.specs.Records.{headerAbsent, firstAbsent, wordAt, fieldAt, recordAt, bitOf, recordOf, needless, tight}
-use Rattle.shotfile.specs.Files.{settingFields, shotFields, stepAt, onShot, shotRecords, fileOf, tightFrom, tightRest, shortest}
-use Rattle.shotfile.proofs.Steps.{step-end}
+use Rattle.shotfile_records.specs.Numbers.{settingFields, shotFields}
+use Rattle.shotfile_reader.specs.Files.{stepAt, onShot}
+use Rattle.shotfile_writer.specs.Files.{shotRecords, fileOf}
+use Rattle.shotfile.specs.Shortest.{tightFrom, tightRest, shortest}
+use Rattle.shotfile_reader.proofs.Steps.{step-end}
 use Rattle.shotfile.proofs.ReadBack.{SmallFields, SmallShots, Placed, placed, placed-first, placed-second, placed-third, placed-read, one-step}
 
 -- a field that is written only where it must be is not needless

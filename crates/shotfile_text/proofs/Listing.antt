@@ -1,10 +1,10 @@
--- What the text of a file shows, in words of what reading the file gives (`fileIn` of `shotfile`): the settings of a file that reads, one
+-- What the text of a file shows, in words of what reading the file gives (`fileIn` of `shotfile_reader`): the settings of a file that reads, one
 -- line for each of its shots with the shot's coordinates, in order and numbered from 0, and the refusal of its list, if there is one;
 -- of a file that does not read, some lines and then its refusal. Assumes nothing.
 use mathlib.Core.Path.{_≡_, refl, sym, ap, _∙_, subst}
 use mathlib.Core.Bool.{Bool, true, false, cond}
 use mathlib.Core.List.{List, [], _++_, append-assoc, append-nil}
-use Prim.Native.Nat.{ℕ, zero, suc, _+_, _-_, _≤_}
+use Prim.Native.Nat.{ℕ, zero, suc, _+_, _≤_}
 use native.Mathlib.Omega.{arith}
 use lib.Dec.{ltb}
 use lib.ListN.{length, getD}
@@ -15,10 +15,11 @@ use Rattle.job.specs.Checking.{checked}
 use Rattle.shotfile_records.specs.declared.Fields.{Fields}
 use Rattle.shotfile_records.specs.declared.Taken.{Taken}
 use Rattle.shotfile_records.specs.declared.Taken.the-variants.{Whole, Refused}
-use Rattle.shotfile.specs.declared.reader.Cursor.{Cursor}
-use Rattle.shotfile.specs.declared.reader.Step.the-variants.{End}
+use Rattle.shotfile_reader.specs.declared.Cursor.{Cursor}
+use Rattle.shotfile_reader.specs.declared.Step.the-variants.{End}
 use Rattle.shotfile_records.specs.Records.{headerAbsent, recordAt}
-use Rattle.shotfile.specs.Files.{settingFields, shotNumbers, stepOf, stepAt, Rest, coordinates, faulty, withShot, onStep, shotsFrom, File, file, refused, firstShot, withSettings, onHeader, fileIn}
+use Rattle.shotfile_records.specs.Numbers.{settingFields, shotNumbers}
+use Rattle.shotfile_reader.specs.Files.{stepOf, stepAt, Rest, coordinates, faulty, withShot, onStep, shotsFrom, File, file, refused, firstShot, withSettings, onHeader, fileIn}
 use Rattle.shotfile_lines.specs.Lines.{settings, shotLine, refusedLine}
 use Rattle.shotfile_text.specs.Text.{stepLine, shotLines, listVerdict, verdict, recordsText, plainText}
 

@@ -9,10 +9,10 @@ use Rattle.buffer.specs.Wrote.{Wrote}
 use Rattle.buffer.proofs.WroteLaws.{wrote-none, wrote-then, wrote-as}
 use Rattle.job.specs.declared.Refusal.{Refusal}
 use Rattle.job.specs.declared.Refusal.the-variants.{TooManyShots}
-use Rattle.shotfile.specs.declared.reader.Cursor.{Cursor}
-use Rattle.shotfile.specs.declared.reader.Step.{Step}
-use Rattle.shotfile.specs.declared.reader.Step.the-variants.{Shot, Refused as Stopped, End}
-use Rattle.shotfile.specs.Files.{stepAt}
+use Rattle.shotfile_reader.specs.declared.Cursor.{Cursor}
+use Rattle.shotfile_reader.specs.declared.Step.{Step}
+use Rattle.shotfile_reader.specs.declared.Step.the-variants.{Shot, Refused as Stopped, End}
+use Rattle.shotfile_reader.specs.Files.{stepAt}
 use Rattle.shotfile_lines.specs.Lines.{shotLine, refusedLine}
 use Rattle.shotfile_text.specs.Text.{stepLine, shotLines}
 use Rattle.shotfile_lines.proofs.LineLaws.{refused-length, shot-length}

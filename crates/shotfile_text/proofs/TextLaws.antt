@@ -16,13 +16,13 @@ use Rattle.job.specs.Checking.{checked}
 use Rattle.shotfile_records.specs.declared.Fields.{Fields}
 use Rattle.shotfile_records.specs.declared.Taken.{Taken}
 use Rattle.shotfile_records.specs.declared.Taken.the-variants.{Whole, Refused}
-use Rattle.shotfile.specs.declared.reader.ReadAnswer.{ReadAnswer}
-use Rattle.shotfile.specs.declared.reader.ReadAnswer.the-variants.{Read, Refused as Unread}
+use Rattle.shotfile_reader.specs.declared.ReadAnswer.{ReadAnswer}
+use Rattle.shotfile_reader.specs.declared.ReadAnswer.the-variants.{Read, Refused as Unread}
 use Rattle.shotfile_records.specs.Records.{headerAbsent, firstAbsent, recordAt}
-use Rattle.shotfile.specs.Files.{fileIn}
-use Rattle.shotfile.specs.Calls.{readCoords, ReadCall}
+use Rattle.shotfile_reader.specs.Files.{fileIn}
+use Rattle.shotfile_reader.specs.Calls.{readCoords, ReadCall}
 use Rattle.shotfile_records.proofs.Taking.{no-map}
-use Rattle.shotfile.proofs.Accepted.{accepted-file, refused-file}
+use Rattle.shotfile_reader.proofs.Accepted.{accepted-file, refused-file}
 use Rattle.shotfile_lines.specs.Lines.{settings, refusedLine}
 use Rattle.shotfile_text.specs.Text.{shotLines, listVerdict, verdict, recordsText, plainText}
 

@@ -14,12 +14,12 @@ use Rattle.job.specs.declared.Checked.the-variants.{Accepted, Refused as Turned
 use Rattle.job.specs.declared.Refusal.the-variants.{TooManyShots}
 use Rattle.shotfile_records.specs.declared.Taken.{Taken}
 use Rattle.shotfile_records.specs.declared.Taken.the-variants.{Whole, Refused}
-use Rattle.shotfile.specs.declared.reader.Cursor.{Cursor}
-use Rattle.shotfile.specs.declared.reader.Step.{Step}
-use Rattle.shotfile.specs.declared.reader.Step.the-variants.{Shot, Refused as Stopped, End}
+use Rattle.shotfile_reader.specs.declared.Cursor.{Cursor}
+use Rattle.shotfile_reader.specs.declared.Step.{Step}
+use Rattle.shotfile_reader.specs.declared.Step.the-variants.{Shot, Refused as Stopped, End}
 use Rattle.shotfile_records.specs.Records.{headerAbsent, recordAt}
-use Rattle.shotfile.specs.Files.{File, file, refused, stepAt, firstShot, fileIn}
-use Rattle.shotfile.specs.Calls.{readCoords}
+use Rattle.shotfile_reader.specs.Files.{File, file, refused, stepAt, firstShot, fileIn}
+use Rattle.shotfile_reader.specs.Calls.{readCoords}
 use Rattle.shotfile_lines.specs.Lines.{settings, shotLine, refusedLine}
 
 -- what a step gives for shot n with the map at a place, and then the rest

@@ -1,14 +1,14 @@
 // A shot file as plain text, one record a line, put into a lent slice: what the program `shots` prints. The settings, the shots with their
 // numbers and places, and, at the end, why the file or its list is refused, if it is. specs/Text.antt says what the text is.
-// Stands on `shotfile_lines`, which has the single lines, on `shotfile`, `shotfile_records` and `job`, and on `buffer`.
+// Stands on `shotfile_lines`, which has the single lines, on `shotfile_reader`, `shotfile_records` and `job`, and on `buffer`.
 use job::Checked;
 use job::Refusal;
-use shotfile::Cursor;
-use shotfile::ReadAnswer;
-use shotfile::Step;
 use shotfile_lines::put_refused;
 use shotfile_lines::put_settings;
 use shotfile_lines::put_shot;
+use shotfile_reader::Cursor;
+use shotfile_reader::ReadAnswer;
+use shotfile_reader::Step;
 use shotfile_records::Taken;
 ghost use mathlib.Core.Path.{_≡_};
 ghost use Prim.Native.Nat.{_+_, _≤_};
@@ -75,7 +75,7 @@ fn put_verdict(bytes: &[u8], coords: &mut [u16], out: &mut [u8], at: usize) -> u
     ensures { λ r. ⌜ Wrote (now (out .entry)) (now (out .exit)) at r (fileVerdict (now (bytes .entry)) (now (coords .entry))) ⌝ }
     ensures coordinates { λ _. ⌜ now (coords .exit) ≡ coordsAfter (now (bytes .entry)) (now (coords .entry)) ⌝ }
 {
-    let read = shotfile::read(bytes, coords);
+    let read = shotfile_reader::read(bytes, coords);
     match read {
         ReadAnswer::Read {
             field,

@@ -14,13 +14,14 @@ use Rattle.job.proofs.Conditions.{accepted-valid}
 use Rattle.text_parts.specs.Text.{text}
 use Rattle.text_parts.specs.Decimal.{digits, decimal}
 use Rattle.shotfile_records.specs.declared.Fields.{Fields}
-use Rattle.shotfile.specs.declared.reader.Cursor.{Cursor}
+use Rattle.shotfile_reader.specs.declared.Cursor.{Cursor}
 use Rattle.shotfile_records.specs.Records.{headerAbsent}
-use Rattle.shotfile.specs.Files.{settingFields, file, firstShot, fileIn}
-use Rattle.shotfile.proofs.Coords.{count-more}
-use Rattle.shotfile.proofs.ShotsRead.{Reads, done, shot}
-use Rattle.shotfile.proofs.Shortest.{file-parts}
-use Rattle.shotfile.proofs.WriteBack.{parts}
+use Rattle.shotfile_records.specs.Numbers.{settingFields}
+use Rattle.shotfile_reader.specs.Files.{file, firstShot, fileIn}
+use Rattle.shotfile_reader.proofs.Coords.{count-more}
+use Rattle.shotfile_reader.proofs.ShotsRead.{Reads, done, shot}
+use Rattle.shotfile_reader.proofs.FileParts.{file-parts}
+use Rattle.shotfile_records.proofs.Parts.{parts}
 use Rattle.shotfile.proofs.ReadBack.{SmallShots, small-more}
 use Rattle.shotfile.proofs.RoundTrip.{small-shots}
 use Rattle.shotfile_lines.specs.Lines.{note, settingLine, settings, shotLine}

@@ -2,7 +2,7 @@
 use mathlib.Core.Path.{_≡_, refl, sym, ap, subst, _∙_}
 use mathlib.Core.Bool.{Bool, true, false, cond}
 use mathlib.Core.List.{List, [], _∷_, _++_, append-assoc, append-nil}
-use Prim.Native.Nat.{ℕ, zero, suc, _+_, _-_, _/_, _%_, _≤_}
+use Prim.Native.Nat.{ℕ, zero, suc, _+_, _/_, _%_, _≤_}
 use native.Mathlib.Omega.{arith}
 use lib.Dec.{ltb}
 use lib.ListN.{length, getD}
@@ -18,12 +18,13 @@ use Rattle.text_same.specs.Same.{same}
 use Rattle.shotfile_records.specs.declared.Fields.{Fields}
 use Rattle.shotfile_records.specs.declared.Taken.{Taken}
 use Rattle.shotfile_records.specs.declared.Taken.the-variants.{Whole, Refused}
-use Rattle.shotfile.specs.declared.reader.Cursor.{Cursor}
-use Rattle.shotfile.specs.declared.reader.Step.{Step}
-use Rattle.shotfile.specs.declared.reader.Step.the-variants.{Shot as Step-shot, Refused as Stopped, End}
+use Rattle.shotfile_reader.specs.declared.Cursor.{Cursor}
+use Rattle.shotfile_reader.specs.declared.Step.{Step}
+use Rattle.shotfile_reader.specs.declared.Step.the-variants.{Shot as Step-shot, Refused as Stopped, End}
 use Rattle.shotfile_records.specs.Records.{headerAbsent, recordAt}
-use Rattle.shotfile.specs.Files.{settingFields, Rest, coordinates, faulty, withShot, onStep, stepAt, shotsFrom, file, refused, withSettings, onHeader, firstShot, fileIn}
-use Rattle.shotfile.proofs.Shortest.{file-parts}
+use Rattle.shotfile_records.specs.Numbers.{settingFields}
+use Rattle.shotfile_reader.specs.Files.{Rest, coordinates, faulty, withShot, onStep, stepAt, shotsFrom, file, refused, withSettings, onHeader, firstShot, fileIn}
+use Rattle.shotfile_reader.proofs.FileParts.{file-parts}
 use Rattle.shotfile_lines.specs.Lines.{labelled, note, settingLine, settings, shotLine, placeText, refusedLine}
 use Rattle.shotfile_text.specs.Text.{stepLine, shotLines, listVerdict, verdict, recordsText, plainText}
 use Rattle.text_wording.specs.Sentences.{sentence}

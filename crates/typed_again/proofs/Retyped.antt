@@ -16,13 +16,16 @@ use Rattle.text_parts.specs.Text.{text}
 use Rattle.text_same.specs.Same.{same}
 use Rattle.shotfile_records.specs.declared.Fields.{Fields}
 use Rattle.shotfile_records.specs.declared.Taken.the-variants.{Whole}
-use Rattle.shotfile.specs.declared.reader.Cursor.{Cursor}
+use Rattle.shotfile_reader.specs.declared.Cursor.{Cursor}
 use Rattle.shotfile_records.specs.Records.{recordAt}
-use Rattle.shotfile.specs.Files.{settingFields, shotNumbers, File, file, firstShot, fileIn, fileOf, shortest}
-use Rattle.shotfile.proofs.Coords.{count-none, count-more}
-use Rattle.shotfile.proofs.Steps.{step-end, step-on}
-use Rattle.shotfile.proofs.ShotsRead.{Reads, done, shot, reads-room}
-use Rattle.shotfile.proofs.Shortest.{file-parts}
+use Rattle.shotfile_records.specs.Numbers.{settingFields, shotNumbers}
+use Rattle.shotfile_reader.specs.Files.{File, file, firstShot, fileIn}
+use Rattle.shotfile_writer.specs.Files.{fileOf}
+use Rattle.shotfile.specs.Shortest.{shortest}
+use Rattle.shotfile_reader.proofs.Coords.{count-none, count-more}
+use Rattle.shotfile_reader.proofs.Steps.{step-end, step-on}
+use Rattle.shotfile_reader.proofs.ShotsRead.{Reads, done, shot, reads-room}
+use Rattle.shotfile_reader.proofs.FileParts.{file-parts}
 use Rattle.shotfile.proofs.ReadBack.{SmallShots, small-more}
 use Rattle.shotfile.proofs.RoundTrip.{small-shots, written-read}
 use Rattle.shotfile.proofs.WriteBack.{Bytes}

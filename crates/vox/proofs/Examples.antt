@@ -7,7 +7,7 @@ use lib.ListN.{take}
 use Rattle.job.specs.declared.Refusal.the-variants.{NoPlace, NotVox, BrokenChunk, VoxelRange}
 use Rattle.job.specs.Job.{jobOf}
 use Rattle.job.specs.Checking.{firstOf}
-use Rattle.shotfile.specs.Files.{file, refused}
+use Rattle.shotfile_reader.specs.Files.{file, refused}
 use Rattle.text_same.specs.Same.{same}
 use Rattle.text_parts.specs.Text.{text}
 use Rattle.vox_chunks.specs.Chunks.{numberAt, stands}

@@ -7,8 +7,8 @@ use Rattle.job.specs.declared.Checked.{Checked}
 use Rattle.job.specs.declared.Checked.the-variants.{Accepted, Refused}
 use Rattle.job.specs.Job.{Job}
 use Rattle.job.specs.Checking.{firstOf}
-use Rattle.shotfile.specs.Files.{file}
-use Rattle.shotfile.proofs.Accepted.{Fits}
+use Rattle.shotfile_reader.specs.Files.{file}
+use Rattle.shotfile_reader.proofs.Accepted.{Fits}
 use Rattle.vox.specs.Vox.{voxelCount, voxTests, voxJob, voxIn}
 use Rattle.vox.proofs.Passed.{Passed, passed-has, voxels-count, voxels-whole, given}
 

@@ -13,10 +13,10 @@ use Rattle.job.specs.Job.{shotCount, placeOf}
 use Rattle.job.specs.Checking.{firstOf}
 use Rattle.job.proofs.Tests.{within, or-false}
 use Rattle.job.proofs.Places.{passes, first-passed, first-stopped}
-use Rattle.shotfile.specs.Files.{File, file}
-use Rattle.shotfile.specs.Calls.{readAnswer, readNumbers, readValues, readCoords}
-use Rattle.shotfile.specs.declared.reader.ReadAnswer.the-variants.{Read, Refused as Unread}
-use Rattle.shotfile.proofs.Coords.{count-none, count-more, places-more}
+use Rattle.shotfile_reader.specs.Files.{File, file}
+use Rattle.shotfile_reader.specs.Calls.{readAnswer, readNumbers, readValues, readCoords}
+use Rattle.shotfile_reader.specs.declared.ReadAnswer.the-variants.{Read, Refused as Unread}
+use Rattle.shotfile_reader.proofs.Coords.{count-none, count-more, places-more}
 use Rattle.vox_chunks.proofs.ChunkLaws.{matched-whole}
 use Rattle.vox_voxels.specs.Voxels.{sideOn, wrongSide, largestSide, voxelAt, firstWrong}
 use Rattle.vox.specs.Vox.{voxelCount, voxelFields, voxels, openingTests, voxelTests, voxTests, ifPassed, voxJob, voxIn, VoxCall}

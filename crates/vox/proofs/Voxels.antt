@@ -14,10 +14,10 @@ use Rattle.job.specs.Job.{Job, jobOf, shotsOf, shotCount, shotAt, firstShots, V
 use Rattle.job.proofs.Tests.{or-false, leb-says, ltb-says, and-says}
 use Rattle.job.proofs.Shots.{shots-at, stay-all, any-at, at-any}
 use Rattle.grid.proofs.NeedLaws.{one-cell-need}
-use Rattle.shotfile.specs.Files.{file}
-use Rattle.shotfile.specs.declared.reader.ReadAnswer.the-variants.{Read}
-use Rattle.shotfile.proofs.Coords.{shots-more}
-use Rattle.shotfile.proofs.Accepted.{stored-list}
+use Rattle.shotfile_reader.specs.Files.{file}
+use Rattle.shotfile_reader.specs.declared.ReadAnswer.the-variants.{Read}
+use Rattle.shotfile_reader.proofs.Coords.{shots-more}
+use Rattle.shotfile_reader.proofs.Accepted.{stored-list}
 use Rattle.vox_voxels.specs.Voxels.{sideOn, largestSide, byteOf, beyond, wrongVoxel}
 use Rattle.vox.specs.Vox.{voxelCount, voxelFields, voxels, voxJob, voxIn, VoxCall}
 use Rattle.vox.specs.Conditions.{voxelShot, HasVoxel, VoxList}

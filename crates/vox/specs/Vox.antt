@@ -12,9 +12,10 @@ use Rattle.job.specs.declared.Checked.the-variants.{Accepted, Refused}
 use Rattle.job.specs.Job.{Job, jobOf, shotCount}
 use Rattle.job.specs.Checking.{Test, firstOf}
 use Rattle.shotfile_records.specs.declared.Fields.{Fields}
-use Rattle.shotfile.specs.Files.{File, file, refused, shotNumbers}
-use Rattle.shotfile.specs.Calls.{readAnswer, readNumbers, readValues, readCoords}
-use Rattle.shotfile.specs.declared.reader.ReadAnswer.{ReadAnswer}
+use Rattle.shotfile_reader.specs.Files.{File, file, refused}
+use Rattle.shotfile_records.specs.Numbers.{shotNumbers}
+use Rattle.shotfile_reader.specs.Calls.{readAnswer, readNumbers, readValues, readCoords}
+use Rattle.shotfile_reader.specs.declared.ReadAnswer.{ReadAnswer}
 use Rattle.text_parts.specs.Text.{text}
 use Rattle.vox_chunks.specs.Chunks.{numberAt, stands, contentAt, afterChunk, missing, overruns, mismatched}
 use Rattle.vox_voxels.specs.Voxels.{wrongSide, largestSide, voxelAt, byteOf, firstWrong}
