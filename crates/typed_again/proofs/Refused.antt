@@ -31,16 +31,17 @@ use Rattle.text_wording.specs.Sentences.{sentence}
 use Rattle.typed_line.specs.declared.entry.Mistake.{Mistake}
 use Rattle.typed_line.specs.declared.entry.Mistake.the-variants.{UnknownWord}
 use Rattle.typed_line.specs.declared.entry.Entry.the-variants.{Wrong}
-use Rattle.typed_list.specs.declared.draft.Draft.{Draft}
-use Rattle.typed_list.specs.declared.draft.Next.{Next}
-use Rattle.typed_list.specs.declared.draft.Next.the-variants.{Goes, Stops}
+use Rattle.typed_draft.specs.declared.Draft.{Draft}
+use Rattle.typed_draft.specs.declared.Next.{Next}
+use Rattle.typed_draft.specs.declared.Next.the-variants.{Goes, Stops}
 use Rattle.typed_list.specs.declared.Typed.{Typed}
 use Rattle.typed_list.specs.declared.Typed.the-variants.{Mistake as Mistaken}
 use Rattle.typed_line.specs.Words.{before, newline, linesFrom, linesOf, wordsFrom}
 use Rattle.typed_line.specs.Entries.{commandOf, commanded, entryOf, lineEntry}
-use Rattle.typed_list.specs.Lists.{nothingYet, then, onNext, typedFrom, typedList}
+use Rattle.typed_draft.specs.Drafts.{nothingYet, then}
+use Rattle.typed_list.specs.Lists.{onNext, typedFrom, typedList}
 use Rattle.typed_line.proofs.Cutting.{lines-cut}
-use Rattle.typed_list.proofs.Listing.{then-wrong}
+use Rattle.typed_draft.proofs.DraftLaws.{then-wrong}
 
 -- ---- a wrong line among lines
 pub record Mistakes (t : Typed) : Type 0 where

@@ -32,14 +32,16 @@ use Rattle.shotfile.proofs.WriteBack.{Bytes}
 use Rattle.shotfile_lines.specs.Lines.{settingLine, settings, shotLine}
 use Rattle.shotfile_text.specs.Text.{shotLines, listVerdict, verdict, recordsText, plainText}
 use Rattle.typed_line.specs.declared.entry.Entry.{Entry}
-use Rattle.typed_list.specs.declared.draft.Draft.{Draft}
-use Rattle.typed_list.specs.declared.draft.Next.the-variants.{Goes}
+use Rattle.typed_draft.specs.declared.Draft.{Draft}
+use Rattle.typed_draft.specs.declared.Next.the-variants.{Goes}
 use Rattle.typed_list.specs.declared.Typed.{Typed}
 use Rattle.typed_list.specs.declared.Typed.the-variants.{List as Listed}
 use Rattle.typed_line.specs.Words.{before, linesFrom, linesOf, wordsFrom}
 use Rattle.typed_line.specs.Entries.{commandOf, entryOf}
-use Rattle.typed_list.specs.Lists.{given, nothingYet, then, listed, typedFrom, typedList, coordsOf, shotsIn}
-use Rattle.typed_list.proofs.Listing.{field-once, edge-once, grid-once, shots-room, then-setting, then-shot, typed-goes, typed-start, shots-cons}
+use Rattle.typed_draft.specs.Drafts.{given, nothingYet, then}
+use Rattle.typed_list.specs.Lists.{listed, typedFrom, typedList, coordsOf, shotsIn}
+use Rattle.typed_draft.proofs.DraftLaws.{field-once, edge-once, grid-once, shots-room, then-setting, then-shot}
+use Rattle.typed_list.proofs.Listing.{typed-goes, typed-start, shots-cons}
 use Rattle.typed_line.proofs.Printed.{freely}
 use Rattle.typed_again.proofs.Lines.{Line, Plain, plain, setting-line, shot-line}
 

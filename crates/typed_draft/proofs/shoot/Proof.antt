@@ -1,8 +1,8 @@
 -- A shot more.
 use borrow.Author.Needs.{needs}
-use Rattle.typed_list.proofs.Listing.{shots-many, shots-full, shots-room}
-use Rattle.typed_list.proofs.draft.shoot.Statement.{statement}
-use Rattle.typed_list.proofs.draft.shoot.Tie as tie
+use Rattle.typed_draft.proofs.DraftLaws.{shots-many, shots-full, shots-room}
+use Rattle.typed_draft.proofs.shoot.Statement.{statement}
+use Rattle.typed_draft.proofs.shoot.Tie as tie
 
 returns : tie.Need-returns
 returns c = shots-many (c .before .before .before .before .args .places) (c .before .before .before .before .args .d) (c .if1 .taken)

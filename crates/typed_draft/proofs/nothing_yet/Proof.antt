@@ -1,8 +1,8 @@
 -- Before the first line.
-use Rattle.typed_list.specs.Lists.{nothingYet}
+use Rattle.typed_draft.specs.Drafts.{nothingYet}
 use borrow.Author.Needs.{needs}
-use Rattle.typed_list.proofs.draft.nothing_yet.Statement.{statement}
-use Rattle.typed_list.proofs.draft.nothing_yet.Tie as tie
+use Rattle.typed_draft.proofs.nothing_yet.Statement.{statement}
+use Rattle.typed_draft.proofs.nothing_yet.Tie as tie
 
 header-absent-requires : tie.Need-header-absent-requires
 header-absent-requires c κs = search needs

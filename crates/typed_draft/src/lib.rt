@@ -1,10 +1,11 @@
-// What the lines above say, and one line more.
+// What the lines above of a typed list say, and one line more: settings that stand at most once, and a count of shots. specs/Drafts.antt.
+// Stands on `typed_line`, which reads a single line, and on `shotfile_records` for the settings that are left out.
 use shotfile_records::header_absent;
 use typed_line::Entry;
 use typed_line::Mistake;
 use typed_line::Setting;
 ghost use mathlib.Core.Path.{_≡_};
-ghost use Rattle.typed_list.specs.Lists.{nothingYet, settled, shotMore, then};
+ghost use Rattle.typed_draft.specs.Drafts.{nothingYet, settled, shotMore, then};
 
 // A setting, and whether a line has given it.
 pub struct Given {

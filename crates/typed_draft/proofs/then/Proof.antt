@@ -1,9 +1,9 @@
 -- A line more, by what it says.
 use mathlib.Core.Path.{_∙_}
 use borrow.Author.Needs.{needs}
-use Rattle.typed_list.proofs.Listing.{then-nothing, then-setting, then-shot, then-wrong}
-use Rattle.typed_list.proofs.draft.then.Statement.{statement}
-use Rattle.typed_list.proofs.draft.then.Tie as tie
+use Rattle.typed_draft.proofs.DraftLaws.{then-nothing, then-setting, then-shot, then-wrong}
+use Rattle.typed_draft.proofs.then.Statement.{statement}
+use Rattle.typed_draft.proofs.then.Tie as tie
 
 enum-told : tie.Need-enum-told
 enum-told c = search needs

@@ -1,8 +1,8 @@
--- A setting more: each way out is one law of `Listing`.
+-- A setting more: each way out is one law of `DraftLaws`.
 use borrow.Author.Needs.{needs}
-use Rattle.typed_list.proofs.Listing.{field-twice, edge-twice, grid-twice, field-once, edge-once, grid-once}
-use Rattle.typed_list.proofs.draft.settle.Statement.{statement}
-use Rattle.typed_list.proofs.draft.settle.Tie as tie
+use Rattle.typed_draft.proofs.DraftLaws.{field-twice, edge-twice, grid-twice, field-once, edge-once, grid-once}
+use Rattle.typed_draft.proofs.settle.Statement.{statement}
+use Rattle.typed_draft.proofs.settle.Tie as tie
 
 enum-told : tie.Need-enum-told
 enum-told c = search needs
