@@ -21,7 +21,9 @@ use Rattle.shotfile_records.specs.Records.{headerAbsent, recordAt}
 use Rattle.shotfile_records.specs.Numbers.{settingFields, shotNumbers}
 use Rattle.shotfile_reader.specs.Files.{stepOf, stepAt, Rest, coordinates, faulty, withShot, onStep, shotsFrom, File, file, refused, firstShot, withSettings, onHeader, fileIn}
 use Rattle.shotfile_lines.specs.Lines.{settings, shotLine, refusedLine}
-use Rattle.shotfile_text.specs.Text.{stepLine, shotLines, listVerdict, verdict, recordsText, plainText}
+use Rattle.shotfile_shots.specs.ShotLines.{stepLine, shotLines}
+use Rattle.shotfile_verdict.specs.Verdicts.{listVerdict, verdict}
+use Rattle.shotfile_text.specs.Text.{recordsText, plainText}
 
 -- lines show coordinates: a line for each shot, whose numbers it says, the first of them shot n
 pub data Shows : ℕ → List ℕ → List ℕ → Type 0 where

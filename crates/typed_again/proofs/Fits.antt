@@ -25,7 +25,8 @@ use Rattle.shotfile_records.proofs.Parts.{parts}
 use Rattle.shotfile.proofs.ReadBack.{SmallShots, small-more}
 use Rattle.shotfile.proofs.RoundTrip.{small-shots}
 use Rattle.shotfile_lines.specs.Lines.{note, settingLine, settings, shotLine}
-use Rattle.shotfile_text.specs.Text.{shotLines, plainText}
+use Rattle.shotfile_shots.specs.ShotLines.{shotLines}
+use Rattle.shotfile_text.specs.Text.{plainText}
 use Rattle.typed_again.proofs.Retyped.{lines-end, lines-shot, file-text}
 
 -- ---- numbers with few digits

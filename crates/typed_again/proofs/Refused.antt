@@ -26,7 +26,9 @@ use Rattle.shotfile_records.specs.Numbers.{settingFields}
 use Rattle.shotfile_reader.specs.Files.{Rest, coordinates, faulty, withShot, onStep, stepAt, shotsFrom, file, refused, withSettings, onHeader, firstShot, fileIn}
 use Rattle.shotfile_reader.proofs.FileParts.{file-parts}
 use Rattle.shotfile_lines.specs.Lines.{labelled, note, settingLine, settings, shotLine, placeText, refusedLine}
-use Rattle.shotfile_text.specs.Text.{stepLine, shotLines, listVerdict, verdict, recordsText, plainText}
+use Rattle.shotfile_shots.specs.ShotLines.{stepLine, shotLines}
+use Rattle.shotfile_verdict.specs.Verdicts.{listVerdict, verdict}
+use Rattle.shotfile_text.specs.Text.{recordsText, plainText}
 use Rattle.text_wording.specs.Sentences.{sentence}
 use Rattle.typed_line.specs.declared.entry.Mistake.{Mistake}
 use Rattle.typed_line.specs.declared.entry.Mistake.the-variants.{UnknownWord}

@@ -30,7 +30,9 @@ use Rattle.shotfile.proofs.ReadBack.{SmallShots, small-more}
 use Rattle.shotfile.proofs.RoundTrip.{small-shots, written-read}
 use Rattle.shotfile.proofs.WriteBack.{Bytes}
 use Rattle.shotfile_lines.specs.Lines.{settingLine, settings, shotLine}
-use Rattle.shotfile_text.specs.Text.{shotLines, listVerdict, verdict, recordsText, plainText}
+use Rattle.shotfile_shots.specs.ShotLines.{shotLines}
+use Rattle.shotfile_verdict.specs.Verdicts.{listVerdict, verdict}
+use Rattle.shotfile_text.specs.Text.{recordsText, plainText}
 use Rattle.typed_line.specs.declared.entry.Entry.{Entry}
 use Rattle.typed_draft.specs.declared.Draft.{Draft}
 use Rattle.typed_draft.specs.declared.Next.the-variants.{Goes}

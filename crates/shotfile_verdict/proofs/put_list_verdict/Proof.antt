@@ -1,11 +1,11 @@
 -- Nothing, or the line of the refusal.
 use mathlib.Core.Path.{sym, ap, _∙_}
 use Rattle.buffer.proofs.WroteLaws.{wrote-as}
-use Rattle.shotfile_text.specs.Text.{listVerdict}
-use Rattle.shotfile_text.proofs.TextLaws.{accepted-verdict}
+use Rattle.shotfile_verdict.specs.Verdicts.{listVerdict}
+use Rattle.shotfile_verdict.proofs.VerdictLaws.{accepted-verdict}
 use borrow.Author.Needs.{needs}
-use Rattle.shotfile_text.proofs.put_list_verdict.Statement.{statement}
-use Rattle.shotfile_text.proofs.put_list_verdict.Tie as tie
+use Rattle.shotfile_verdict.proofs.put_list_verdict.Statement.{statement}
+use Rattle.shotfile_verdict.proofs.put_list_verdict.Tie as tie
 
 check-requires : tie.Need-check-requires
 check-requires c κs = search needs

@@ -3,11 +3,11 @@ use Prim.Native.Nat.{_-_, _≤_}
 use mathlib.Core.Path.{sym, _∙_}
 use native.Mathlib.Omega.{arith}
 use Rattle.buffer.proofs.WroteLaws.{wrote-length}
-use Rattle.shotfile_text.specs.Text.{shotLines}
-use Rattle.shotfile_text.proofs.ShotLaws.{Listed, listed-none, listed-shot, listed-stopped, listed-ended, listed-all, listed-many}
+use Rattle.shotfile_shots.specs.ShotLines.{shotLines}
+use Rattle.shotfile_shots.proofs.ShotLaws.{Listed, listed-none, listed-shot, listed-stopped, listed-ended, listed-all, listed-many}
 use borrow.Author.Needs.{needs}
-use Rattle.shotfile_text.proofs.put_shots.Statement.{statement}
-use Rattle.shotfile_text.proofs.put_shots.Tie as tie
+use Rattle.shotfile_shots.proofs.put_shots.Statement.{statement}
+use Rattle.shotfile_shots.proofs.put_shots.Tie as tie
 
 abbrev Inv-loop : tie.InvT-loop
 Inv-loop bytes out₀ at c₀ next₀ n₀ out c next n = (n ≤ 4096) × Listed bytes (shotLines 4096 0 bytes c₀) out₀ out at next c n

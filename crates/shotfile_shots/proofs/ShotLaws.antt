@@ -14,7 +14,7 @@ use Rattle.shotfile_reader.specs.declared.Step.{Step}
 use Rattle.shotfile_reader.specs.declared.Step.the-variants.{Shot, Refused as Stopped, End}
 use Rattle.shotfile_reader.specs.Files.{stepAt}
 use Rattle.shotfile_lines.specs.Lines.{shotLine, refusedLine}
-use Rattle.shotfile_text.specs.Text.{stepLine, shotLines}
+use Rattle.shotfile_shots.specs.ShotLines.{stepLine, shotLines}
 use Rattle.shotfile_lines.proofs.LineLaws.{refused-length, shot-length}
 
 -- ---- the shots from a cursor on, by what stands there

@@ -1,9 +1,9 @@
 -- The list of a file that reads well is checked; no other has a verdict.
 use Rattle.buffer.proofs.WroteLaws.{wrote-as}
-use Rattle.shotfile_text.proofs.TextLaws.{read-room, read-verdict, refused-verdict}
+use Rattle.shotfile_verdict.proofs.VerdictLaws.{read-room, read-verdict, refused-verdict}
 use borrow.Author.Needs.{needs}
-use Rattle.shotfile_text.proofs.put_verdict.Statement.{statement}
-use Rattle.shotfile_text.proofs.put_verdict.Tie as tie
+use Rattle.shotfile_verdict.proofs.put_verdict.Statement.{statement}
+use Rattle.shotfile_verdict.proofs.put_verdict.Tie as tie
 
 read-requires : tie.Need-read-requires
 read-requires c κs = search needs
