@@ -21,7 +21,8 @@ use Rattle.shotfile_reader.proofs.Accepted.{accepted-file, refused-file}
 use Rattle.grid.proofs.NumberLaws.{join-next, singles-length}
 use Rattle.text_parts.proofs.LineLaws.{digits-length, line-length}
 use Rattle.text_parts.specs.Decimal.{decimal}
-use Rattle.quoting_text.specs.Quoting.{refusalText, indexAfter}
+use Rattle.text_refusal.specs.RefusalLine.{refusalText}
+use Rattle.quoting_text.specs.Quoting.{indexAfter}
 use Rattle.crediting.specs.Credits.{creditOf, creditsOf, CreditCall}
 use Rattle.crediting.proofs.CreditTheorems.{credit-valid, credits-are}
 use Rattle.crediting_text.specs.Credited.{creditLine, creditLines, creditedText, listText, fileText, fileCredits, ListCredited, FileCredited}

@@ -12,7 +12,8 @@ use Rattle.shotfile_reader.specs.Files.{File, file, refused, fileIn}
 use Rattle.shotfile_reader.specs.Calls.{readCoords}
 use Rattle.measure_intake.specs.Intake.{workAfter}
 use Rattle.text_parts.specs.Decimal.{decimal, line}
-use Rattle.quoting_text.specs.Quoting.{refusalText, indexAfter}
+use Rattle.text_refusal.specs.RefusalLine.{refusalText}
+use Rattle.quoting_text.specs.Quoting.{indexAfter}
 use Rattle.crediting.specs.Credits.{creditsOf, creditChecked, creditsAfter}
 
 -- a shot's number, a space, its credit, and the end of the line

@@ -5,19 +5,15 @@ use Prim.Native.Nat.{ℕ}
 use lib.ListN.{length}
 use Rattle.buffer.specs.Wrote.{Wrote}
 use Rattle.job.specs.Job.{shotCount}
-use Rattle.job.specs.Refusals.{numberOf, detailOf}
-use Rattle.job.specs.declared.Refusal.{Refusal}
 use Rattle.shotfile_reader.specs.Files.{File, file, refused, fileIn}
 use Rattle.shotfile_reader.specs.Calls.{readCoords}
 use Rattle.measure_intake.specs.Intake.{measureAnswer, workAfter}
 use Rattle.measure_intake.specs.declared.Measured.{Measured}
 use Rattle.measure_intake.specs.declared.Measured.the-variants.{Quote, Refused}
-use Rattle.text_report.specs.Lines.{quoteLines, refusalLine}
+use Rattle.text_report.specs.Lines.{quoteLines}
+use Rattle.text_refusal.specs.RefusalLine.{refusalText}
 
--- a refusal prints only its number and detail
-abbrev pub refusalText : Refusal → List ℕ
-refusalText r = refusalLine (numberOf r) (detailOf r)
-
+-- a quote prints its lines, and a refusal only its number and detail
 unfoldable pub answerText : Measured → List ℕ
 answerText (Quote t) = quoteLines t
 answerText (Refused r) = refusalText r

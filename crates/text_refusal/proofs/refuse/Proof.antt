@@ -1,10 +1,10 @@
 -- The number and the detail are those of the refusal.
 use mathlib.Core.Path.{ap₂}
-use Rattle.text_report.specs.Lines.{refusalLine}
+use Rattle.text_refusal.specs.RefusalLine.{refusalLine}
 use Rattle.buffer.proofs.WroteLaws.{wrote-as}
 use borrow.Author.Needs.{needs}
-use Rattle.quoting_text.proofs.refuse.Statement.{statement}
-use Rattle.quoting_text.proofs.refuse.Tie as tie
+use Rattle.text_refusal.proofs.refuse.Statement.{statement}
+use Rattle.text_refusal.proofs.refuse.Tie as tie
 
 number-requires : tie.Need-number-requires
 number-requires c κs = search needs

@@ -2,10 +2,10 @@
 use native.Mathlib.Omega.{arith}
 use Rattle.buffer.proofs.WroteLaws.{wrote-then}
 use Rattle.text_parts.proofs.LineLaws.{digits-length}
-use Rattle.text_report.specs.Lines.{refusalLine}
+use Rattle.text_refusal.specs.RefusalLine.{refusalLine}
 use borrow.Author.Needs.{needs}
-use Rattle.text_report.proofs.refusal_line.Statement.{statement}
-use Rattle.text_report.proofs.refusal_line.Tie as tie
+use Rattle.text_refusal.proofs.refusal_line.Statement.{statement}
+use Rattle.text_refusal.proofs.refusal_line.Tie as tie
 
 slice-aggregate-put-word : tie.Need-slice-aggregate-put-word
 slice-aggregate-put-word c = search needs
