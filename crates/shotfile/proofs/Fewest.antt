@@ -14,7 +14,7 @@ use Rattle.shotfile_records.specs.declared.Taken.the-variants.{Whole}
 use Rattle.shotfile_reader.specs.declared.Cursor.{Cursor}
 use Rattle.shotfile_reader.specs.declared.Step.{Step}
 use Rattle.shotfile_reader.specs.declared.Step.the-variants.{Shot as Stepped}
-use Rattle.shotfile_records.specs.Records.{headerAbsent, firstAbsent, wordAt, fieldAt, secondAt, thirdAt, fieldsAt, recordAt, bitOf, fieldOf, recordOf, needless, tight}
+use Rattle.shotfile_records.specs.Records.{headerAbsent, firstAbsent, fieldNumber, fieldAt, secondAt, thirdAt, fieldsAt, recordAt, bitOf, fieldOf, recordOf, needless, tight}
 use Rattle.shotfile_records.specs.Numbers.{settingFields, shotFields}
 use Rattle.shotfile_reader.specs.Files.{stepAt, file, fileIn, onShot}
 use Rattle.shotfile_writer.specs.Files.{shotRecords, fileOf}
@@ -35,14 +35,14 @@ use Rattle.shotfile.proofs.Tight.{end-tight}
 -- a bit that stands in the shortest form too
 needed : (s : List ℕ) (at b absent : ℕ) → b ≤ bitOf absent (fieldAt s at b absent) → needless s at b absent ≡ false
 unfolding needless
-needed s at b absent h = go (eqb b 0) refl (eqb (wordAt s at) absent) refl
+needed s at b absent h = go (eqb b 0) refl (eqb (fieldNumber s at) absent) refl
   where
-    go : (t : Bool) → eqb b 0 ≡ t → (u : Bool) → eqb (wordAt s at) absent ≡ u → (not t && u) ≡ false
+    go : (t : Bool) → eqb b 0 ≡ t → (u : Bool) → eqb (fieldNumber s at) absent ≡ u → (not t && u) ≡ false
     go true e u q = refl
     go false e false q = refl
     go false e true q =
         let n = eqb-false b 0 e in
-        absurd (omega (arith, h, n, bit-absent absent (fieldAt s at b absent) (sym (field-there s at b absent n) ∙ eqb-true (wordAt s at) absent q)))
+        absurd (omega (arith, h, n, bit-absent absent (fieldAt s at b absent) (sym (field-there s at b absent n) ∙ eqb-true (fieldNumber s at) absent q)))
 
 module _ (s : List ℕ) (at : ℕ) (absent f : Fields) (end : ℕ) (p : Parts s at absent f end) where
   record-tight : end ≤ at + length (recordOf absent f) → tight s at absent ≡ true
@@ -110,7 +110,7 @@ field-small : (s : List ℕ) (at b absent : ℕ) → Bytes s → absent < 65536 
 unfolding fieldAt
 field-small s at b absent bytes h = go (eqb b 0)
   where
-    go : (t : Bool) → cond t absent (wordAt s at) < 65536
+    go : (t : Bool) → cond t absent (fieldNumber s at) < 65536
     go true = h
     go false = omega (arith, bytes at, bytes (at + 1))
 

@@ -11,7 +11,7 @@ use Rattle.job.specs.Job.{Job, shots}
 use Rattle.shotfile_records.specs.declared.Fields.{Fields}
 use Rattle.shotfile_records.specs.declared.Taken.the-variants.{Whole}
 use Rattle.shotfile_reader.specs.declared.Step.{Step}
-use Rattle.shotfile_records.specs.Records.{headerAbsent, firstAbsent, wordAt, fieldAt, recordAt, bitOf, recordOf, needless, tight}
+use Rattle.shotfile_records.specs.Records.{headerAbsent, firstAbsent, fieldNumber, fieldAt, recordAt, bitOf, recordOf, needless, tight}
 use Rattle.shotfile_records.specs.Numbers.{settingFields, shotFields}
 use Rattle.shotfile_reader.specs.Files.{stepAt, onShot}
 use Rattle.shotfile_writer.specs.Files.{shotRecords, fileOf}
@@ -24,7 +24,7 @@ field-tight : (s : List ℕ) (at absent v : ℕ) → v ≡ fieldAt s at (bitOf a
 unfolding fieldAt bitOf needless
 field-tight s at absent v h = go (eqb v absent) refl h
   where
-    go : (b : Bool) → eqb v absent ≡ b → v ≡ cond (eqb (cond b 0 1) 0) absent (wordAt s at) → (not (eqb (cond b 0 1) 0) && eqb (wordAt s at) absent) ≡ false
+    go : (b : Bool) → eqb v absent ≡ b → v ≡ cond (eqb (cond b 0 1) 0) absent (fieldNumber s at) → (not (eqb (cond b 0 1) 0) && eqb (fieldNumber s at) absent) ≡ false
     go true e h = refl
     go false e h = ap (λ (k : ℕ). eqb k absent) (sym h) ∙ e
 

@@ -12,7 +12,7 @@ use lib.Seq.{drop-cons}
 use borrow.Author.Tests.{eqb-true, eqb-false, eq-eqb, ne-eqb}
 use Rattle.lattice.proofs.Cases.{and-left, and-right}
 use Rattle.shotfile_records.specs.declared.Fields.{Fields}
-use Rattle.shotfile_records.specs.Records.{wordAt, fieldAt, secondAt, thirdAt, endAt, fieldsAt, bitOf, fieldOf, mapOf, recordOf, needless, tight}
+use Rattle.shotfile_records.specs.Records.{fieldNumber, fieldAt, secondAt, thirdAt, endAt, fieldsAt, bitOf, fieldOf, mapOf, recordOf, needless, tight}
 use Rattle.shotfile_records.proofs.Parts.{Parts}
 use Rattle.shotfile_records.proofs.Taking.{field-absent, field-there}
 use Rattle.shotfile_records.proofs.Putting.{bit-absent, bit-there, bit-small, field-none, field-some, field-size, record-size}
@@ -32,11 +32,11 @@ module _ (s : List ℕ) (at b absent : ℕ) (bit : b ≤ 1) where
       go false e = omega (arith, bit-small absent (fieldAt s at b absent), eqb-false b 0 e)
 
   module _ (bytes : Bytes s) (room : at + 2 * b ≤ length s) (n : needless s at b absent ≡ false) where
-    there : (b ≡ 0 → ⊥) → wordAt s at ≡ absent → ⊥
+    there : (b ≡ 0 → ⊥) → fieldNumber s at ≡ absent → ⊥
     unfolding needless
-    there h e = false≢true (sym n ∙ simp (ne-eqb b 0 h, eq-eqb (wordAt s at) absent e))
+    there h e = false≢true (sym n ∙ simp (ne-eqb b 0 h, eq-eqb (fieldNumber s at) absent e))
 
-    value : (b ≡ 0 → ⊥) → fieldAt s at b absent ≡ wordAt s at
+    value : (b ≡ 0 → ⊥) → fieldAt s at b absent ≡ fieldNumber s at
     value h = sym (field-there s at b absent h)
 
     pub bit-same : b ≡ bitOf absent (fieldAt s at b absent)

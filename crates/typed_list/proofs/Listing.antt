@@ -24,7 +24,7 @@ use Rattle.typed_list.specs.declared.Typed.{Typed}
 use Rattle.typed_list.specs.declared.Typed.the-variants.{List as Listed, Mistake as Mistaken}
 use Rattle.typed_line.specs.Entries.{lineEntry}
 use Rattle.typed_draft.specs.Drafts.{nothingYet, given, settled, shotMore, then}
-use Rattle.typed_list.specs.Lists.{listed, onNext, typedFrom, typedList, coordsOf, shotsIn, stored, typedCoords}
+use Rattle.typed_list.specs.Lists.{listed, onNext, typedFrom, typedList, coordsOf, shotsIn, coordsLeft, typedCoords}
 use Rattle.typed_line.specs.Words.{linesOf}
 
 -- ---- the text, from a line on
@@ -165,9 +165,9 @@ module _ (text before : List ℕ) where
     list-room = let k = list-counts (shotCount before) text e in omega (arith, k .room, k .count)
 
     pub list-stored : typedCoords text before ≡ inFront (shotsIn (linesOf text)) before
-    unfolding stored
+    unfolding coordsLeft
     list-stored = rw e
 
   pub mistake-stored : {line : ℕ} {m : Mistake} → typedList (shotCount before) text ≡ Mistaken line m → typedCoords text before ≡ before
-  unfolding stored
+  unfolding coordsLeft
   mistake-stored e = rw e

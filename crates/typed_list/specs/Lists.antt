@@ -45,10 +45,10 @@ shotsIn [] = []
 shotsIn (l ∷ lines) = coordsOf (lineEntry l) ++ shotsIn lines
 
 -- the first places are the coordinates of the shots, and the others keep their values, as all do after a mistake
-unfoldable pub stored : Typed → List ℕ → List ℕ → List ℕ
-stored (Listed field edge grid shots) text before = inFront (shotsIn (linesOf text)) before
-stored (Mistaken line m) text before = before
+unfoldable pub coordsLeft : Typed → List ℕ → List ℕ → List ℕ
+coordsLeft (Listed field edge grid shots) text before = inFront (shotsIn (linesOf text)) before
+coordsLeft (Mistaken line m) text before = before
 
 -- the coordinate slice after a text
 abbrev pub typedCoords : List ℕ → List ℕ → List ℕ
-typedCoords text before = stored (typedList (shotCount before) text) text before
+typedCoords text before = coordsLeft (typedList (shotCount before) text) text before
