@@ -1,10 +1,10 @@
 -- The cover test with the run that include/heqdanu.h names: that of the grid cell which holds a unit cell, in a work slice that holds the
 -- index of a valid list. It tells whether the list covers the cell, and its lowest covering shot.
-use mathlib.Core.Path.{_≡_, ap, _∙_, subst}
+use mathlib.Core.Path.{ap, _∙_, subst}
 use mathlib.Core.List.{List, [], _∷_}
 use Prim.Native.Nat.{ℕ, _+_, _*_, _<_}
 use native.Mathlib.Omega.{arith}
-use Rattle.lattice.specs.Cells.{bit}
+use Rattle.ground.specs.Numbers.{bit}
 use Rattle.lattice.specs.Shots.{cells}
 use Rattle.job.specs.Job.{Job, shots, Valid}
 use Rattle.grid.specs.Grid.{Holds, between, holding}

@@ -2,8 +2,8 @@
 use mathlib.Core.Option.{Option, none, some}
 use mathlib.Core.List.{List, [], _∷_}
 use Prim.Native.Nat.{ℕ}
-use Rattle.lattice.specs.Cells.{bit}
-use Rattle.job.specs.Refusals.{Numbers}
+use Rattle.ground.specs.Numbers.{bit}
+use Rattle.refusals.specs.Refusals.{Numbers}
 use Rattle.grid_cover.specs.Cover.{isSome}
 use Rattle.grid_cover.specs.declared.Covering.{Covering}
 use Rattle.grid_cover.specs.declared.Covering.the-variants.{Shot, Nothing}

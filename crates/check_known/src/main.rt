@@ -9,8 +9,8 @@ ghost use mathlib.Core.Path.{_≡_};
 ghost use lib.ListN.{length};
 use check_print::print_number;
 use check_print::print_refusal;
-use job::Checked;
 use measure_intake::Measured;
+use refusals::Checked;
 use shotfile_reader::ReadAnswer;
 
 // A list's settings, and how long the lent slices are.

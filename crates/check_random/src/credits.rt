@@ -11,9 +11,9 @@ use crate::lists::put_shot;
 use crate::touches;
 use grid_cover::Covering;
 use grid_cover::first_covering;
-use job::Checked;
 use job::shot::count;
 use lattice_sums::sums::Totals;
+use refusals::Checked;
 
 // Credits a list in a grid; whether it is accepted.
 fn credited(settings: Settings, grid: u16, coords: &[u16], credits: &mut [u32]) -> bool {

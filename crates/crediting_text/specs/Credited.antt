@@ -4,10 +4,10 @@ use mathlib.Core.List.{List}
 use Prim.Native.Nat.{ℕ}
 use lib.ListN.{length, getD}
 use Rattle.buffer.specs.Wrote.{Wrote}
-use Rattle.lattice.specs.Sums.{join}
+use Rattle.ground.specs.Sums.{join}
 use Rattle.job.specs.Job.{Job, shotCount}
-use Rattle.job.specs.declared.Checked.{Checked}
-use Rattle.job.specs.declared.Checked.the-variants.{Accepted, Refused}
+use Rattle.refusals.specs.declared.Checked.{Checked}
+use Rattle.refusals.specs.declared.Checked.the-variants.{Accepted, Refused}
 use Rattle.shotfile_reader.specs.Files.{File, file, refused, fileIn}
 use Rattle.shotfile_reader.specs.Calls.{readCoords}
 use Rattle.measure_intake.specs.Intake.{workAfter}
@@ -31,7 +31,7 @@ creditedText (Refused r) credits = refusalText r
 
 -- with so many work entries and credit places
 unfoldable pub listText : Job → ℕ → ℕ → List ℕ
-listText job entries places = creditedText (creditChecked job entries places) (creditsOf job)
+listText job entries places = creditedText (creditChecked job entries places) (creditsOf job.field job.edge job.coords)
 
 -- the file is read, and the cells of the list that it holds are credited
 abbrev pub fileText : File → ℕ → ℕ → List ℕ

@@ -13,7 +13,7 @@ use mir.Val.{toZ, ofZ}
 use mir.Facts.{toZ-ofZ}
 use Rattle.lattice.specs.Pattern.{Pattern, ofByte}
 use Rattle.lattice_weights.specs.Packed.{weight, Holds}
-use Rattle.lattice.proofs.Cases.{eachBelow-at}
+use Rattle.ground.proofs.Cases.{eachBelow-at}
 use Rattle.lattice.proofs.PatternLaws.{largest, weight-small}
 use Rattle.lattice_weights.proofs.TableLaws.{fits8}
 

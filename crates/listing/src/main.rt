@@ -2,10 +2,10 @@
 // output. A refusal gives one line on standard error and no listing. docs/SCOPE.md, 'Corner points'. What it writes is
 // `listing_file::list_file`; here are the system calls, the sizes and the sentence.
 use input::Filled;
-use job::Refusal;
 use libc::STDERR_FILENO;
 use libc::STDOUT_FILENO;
 use measure_intake::Measured;
+use refusals::Refusal;
 
 fn say(words: &[u8]) {
     io::write_all(STDERR_FILENO, words);
@@ -13,10 +13,11 @@ fn say(words: &[u8]) {
 
 // The number and the detail of a refusal, and its sentence.
 fn tell_refusal(refusal: Refusal) {
+    let told = refusals::notice_of(refusal);
     say(b"refused ");
-    io::print_decimal(STDERR_FILENO, job::number(refusal) as u64);
+    io::print_decimal(STDERR_FILENO, told.number as u64);
     say(b" ");
-    io::print_decimal(STDERR_FILENO, job::detail(refusal) as u64);
+    io::print_decimal(STDERR_FILENO, told.detail as u64);
     say(b": ");
     let mut sentence = [0u8; 64];
     let n = text_wording::put_sentence(&mut sentence, 0, refusal);

@@ -6,7 +6,7 @@ use native.Mathlib.Omega.{arith}
 use lib.ListN.{length}
 use Rattle.lattice_sums.specs.declared.sums.Totals.{Totals}
 use Rattle.job.specs.Job.{jobOf, shotCount, firstShots}
-use Rattle.job.specs.declared.Refusal.{Refusal}
+use Rattle.refusals.specs.declared.Refusal.{Refusal}
 use Rattle.shotfile_reader.specs.Files.{File, file, refused, fileIn}
 use Rattle.shotfile_reader.specs.Calls.{ReadCall}
 use Rattle.shotfile_reader.specs.declared.ReadAnswer.{ReadAnswer}

@@ -4,10 +4,11 @@
 ghost use mathlib.Core.Path.{_≡_};
 ghost use Prim.Native.Nat.{_+_, _*_, _/_, _≤_};
 ghost use lib.ListN.{length};
-ghost use Rattle.lattice.specs.Cells.{bit, below};
+ghost use Rattle.ground.specs.Numbers.{bit};
+ghost use Rattle.lattice.specs.Cells.{below};
 ghost use Rattle.lattice.specs.Shots.{cells};
 ghost use Rattle.lattice_sums.specs.CornerSums.{totalsOf};
-ghost use Rattle.job.specs.Job.{jobOf, shotsOf, Valid};
+ghost use Rattle.job.specs.Job.{jobOf, shotsOf};
 ghost use Rattle.grid.specs.Grid.{Holds};
 ghost use Rattle.grid_cover.specs.Cover.{runCovers};
 ghost use Rattle.measure_tallies.specs.Tallies.{plus, AtMost};
@@ -114,7 +115,6 @@ fn count_interval(
     few: &mut [u32],
     t: Totals,
 ) -> Totals
-    requires { ⌜ Valid (jobOf field edge grid (now coords)) ⌝ }
     requires { ⌜ Holds (jobOf field edge grid (now coords)) (now work) ⌝ }
     requires { ⌜ x ≤ field ⌝ }
     requires { ⌜ y ≤ field ⌝ }
@@ -144,7 +144,6 @@ fn count_intervals(
     few: &mut [u32],
     t: Totals,
 ) -> Totals
-    requires { ⌜ Valid (jobOf field edge grid (now coords)) ⌝ }
     requires { ⌜ Holds (jobOf field edge grid (now coords)) (now work) ⌝ }
     requires { ⌜ x ≤ field ⌝ }
     requires { ⌜ y ≤ field ⌝ }
@@ -185,7 +184,6 @@ fn count_line(
     few: &mut [u32],
     t: Totals,
 ) -> Totals
-    requires { ⌜ Valid (jobOf field edge grid (now coords)) ⌝ }
     requires { ⌜ Holds (jobOf field edge grid (now coords)) (now work) ⌝ }
     requires { ⌜ x ≤ field ⌝ }
     requires { ⌜ y ≤ field ⌝ }
@@ -221,7 +219,6 @@ fn count_plane(
     few: &mut [u32],
     t: Totals,
 ) -> Totals
-    requires { ⌜ Valid (jobOf field edge grid (now coords)) ⌝ }
     requires { ⌜ Holds (jobOf field edge grid (now coords)) (now work) ⌝ }
     requires { ⌜ x ≤ field ⌝ }
     requires { ⌜ length (now few) ≡ 4096 ⌝ }
@@ -248,7 +245,6 @@ pub fn count_planes(
     to: u16,
     t: Totals,
 ) -> Totals
-    requires { ⌜ Valid (jobOf field edge grid (now coords)) ⌝ }
     requires { ⌜ Holds (jobOf field edge grid (now coords)) (now work) ⌝ }
     requires { ⌜ from ≤ to ⌝ }
     requires { ⌜ to ≤ field + 1 ⌝ }
@@ -265,7 +261,6 @@ pub fn count_planes(
 
 // The totals and the corner count of a list whose index the work slice holds.
 pub fn count_field(field: u16, edge: u16, grid: u16, coords: &[u16], work: &[u32]) -> Totals
-    requires { ⌜ Valid (jobOf field edge grid (now coords)) ⌝ }
     requires { ⌜ Holds (jobOf field edge grid (now coords)) (now work) ⌝ }
     ensures { λ r. ⌜ r ≡ totalsOf field (cells (shotsOf edge (now (coords .entry)))) ⌝ }
 {

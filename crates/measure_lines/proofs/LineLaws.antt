@@ -1,5 +1,5 @@
 -- A run narrowed to the shots that reach a line of points covers the cells about the line as the whole run does.
-use mathlib.Core.Path.{_≡_, refl, ap, fun-ext}
+use mathlib.Core.Path.{_≡_, ap, fun-ext}
 use mathlib.Core.Bool.{Bool, true, false, _&&_}
 use mathlib.Core.List.{List}
 use Prim.Native.Nat.{ℕ, suc, _+_, _≤_, _<_}
@@ -11,9 +11,9 @@ use Rattle.lattice.specs.Cells.{up}
 use Rattle.lattice.specs.Pattern.{around}
 use Rattle.lattice.specs.Shots.{spans, covers}
 use Rattle.job.specs.Job.{shotCount, xAt, yAt, zAt, edgeAt, shotAt}
-use Rattle.job.proofs.Tests.{and-true}
-use Rattle.grid.specs.Numbers.{those}
-use Rattle.grid.proofs.NumberLaws.{those-length}
+use Rattle.ground.proofs.Bools.{and-true}
+use Rattle.ground.specs.Numbers.{those}
+use Rattle.ground.proofs.NumberLaws.{those-length}
 use Rattle.grid_cover.specs.Cover.{shotCovers, isSome, firstCovering, runCovers}
 use Rattle.grid_cover.proofs.CoverLaws.{first-among}
 use Rattle.grid_cover.proofs.CoverRuns.{below-agree}

@@ -9,7 +9,7 @@ use Rattle.buffer.specs.Wrote.{Wrote}
 use Rattle.buffer.proofs.WroteLaws.{wrote-as}
 use Rattle.lattice_sums.specs.CornerSums.{totalsOf}
 use Rattle.job.specs.Job.{Job, shotCount, Valid}
-use Rattle.job.specs.declared.Checked.{Checked}
+use Rattle.refusals.specs.declared.Checked.{Checked}
 use Rattle.grid.specs.Grid.{need}
 use Rattle.shotfile_reader.specs.Files.{File, file}
 use Rattle.vox.specs.Vox.{voxIn}

@@ -6,7 +6,7 @@ use Prim.Native.Nat.{ℕ, _/_, _≤_}
 use Rattle.buffer.specs.Wrote.{Wrote}
 use Rattle.buffer.proofs.WroteLaws.{wrote-as}
 use Rattle.job.specs.Job.{jobOf, shotCount, firstShots}
-use Rattle.job.specs.declared.Refusal.{Refusal}
+use Rattle.refusals.specs.declared.Refusal.{Refusal}
 use Rattle.shotfile_reader.specs.Files.{File, file}
 use Rattle.shotfile_reader.specs.Calls.{ReadCall}
 use Rattle.shotfile_reader.specs.declared.ReadAnswer.{ReadAnswer}

@@ -10,7 +10,7 @@ use lib.Dec.{T, eqb}
 use lib.ListN.{length, getD, drop}
 use lib.Seq.{drop-cons}
 use borrow.Author.Tests.{eqb-true, eqb-false, eq-eqb, ne-eqb}
-use Rattle.lattice.proofs.Cases.{and-left, and-right}
+use Rattle.ground.proofs.Bools.{and-left, and-right}
 use Rattle.shotfile_records.specs.declared.Fields.{Fields}
 use Rattle.shotfile_records.specs.Records.{fieldNumber, fieldAt, secondAt, thirdAt, endAt, fieldsAt, bitOf, fieldOf, mapOf, recordOf, needless, tight}
 use Rattle.shotfile_records.proofs.Parts.{Parts}

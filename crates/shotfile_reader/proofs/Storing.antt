@@ -4,7 +4,7 @@ use mathlib.Core.List.{List, [], _++_}
 use Prim.Native.Nat.{ℕ, suc, _+_, _-_, _≤_, _<_}
 use native.Mathlib.Omega.{arith}
 use Rattle.buffer.proofs.Underway.{Underway, underway-none}
-use Rattle.job.specs.declared.Refusal.{Refusal}
+use Rattle.refusals.specs.declared.Refusal.{Refusal}
 use Rattle.job.specs.Job.{placeOf}
 use Rattle.shotfile_reader.specs.declared.Cursor.{Cursor}
 use Rattle.shotfile_reader.specs.declared.Step.{Step}

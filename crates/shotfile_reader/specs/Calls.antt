@@ -4,7 +4,7 @@ use mathlib.Core.List.{List, [], _∷_}
 use Prim.Native.Nat.{ℕ}
 use Rattle.buffer.specs.Wrote.{inFront}
 use Rattle.job.specs.Job.{shotCount}
-use Rattle.job.specs.Refusals.{numberOf, detailOf}
+use Rattle.refusals.specs.Refusals.{numberOf, detailOf}
 use Rattle.shotfile_reader.specs.declared.Counted.{Counted}
 use Rattle.shotfile_reader.specs.declared.Counted.the-variants.{Shots, Refused as Uncounted}
 use Rattle.shotfile_reader.specs.declared.ReadAnswer.{ReadAnswer}

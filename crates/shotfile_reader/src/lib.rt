@@ -2,7 +2,7 @@
 // docs/SCOPE.md, 'Shot file' and 'When a job is refused'. specs/Files.antt says what a file says, specs/Calls.antt what `read` promises,
 // specs/Conditions.antt when it refuses; proofs/Conditions.antt that each refusal is given exactly where it should be. Stands on
 // `shotfile_records`, on `job`, whose refusals and door to a shot it uses, on `lattice` and `buffer`.
-use job::Refusal;
+use refusals::Refusal;
 use shotfile_records::Fields;
 use shotfile_records::Taken;
 use shotfile_records::first_absent;

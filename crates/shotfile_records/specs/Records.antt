@@ -5,7 +5,7 @@ use mathlib.Core.List.{List, [], _∷_, _++_}
 use Prim.Native.Nat.{ℕ, _+_, _*_, _/_, _%_}
 use lib.Dec.{ltb, leb, eqb}
 use lib.ListN.{length, getD}
-use Rattle.job.specs.declared.Refusal.the-variants.{UnknownBit, CutShort}
+use Rattle.refusals.specs.declared.Refusal.the-variants.{UnknownBit, CutShort}
 use Rattle.shotfile_records.specs.declared.Fields.{Fields}
 use Rattle.shotfile_records.specs.declared.Taken.{Taken}
 use Rattle.shotfile_records.specs.declared.Taken.the-variants.{Whole, Refused}

@@ -7,8 +7,8 @@ use lib.ListN.{length}
 use borrow.Author.Tests.{le-ltb, lt-ltb}
 use Rattle.buffer.specs.Wrote.{Wrote}
 use Rattle.buffer.proofs.WroteLaws.{wrote-none, wrote-then, wrote-as}
-use Rattle.job.specs.declared.Refusal.{Refusal}
-use Rattle.job.specs.declared.Refusal.the-variants.{TooManyShots}
+use Rattle.refusals.specs.declared.Refusal.{Refusal}
+use Rattle.refusals.specs.declared.Refusal.the-variants.{TooManyShots}
 use Rattle.shotfile_reader.specs.declared.Cursor.{Cursor}
 use Rattle.shotfile_reader.specs.declared.Step.{Step}
 use Rattle.shotfile_reader.specs.declared.Step.the-variants.{Shot, Refused as Stopped, End}

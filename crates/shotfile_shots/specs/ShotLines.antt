@@ -4,7 +4,7 @@ use mathlib.Core.List.{List, [], _++_}
 use Prim.Native.Nat.{ℕ, zero, suc, _+_}
 use lib.Dec.{ltb}
 use lib.ListN.{length}
-use Rattle.job.specs.declared.Refusal.the-variants.{TooManyShots}
+use Rattle.refusals.specs.declared.Refusal.the-variants.{TooManyShots}
 use Rattle.shotfile_reader.specs.declared.Cursor.{Cursor}
 use Rattle.shotfile_reader.specs.declared.Step.{Step}
 use Rattle.shotfile_reader.specs.declared.Step.the-variants.{Shot, Refused as Stopped, End}

@@ -2,8 +2,8 @@
 use mathlib.Core.List.{List, []}
 use Rattle.job.specs.Job.{shotCount}
 use Rattle.job.specs.Checking.{checked}
-use Rattle.job.specs.declared.Checked.{Checked}
-use Rattle.job.specs.declared.Checked.the-variants.{Accepted, Refused as Turned}
+use Rattle.refusals.specs.declared.Checked.{Checked}
+use Rattle.refusals.specs.declared.Checked.the-variants.{Accepted, Refused as Turned}
 use Rattle.shotfile_reader.specs.Files.{File, file, refused, fileIn}
 use Rattle.shotfile_reader.specs.Calls.{readCoords}
 use Rattle.shotfile_lines.specs.Lines.{refusedLine}

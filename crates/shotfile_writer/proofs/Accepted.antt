@@ -5,14 +5,14 @@ use Prim.Native.Nat.{ℕ, _≤_}
 use native.Mathlib.Omega.{arith}
 use lib.ListN.{length}
 use Rattle.buffer.specs.Wrote.{inFront}
-use Rattle.job.specs.declared.Checked.{Checked}
-use Rattle.job.specs.declared.Checked.the-variants.{Accepted, Refused as Turned}
+use Rattle.refusals.specs.declared.Checked.{Checked}
+use Rattle.refusals.specs.declared.Checked.the-variants.{Accepted, Refused as Turned}
 use Rattle.job.specs.Job.{Job, Valid}
-use Rattle.job.specs.Checking.{firstOf}
+use Rattle.refusals.specs.Tests.{firstOf, ifAccepted}
 use Rattle.shotfile_writer.specs.declared.WriteAnswer.{WriteAnswer}
 use Rattle.shotfile_writer.specs.declared.WriteAnswer.the-variants.{Written, Refused as Unwritten}
 use Rattle.shotfile_writer.specs.Files.{fileOf}
-use Rattle.shotfile_writer.specs.Calls.{writeTests, ifWritten, writeAnswer, writeBytes, WriteCall}
+use Rattle.shotfile_writer.specs.Calls.{writeTests, writeAnswer, writeBytes, WriteCall}
 use Rattle.shotfile_writer.proofs.Writing.{write-decides}
 
 -- a list that `write` accepts, and its file in the byte buffer
@@ -27,7 +27,7 @@ pub accepted-list : {job : Job} {before after : List ℕ} {w : WriteAnswer} → 
 unfolding writeAnswer writeBytes
 accepted-list {job} {before} {after} c {n} e = go (firstOf (writeTests job (length before))) refl (sym (c .answer) ∙ e)
   where
-    go : (k : Checked) → firstOf (writeTests job (length before)) ≡ k → ifWritten k Unwritten (Written (length (fileOf job))) ≡ Written n
+    go : (k : Checked) → firstOf (writeTests job (length before)) ≡ k → ifAccepted k Unwritten (Written (length (fileOf job))) ≡ Written n
         → AcceptedList job before n after
     go (Turned r) q e = let z : _≡_ {A = ℕ} 0 1 = cc in absurd (omega arith)
     go Accepted q e =
@@ -37,5 +37,5 @@ accepted-list {job} {before} {after} c {n} e = go (firstOf (writeTests job (leng
           valid = v;
           long = sym m;
           room = r;
-          leaves = c .file ∙ ap (λ (k : Checked). ifWritten k (λ r. before) (inFront (fileOf job) before)) q;
+          leaves = c .file ∙ ap (λ (k : Checked). ifAccepted k (λ r. before) (inFront (fileOf job) before)) q;
         }

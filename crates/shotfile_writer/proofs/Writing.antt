@@ -5,15 +5,17 @@ use Prim.Native.Nat.{ℕ, _+_, _*_, _≤_, _<_}
 use native.Mathlib.Omega.{arith}
 use lib.ListN.{length, drop, length-append}
 use Rattle.lattice.specs.Shots.{Shot}
-use Rattle.job.specs.declared.Refusal.{Refusal}
-use Rattle.job.specs.declared.Refusal.the-variants.{ShortFile}
-use Rattle.job.specs.declared.Checked.the-variants.{Accepted, Refused as Turned}
+use Rattle.refusals.specs.declared.Refusal.{Refusal}
+use Rattle.refusals.specs.declared.Refusal.the-variants.{ShortFile}
+use Rattle.refusals.specs.declared.Checked.the-variants.{Accepted, Refused as Turned}
 use Rattle.job.specs.Job.{Job, shots, shotsOf, shotCount, placeOf}
-use Rattle.job.specs.Checking.{firstOf, tests, checked}
-use Rattle.job.proofs.Places.{first-stopped}
-use Rattle.job.specs.Conditions.{Decides}
-use Rattle.job.proofs.OneMore.{too-short}
-use Rattle.job.proofs.Deciding.{job-decides, decides-more}
+use Rattle.refusals.specs.Tests.{firstOf}
+use Rattle.job.specs.Checking.{tests, checked}
+use Rattle.refusals.proofs.FirstOf.{first-stopped}
+use Rattle.refusals.specs.Deciding.{Decides}
+use Rattle.refusals.proofs.OneMore.{too-short}
+use Rattle.job.proofs.Conditions.{job-decides}
+use Rattle.refusals.proofs.Deciding.{decides-more}
 use Rattle.job.proofs.Shots.{shots-count, shots-from, shots-end}
 use Rattle.job.proofs.Conditions.{accepted-valid}
 use Rattle.shotfile_records.specs.declared.Fields.{Fields}

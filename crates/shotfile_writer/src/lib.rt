@@ -2,8 +2,8 @@
 // a list is, specs/Calls.antt what `write` promises, specs/Conditions.antt when it refuses; proofs/Conditions.antt that each refusal is
 // given exactly where it should be. Stands on `shotfile_records`, on `job`, whose checks and door to a shot it uses, on `lattice` and
 // `buffer`.
-use job::Checked;
-use job::Refusal;
+use refusals::Checked;
+use refusals::Refusal;
 use shotfile_records::Fields;
 use shotfile_records::first_absent;
 use shotfile_records::header_absent;

@@ -11,12 +11,14 @@ use lib.ListN.{length, getD, set, replicate, length-replicate, length-set}
 use lib.Seq.{getD-set-same, getD-set-other}
 use borrow.Author.Tests.{ltb-true, ltb-false, eqb-true, eqb-false, le-ltb}
 use Rattle.lattice.specs.Cells.{Cells, below, up, planePoints}
-use Rattle.lattice.specs.Sums.{join}
+use Rattle.ground.specs.Sums.{join}
 use Rattle.lattice.specs.Pattern.{Pattern, around, byte, corner}
 use Rattle.lattice.specs.Listing.{here, corners}
-use Rattle.lattice.specs.Boxes.{boxAt, boxCells, anyTo}
-use Rattle.lattice.proofs.JoinLaws.{join-ext}
-use Rattle.lattice.proofs.BoxLaws.{any-to-cut, below-boxes}
+use Rattle.ground.specs.Numbers.{anyTo}
+use Rattle.lattice.specs.Boxes.{boxAt, boxCells}
+use Rattle.ground.proofs.JoinLaws.{join-ext}
+use Rattle.ground.proofs.AnyLaws.{any-to-cut}
+use Rattle.lattice.proofs.BoxLaws.{below-boxes}
 use Rattle.lattice_sums.specs.CornerSums.{Room, sumsOf}
 use Rattle.lattice_sums.specs.declared.sums.CornerSums.{CornerSums}
 use Rattle.lattice_sums.proofs.CornerSumLaws.{no-room, room-more}

@@ -5,7 +5,7 @@ use mathlib.Core.List.{List, []}
 use Prim.Native.Nat.{ℕ, _*_, _≤_, _<_}
 use lib.ListN.{length, getD}
 use Rattle.lattice.specs.Cells.{Cells}
-use Rattle.lattice.specs.Sums.{join}
+use Rattle.ground.specs.Sums.{join}
 use Rattle.lattice.specs.Listing.{Corner, corners}
 use Rattle.lattice.specs.Boxes.{boxAt, BoxesIn}
 use Rattle.lattice_sums.specs.CornerSums.{sumsOf}

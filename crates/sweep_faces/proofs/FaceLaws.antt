@@ -7,8 +7,9 @@ use native.Mathlib.Omega.{arith}
 use lib.Dec.{ltb}
 use lib.ListN.{length}
 use borrow.Author.Tests.{lt-ltb}
-use Rattle.lattice.proofs.BoxLaws.{any-to-more, any-to-false, any-to-none}
-use Rattle.lattice.specs.Boxes.{Box, BoxIn, boxAt, anyTo}
+use Rattle.ground.proofs.AnyLaws.{any-to-more, any-to-false, any-to-none}
+use Rattle.ground.specs.Numbers.{anyTo}
+use Rattle.lattice.specs.Boxes.{Box, BoxIn, boxAt}
 use Rattle.sweep_image.specs.Images.{Layer, Shows, Tells, Turned, Beside, RectIn, columns, inRect, painted, wiped}
 use Rattle.sweep_image.specs.declared.Rect.{Rect}
 use Rattle.sweep_image.proofs.ImageLaws.{shows-ext}

@@ -6,7 +6,7 @@ use Prim.Native.Nat.{ℕ, _+_, _-_, _≤_, _<_}
 use native.Mathlib.Omega.{arith}
 use lib.Dec.{leb, ltb}
 use borrow.Author.Tests.{le-leb, lt-leb, leb-false, ltb-true}
-use Rattle.lattice.proofs.BoxLaws.{any-to-less, any-to-more, any-to-true, any-to-false, any-to-none, any-to-ext}
+use Rattle.ground.proofs.AnyLaws.{any-to-less, any-to-more, any-to-true, any-to-false, any-to-none, any-to-ext}
 use Rattle.lattice.specs.Boxes.{boxAt}
 use Rattle.sweep_image.specs.Images.{inRect}
 use Rattle.sweep_image.specs.declared.Rect.{Rect}

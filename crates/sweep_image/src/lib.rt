@@ -5,8 +5,7 @@ ghost use mathlib.Core.Bool.{cond, true};
 ghost use Prim.Native.Nat.{ℕ, _+_, _*_, _/_, _<_, _≤_};
 ghost use lib.Bits.{bitAnd, bitOr};
 ghost use lib.ListN.{length, getD};
-ghost use Rattle.sweep_image.specs.Images.{columns, Tells, TellsBut, RectIn, Turned, Beside, Settled};
-ghost use Rattle.sweep_image.specs.Images.{filled, painted, wiped, wordsFrom, inWords};
+ghost use Rattle.sweep_image.specs.Images.{columns, Tells, TellsBut, RectIn, Turned, Beside, Settled, filled, painted, wiped, wordsFrom, inWords};
 ghost use Rattle.sweep_image.specs.Changes.{Changed, namedIf, masked, ColumnFilled};
 
 // The cells of a layer after `low` and up to `high` on y, and after `from` and up to `to` on z, by the points where they end.

@@ -10,13 +10,15 @@ use native.Mathlib.Numerals.{add-one}
 use lib.Dec.{T, leb, ltb, eqb, leb→le, le→leb, ltb→lt, lt→ltb}
 use borrow.Author.Tests.{ltb-true, ltb-false, leb-false, eqb-true, eqb-false, lt-ltb, le-ltb, le-leb, lt-leb, eq-eqb, ne-eqb}
 use Rattle.lattice.specs.Cells.{below}
-use Rattle.lattice.specs.Boxes.{boxAt, boxCells, anyTo, BoxIn}
-use Rattle.lattice.proofs.BoxLaws.{any-to-ext, any-to-none, any-to-cut, below-boxes}
-use Rattle.lattice.proofs.ShotLaws.{and-elim}
+use Rattle.ground.specs.Numbers.{anyTo}
+use Rattle.lattice.specs.Boxes.{boxAt, boxCells, BoxIn}
+use Rattle.ground.proofs.AnyLaws.{any-to-ext, any-to-none, any-to-cut}
+use Rattle.lattice.proofs.BoxLaws.{below-boxes}
+use Rattle.ground.proofs.Bools.{and-elim}
 use Rattle.sweep_image.specs.Images.{Layer, columns, Tells, Turned, after, inRect}
 use Rattle.sweep_image.specs.declared.Rect.{Rect}
 use Rattle.sweep_image.proofs.ImageLaws.{shows-ext}
-use Rattle.sweep_faces.specs.Faces.{rectOf, reaches, shade, shadeFrom, replaced, Carved, Lent, Known, Covered}
+use Rattle.sweep_faces.specs.Faces.{rectOf, reaches, shade, shadeFrom, replaced, Carved, Lent, Covered}
 use Rattle.sweep_layer.specs.Layers.{About, touching, ending, released, Becomes}
 
 -- ---- Bools

@@ -10,7 +10,7 @@ use Rattle.lattice.specs.Pattern.{around, corner}
 use Rattle.lattice.specs.Axes.{x-axis}
 use Rattle.lattice.specs.Boxes.{boxAt, boxCells}
 use Rattle.lattice.proofs.PatternLaws.{still-no-corner}
-use Rattle.lattice.proofs.JoinLaws.{join-nil}
+use Rattle.ground.proofs.JoinLaws.{join-nil}
 use Rattle.lattice.proofs.SameSolid.{here-none}
 use Rattle.lattice.proofs.BoxLaws.{boxes-within}
 use Rattle.lattice_sums.specs.CornerSums.{Room}

@@ -12,7 +12,7 @@ use borrow.Author.Tests.{ltb-true, lt-ltb}
 use Rattle.lattice.specs.Axes.{x-axis}
 use Rattle.lattice.specs.Cells.{up}
 use Rattle.lattice.specs.Pattern.{byte, corner}
-use Rattle.lattice.specs.Sums.{join}
+use Rattle.ground.specs.Sums.{join}
 use Rattle.lattice.specs.Listing.{Corner}
 use Rattle.lattice.proofs.PatternLaws.{still-no-corner}
 use Rattle.sweep_words.specs.Words.{bitAt, wordOf, patternOf}

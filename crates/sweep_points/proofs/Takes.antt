@@ -5,7 +5,7 @@ use mathlib.Core.List.{List, [], _∷_, _++_}
 use Prim.Native.Nat.{ℕ, zero, suc, _+_, _*_, _<_, _≤_}
 use native.Mathlib.Nat.{suc-mul}
 use native.Mathlib.Omega.{arith}
-use Rattle.lattice.specs.Sums.{join}
+use Rattle.ground.specs.Sums.{join}
 use Rattle.lattice.specs.Listing.{Corner}
 use Rattle.lattice_sums.specs.CornerSums.{Room}
 use Rattle.lattice_sums.proofs.CornerSumLaws.{room-more}

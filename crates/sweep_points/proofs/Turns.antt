@@ -9,7 +9,7 @@ use lib.Dec.{ltb}
 use lib.ListN.{length, getD}
 use Rattle.lattice.specs.Cells.{linePoints, planePoints, fieldPoints}
 use Rattle.lattice.specs.Pattern.{byte, corner}
-use Rattle.lattice.specs.Sums.{join}
+use Rattle.ground.specs.Sums.{join}
 use Rattle.lattice_sums.specs.CornerSums.{Room, RoomFor}
 use Rattle.sweep_words.specs.Words.{bitAt, patternOf, Lowest, WithoutLowest}
 use Rattle.sweep_image.specs.Images.{Tells, columns, wordAt}

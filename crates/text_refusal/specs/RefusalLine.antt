@@ -1,8 +1,8 @@
 -- The line of a refusal: docs/SCOPE.md, the end of 'Jobs with known totals'.
 use mathlib.Core.List.{List, [], _∷_, _++_}
 use Prim.Native.Nat.{ℕ}
-use Rattle.job.specs.declared.Refusal.{Refusal}
-use Rattle.job.specs.Refusals.{numberOf, detailOf}
+use Rattle.refusals.specs.declared.Refusal.{Refusal}
+use Rattle.refusals.specs.Refusals.{numberOf, detailOf}
 use Rattle.text_parts.specs.Text.{text}
 use Rattle.text_parts.specs.Decimal.{decimal}
 

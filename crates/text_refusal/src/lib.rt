@@ -1,10 +1,10 @@
-// The line of a refusal, its number and its detail, put into a lent slice. specs/RefusalLine.antt says what the line is. Stands on `job`, whose
-// refusals they are, and on `text_parts` and `buffer`.
+// The line of a refusal, its number and its detail, put into a lent slice. specs/RefusalLine.antt says what the line is. Stands on `refusals`,
+// whose refusals they are, and on `text_parts` and `buffer`.
 ghost use Prim.Native.Nat.{_≤_};
 ghost use lib.ListN.{length};
 ghost use Rattle.buffer.specs.Wrote.{Wrote};
 ghost use Rattle.text_refusal.specs.RefusalLine.{refusalLine, refusalText};
-use job::Refusal;
+use refusals::Refusal;
 use text_parts::put_byte;
 use text_parts::put_digits;
 use text_parts::put_word;
@@ -27,5 +27,6 @@ pub fn refuse(out: &mut [u8], refusal: Refusal) -> usize
     requires { ⌜ 128 ≤ length (now out) ⌝ }
     ensures { λ r. ⌜ Wrote (now (out .entry)) (now (out .exit)) 0 r (refusalText refusal) ⌝ }
 {
-    refusal_line(out, job::number(refusal), job::detail(refusal))
+    let told = refusals::notice_of(refusal);
+    refusal_line(out, told.number, told.detail)
 }

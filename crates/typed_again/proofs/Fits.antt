@@ -7,7 +7,7 @@ use native.Mathlib.Omega.{arith}
 use lib.Dec.{ltb, eqb}
 use lib.ListN.{length, getD, length-append}
 use borrow.Author.Tests.{lt-ltb}
-use Rattle.job.specs.declared.Checked.the-variants.{Accepted}
+use Rattle.refusals.specs.declared.Checked.the-variants.{Accepted}
 use Rattle.job.specs.Job.{Job, shots, shotsOf, shotCount, Valid}
 use Rattle.job.specs.Checking.{checked}
 use Rattle.job.proofs.Conditions.{accepted-valid}

@@ -7,11 +7,11 @@ use native.Mathlib.Omega.{arith}
 use lib.Dec.{ltb}
 use lib.ListN.{length, getD}
 use Rattle.job.specs.Job.{Job}
-use Rattle.job.specs.declared.Checked.the-variants.{Refused as Turned}
-use Rattle.job.specs.declared.Refusal.{Refusal}
-use Rattle.job.specs.declared.Refusal.the-variants.{TooManyShots}
+use Rattle.refusals.specs.declared.Checked.the-variants.{Refused as Turned}
+use Rattle.refusals.specs.declared.Refusal.{Refusal}
+use Rattle.refusals.specs.declared.Refusal.the-variants.{TooManyShots}
 use Rattle.job.specs.Checking.{checked}
-use Rattle.job.specs.Refusals.{numberOf, detailOf, metAt}
+use Rattle.refusals.specs.Refusals.{noticeOf, numberOf, detailOf}
 use Rattle.text_parts.specs.Text.{text}
 use Rattle.text_parts.specs.Decimal.{decimal}
 use Rattle.text_same.specs.Same.{same}
@@ -85,7 +85,7 @@ refused-has t = subst Has (sym (lines-cut [] (text "refused " ++ t))) (here {m =
 refusal-has : (r : Refusal) (rest : List ℕ) → Has (linesOf (refusedLine r ++ rest))
 unfolding refusedLine
 refusal-has r rest =
-    let words : List ℕ = placeText (metAt r) (detailOf r) ++ (text ": " ++ (sentence r ++ text "\n")) in
+    let words : List ℕ = placeText (noticeOf r .met) (detailOf r) ++ (text ": " ++ (sentence r ++ text "\n")) in
     subst (λ (k : List ℕ). Has (linesOf k)) (parts (text "refused ") (decimal (numberOf r)) words) (refused-has (decimal (numberOf r) ++ (words ++ rest)))
   where
     parts : (a b c : List ℕ) → a ++ (b ++ (c ++ rest)) ≡ ((a ++ b) ++ c) ++ rest

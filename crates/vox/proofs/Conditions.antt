@@ -9,15 +9,16 @@ use native.Mathlib.Omega.{arith}
 use lib.Dec.{ltb, leb, eqb}
 use lib.ListN.{length, take, drop}
 use borrow.Author.Tests.{ltb-true, ltb-false}
-use Rattle.job.specs.declared.Refusal.{Refusal}
-use Rattle.job.specs.declared.Refusal.the-variants.{TooManyShots, NoPlace, NotVox, BrokenChunk, VoxelRange}
-use Rattle.job.specs.declared.Checked.{Checked}
-use Rattle.job.specs.declared.Checked.the-variants.{Accepted, Refused}
+use Rattle.refusals.specs.declared.Refusal.{Refusal}
+use Rattle.refusals.specs.declared.Refusal.the-variants.{TooManyShots, NoPlace, NotVox, BrokenChunk, VoxelRange}
+use Rattle.refusals.specs.declared.Checked.{Checked}
+use Rattle.refusals.specs.declared.Checked.the-variants.{Accepted, Refused}
 use Rattle.job.specs.Job.{shotCount}
-use Rattle.job.specs.Checking.{Test, firstOf}
-use Rattle.job.specs.Conditions.{Each, Says, First}
-use Rattle.job.proofs.Tests.{ltb-says, leb-says, eqb-says, not-says, or-says, and-says, outside-says}
-use Rattle.job.proofs.Places.{first-iff, none-each, none-iff}
+use Rattle.refusals.specs.Tests.{Test, firstOf}
+use Rattle.refusals.specs.Deciding.{Each, Says, First}
+use Rattle.ground.proofs.Tests.{ltb-says, leb-says, eqb-says, not-says, or-says, and-says}
+use Rattle.job.proofs.Tests.{outside-says}
+use Rattle.refusals.proofs.FirstOf.{first-iff, none-each, none-iff}
 use Rattle.shotfile_reader.specs.Calls.{readAnswer}
 use Rattle.shotfile_reader.specs.declared.ReadAnswer.{ReadAnswer}
 use Rattle.shotfile_reader.specs.declared.ReadAnswer.the-variants.{Read, Refused as Unread}

@@ -4,9 +4,9 @@ use mathlib.Core.List.{List, [], _∷_, _++_}
 use Prim.Native.Nat.{ℕ}
 use Prim.Native.String.{String}
 use lib.ListN.{take}
-use Rattle.job.specs.declared.Refusal.the-variants.{NoPlace, NotVox, BrokenChunk, VoxelRange}
+use Rattle.refusals.specs.declared.Refusal.the-variants.{NoPlace, NotVox, BrokenChunk, VoxelRange}
 use Rattle.job.specs.Job.{jobOf}
-use Rattle.job.specs.Checking.{firstOf}
+use Rattle.refusals.specs.Tests.{firstOf}
 use Rattle.shotfile_reader.specs.Files.{file, refused}
 use Rattle.text_same.specs.Same.{same}
 use Rattle.text_parts.specs.Text.{text}

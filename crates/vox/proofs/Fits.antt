@@ -3,10 +3,10 @@ use mathlib.Core.Path.{_≡_, refl, sym}
 use mathlib.Core.List.{List}
 use Prim.Native.Nat.{ℕ}
 use native.Mathlib.Omega.{arith}
-use Rattle.job.specs.declared.Checked.{Checked}
-use Rattle.job.specs.declared.Checked.the-variants.{Accepted, Refused}
+use Rattle.refusals.specs.declared.Checked.{Checked}
+use Rattle.refusals.specs.declared.Checked.the-variants.{Accepted, Refused}
 use Rattle.job.specs.Job.{Job}
-use Rattle.job.specs.Checking.{firstOf}
+use Rattle.refusals.specs.Tests.{firstOf}
 use Rattle.shotfile_reader.specs.Files.{file}
 use Rattle.shotfile_reader.proofs.Accepted.{Fits}
 use Rattle.vox.specs.Vox.{voxelCount, voxTests, voxJob, voxIn}

@@ -1,12 +1,12 @@
 -- What the tests of the sides and the voxels answer, one way out after the other, and the first voxel that is at fault. Assumes nothing.
 use mathlib.Core.Path.{_≡_, refl, ap, _∙_}
-use mathlib.Core.Bool.{Bool, true, false, cond}
+use mathlib.Core.Bool.{Bool, true, false}
 use mathlib.Core.List.{List}
-use Prim.Native.Nat.{ℕ, zero, suc, _+_, _-_, _≤_, _<_}
+use Prim.Native.Nat.{ℕ, suc, _+_, _-_, _≤_, _<_}
 use native.Mathlib.Omega.{arith}
 use lib.Dec.{leb, ltb, eqb}
 use borrow.Author.Tests.{lt-ltb, le-ltb}
-use Rattle.job.proofs.Tests.{or-first, or-second}
+use Rattle.ground.proofs.Bools.{or-first, or-second}
 use Rattle.vox_voxels.specs.Voxels.{sideOn, wrongSide, beyond, byteOf, wrongVoxel, firstWrong}
 
 module _ (s : List ℕ) where

@@ -2,9 +2,9 @@
 // form, to standard output. A mistake in the text, and a list that is refused, give one line on standard error and no file. What the
 // text says is `typed_list::read_text`, and its file `shotfile_writer::write`; here are the system calls, the sizes and the sentences.
 use input::Filled;
-use job::Refusal;
 use libc::STDERR_FILENO;
 use libc::STDOUT_FILENO;
+use refusals::Refusal;
 use shotfile_writer::WriteAnswer;
 use typed_line::Mistake;
 use typed_list::Typed;
@@ -40,10 +40,11 @@ fn tell_mistake(line: usize, mistake: Mistake) {
 
 // The number and the detail of a refusal, and its sentence.
 fn tell_refusal(refusal: Refusal) {
+    let told = refusals::notice_of(refusal);
     say(b"write_shots: refused ");
-    io::print_decimal(STDERR_FILENO, job::number(refusal) as u64);
+    io::print_decimal(STDERR_FILENO, told.number as u64);
     say(b" ");
-    io::print_decimal(STDERR_FILENO, job::detail(refusal) as u64);
+    io::print_decimal(STDERR_FILENO, told.detail as u64);
     say(b": ");
     let mut sentence = [0u8; 64];
     let n = text_wording::put_sentence(&mut sentence, 0, refusal);

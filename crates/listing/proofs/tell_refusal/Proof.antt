@@ -6,14 +6,14 @@ use borrow.Author.Needs.{needs}
 use Rattle.listing.proofs.tell_refusal.Statement.{statement}
 use Rattle.listing.proofs.tell_refusal.Tie as tie
 
+notice-of-requires : tie.Need-notice-of-requires
+notice-of-requires c κs = search needs
+
 slice-aggregate-say : tie.Need-slice-aggregate-say
 slice-aggregate-say c = search needs
 
 say-requires : tie.Need-say-requires
 say-requires c κs = search needs
-
-number-requires : tie.Need-number-requires
-number-requires c κs = search needs
 
 cast-print-decimal : tie.Need-cast-print-decimal
 cast-print-decimal c = search needs
@@ -26,9 +26,6 @@ slice-aggregate-say-2 c = search needs
 
 say-requires-2 : tie.Need-say-requires-2
 say-requires-2 c κs = search needs
-
-detail-requires : tie.Need-detail-requires
-detail-requires c κs = search needs
 
 print-decimal-requires-2 : tie.Need-print-decimal-requires-2
 print-decimal-requires-2 c κs = search needs
@@ -67,14 +64,13 @@ pub tell-refusal-spec : {M : Type 1} → statement M
 tell-refusal-spec =
     tie.close
     (tie.spec
+    notice-of-requires
     slice-aggregate-say
     say-requires
-    number-requires
     cast-print-decimal
     print-decimal-requires
     slice-aggregate-say-2
     say-requires-2
-    detail-requires
     print-decimal-requires-2
     slice-aggregate-say-3
     say-requires-3

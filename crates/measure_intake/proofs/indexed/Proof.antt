@@ -3,7 +3,7 @@ use mathlib.Core.Path.{_≡_, sym, _∙_}
 use native.Mathlib.Omega.{arith}
 use Rattle.job.specs.Job.{jobOf}
 use Rattle.job.specs.Checking.{checked}
-use Rattle.job.specs.declared.Checked.the-variants.{Accepted}
+use Rattle.refusals.specs.declared.Checked.the-variants.{Accepted}
 use Rattle.measure_intake.proofs.IntakeLaws.{refused-intake, valid, short-intake, long-intake}
 use borrow.Author.Needs.{needs}
 use Rattle.measure_intake.proofs.indexed.Statement.{statement}

@@ -6,11 +6,8 @@ use borrow.Author.Needs.{needs}
 use Rattle.text_refusal.proofs.refuse.Statement.{statement}
 use Rattle.text_refusal.proofs.refuse.Tie as tie
 
-number-requires : tie.Need-number-requires
-number-requires c κs = search needs
-
-detail-requires : tie.Need-detail-requires
-detail-requires c κs = search needs
+notice-of-requires : tie.Need-notice-of-requires
+notice-of-requires c κs = search needs
 
 refusal-line-requires : tie.Need-refusal-line-requires
 refusal-line-requires c κs = search needs
@@ -19,8 +16,10 @@ same-length : tie.Need-same-length
 same-length c = search needs
 
 returns : tie.Need-returns
-returns c = wrote-as (ap₂ refusalLine (c .before .before .before .before .number .ensures) (c .before .before .before .detail .ensures)) (c .before .before .refusal-line .ensures)
+returns c =
+    let told = c .before .before .before .before .notice-of .ensures in
+    wrote-as (ap₂ refusalLine (told .0) (told .1 .0)) (c .before .before .refusal-line .ensures)
 
 pub refuse-spec : {M : Type 1} → statement M
 refuse-spec =
-    tie.close (tie.spec number-requires detail-requires refusal-line-requires same-length returns)
+    tie.close (tie.spec notice-of-requires refusal-line-requires same-length returns)

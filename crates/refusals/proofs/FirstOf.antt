@@ -5,12 +5,12 @@ use mathlib.Core.List.{List, [], _∷_, _++_}
 use mathlib.Core.Logic.{_↔_}
 use Prim.Native.Nat.{ℕ}
 use native.Mathlib.Omega.{arith}
-use Rattle.job.specs.declared.Refusal.{Refusal}
-use Rattle.job.specs.declared.Checked.{Checked}
-use Rattle.job.specs.declared.Checked.the-variants.{Accepted, Refused}
-use Rattle.job.specs.Refusals.{checkedNumbers}
-use Rattle.job.specs.Checking.{Test, firstOf, firstNumbers, Checks}
-use Rattle.job.specs.Conditions.{Each, Says, First}
+use Rattle.refusals.specs.declared.Refusal.{Refusal}
+use Rattle.refusals.specs.declared.Checked.{Checked}
+use Rattle.refusals.specs.declared.Checked.the-variants.{Accepted, Refused}
+use Rattle.refusals.specs.Refusals.{checkedNumbers}
+use Rattle.refusals.specs.Tests.{Test, firstOf, firstNumbers, Checks}
+use Rattle.refusals.specs.Deciding.{Each, Says, First}
 
 pub apart : {P : Type 0} {r : Refusal} → Refused r ≡ Accepted → P
 apart e = let z : _≡_ {A = ℕ} 0 1 = cc in absurd (omega arith)
