@@ -15,12 +15,14 @@ use Rattle.refusals.specs.declared.Checked.the-variants.{Accepted, Refused as T
 use Rattle.measure_intake.specs.Intake.{measuredNumbers, measureTests, measureNumbers, workAfter, IndexCall, MeasureCall}
 use Rattle.measure_intake.specs.declared.Measured.{Measured}
 use Rattle.measure.specs.Answers.{listNumbers, listingAfter, ListCall}
-use Rattle.shotfile.specs.Files.{File, file, refused, fileIn, fileOf}
+use Rattle.shotfile_reader.specs.Files.{File, file, refused, fileIn}
+use Rattle.shotfile_writer.specs.Files.{fileOf}
 use Rattle.buffer.specs.Wrote.{inFront}
-use Rattle.shotfile.specs.Calls.{readNumbers, readValues, readCoords, writtenNumbers, writeTests, writeValues, writeBytes, ReadCall, WriteCall}
-use Rattle.shotfile.specs.declared.reader.ReadAnswer.{ReadAnswer}
+use Rattle.shotfile_reader.specs.Calls.{readNumbers, readValues, readCoords, ReadCall}
+use Rattle.shotfile_writer.specs.Calls.{writtenNumbers, writeTests, writeValues, writeBytes, WriteCall}
+use Rattle.shotfile_reader.specs.declared.ReadAnswer.{ReadAnswer}
 use Rattle.vox.specs.Vox.{voxIn, VoxCall}
-use Rattle.shotfile.specs.declared.writer.WriteAnswer.{WriteAnswer}
+use Rattle.shotfile_writer.specs.declared.WriteAnswer.{WriteAnswer}
 use Rattle.grid_cover.specs.Cover.{firstCovering, coveringOf}
 use Rattle.grid_cover.specs.declared.Covering.{Covering}
 use Rattle.crediting.specs.Credits.{creditsAfter, CreditCall}
@@ -60,7 +62,7 @@ module _ (numbers : List ℕ) {n : ℕ} (size : length numbers ≡ n) (answer : 
 -- how many numbers a file has
 read-six : (f : File) → length (readValues f) ≡ 6
 unfolding readValues
-read-six (file f coords) = refl
+read-six (file job) = refl
 read-six (refused r) = refl
 
 write-three : (job : Job) (room : ℕ) → length (writeValues job room) ≡ 3

@@ -12,10 +12,11 @@ use Rattle.grid_cover.specs.Cover.{firstCovering}
 use Rattle.measure_intake.specs.Intake.{measureTests, measureNumbers, workAfter}
 use Rattle.measure.specs.Answers.{listNumbers, listingAfter}
 use Rattle.crediting.specs.Credits.{creditTests, creditsAfter}
-use Rattle.shotfile.specs.Files.{fileIn}
+use Rattle.shotfile_reader.specs.Files.{fileIn}
 use Rattle.buffer.specs.Wrote.{inFront}
 use Rattle.capi_answers.specs.Places.{indexPlaces, measurePlaces, coverPlaces}
-use Rattle.shotfile.specs.Calls.{readValues, readCoords, writeValues, writeBytes}
+use Rattle.shotfile_reader.specs.Calls.{readValues, readCoords}
+use Rattle.shotfile_writer.specs.Calls.{writeValues, writeBytes}
 use Rattle.vox.specs.Vox.{voxIn}
 
 -- ---- told where they fit

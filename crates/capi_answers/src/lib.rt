@@ -9,7 +9,8 @@ ghost use lib.ListN.{length};
 ghost use Rattle.refusals.specs.Refusals.{checkedNumbers};
 ghost use Rattle.measure_intake.specs.Intake.{measuredNumbers};
 ghost use Rattle.buffer.specs.Wrote.{inFront};
-ghost use Rattle.shotfile.specs.Calls.{readNumbers, writtenNumbers};
+ghost use Rattle.shotfile_reader.specs.Calls.{readNumbers};
+ghost use Rattle.shotfile_writer.specs.Calls.{writtenNumbers};
 ghost use Rattle.capi_answers.specs.Places.{indexPlaces, measurePlaces, coverPlaces, namedBy};
 use crate::places::AREA;
 use crate::places::CORNERS;
@@ -30,8 +31,8 @@ use lattice_sums::sums::Totals;
 use measure_intake::Measured;
 use refusals::Checked;
 use refusals::notice_of;
-use shotfile::ReadAnswer;
-use shotfile::WriteAnswer;
+use shotfile_reader::ReadAnswer;
+use shotfile_writer::WriteAnswer;
 
 // ---- the numbers of an answer, put to the front
 

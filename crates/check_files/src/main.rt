@@ -4,8 +4,8 @@ use check_print::print_bytes;
 use check_print::print_coords;
 use check_print::print_number;
 use check_print::print_refusal;
-use shotfile::ReadAnswer;
-use shotfile::WriteAnswer;
+use shotfile_reader::ReadAnswer;
+use shotfile_writer::WriteAnswer;
 
 fn end_line() {
     io::write_all(1, b"\n");
@@ -47,7 +47,7 @@ fn print_written(answer: WriteAnswer) {
 fn show_read(bytes: &[u8], coords: &mut [u16]) {
     io::write_all(1, b"read");
     print_coords(coords);
-    let answer = shotfile::read(bytes, coords);
+    let answer = shotfile_reader::read(bytes, coords);
     print_read(answer);
     print_coords(coords);
     end_line();
@@ -57,7 +57,7 @@ fn show_read(bytes: &[u8], coords: &mut [u16]) {
 fn show_write(field: u16, edge: u16, grid: u16, coords: &[u16], bytes: &mut [u8]) {
     io::write_all(1, b"write");
     print_bytes(bytes);
-    let answer = shotfile::write(field, edge, grid, coords, bytes);
+    let answer = shotfile_writer::write(field, edge, grid, coords, bytes);
     print_written(answer);
     print_bytes(bytes);
     end_line();
@@ -121,13 +121,13 @@ fn most_shots() {
     file[4097] = 255;
     let mut coords = [9u16; 12291];
     io::write_all(1, b"read");
-    let taken = shotfile::read(&file[..4097], &mut coords);
+    let taken = shotfile_reader::read(&file[..4097], &mut coords);
     print_read(taken);
     print_coords(&coords[12284..]);
     end_line();
     let mut lent = [9u16; 12291];
     io::write_all(1, b"read");
-    let refused = shotfile::read(&file, &mut lent);
+    let refused = shotfile_reader::read(&file, &mut lent);
     print_read(refused);
     print_coords(&lent[12284..]);
     end_line();

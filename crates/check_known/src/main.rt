@@ -11,7 +11,7 @@ use check_print::print_number;
 use check_print::print_refusal;
 use measure_intake::Measured;
 use refusals::Checked;
-use shotfile::ReadAnswer;
+use shotfile_reader::ReadAnswer;
 
 // A list's settings, and how long the lent slices are.
 struct Lent {
@@ -438,7 +438,7 @@ fn many_shots() {
 // Reads a file of one shot, and shows its list, with so many entries.
 fn show_file(name: &[u8], file: &[u8], entries: usize) {
     let mut coords = [0u16; 3];
-    let answer = shotfile::read(file, &mut coords);
+    let answer = shotfile_reader::read(file, &mut coords);
     match answer {
         ReadAnswer::Read {
             field,

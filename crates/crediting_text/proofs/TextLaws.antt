@@ -9,21 +9,21 @@ use lib.Seq.{take-at, length-take-le}
 use Rattle.buffer.specs.Wrote.{Wrote}
 use Rattle.buffer.proofs.WroteLaws.{wrote-none, wrote-as, wrote-then}
 use Rattle.ground.specs.Sums.{join}
-use Rattle.job.specs.Job.{Job, jobOf, shots, shotCount, firstShots}
+use Rattle.job.specs.Job.{Job, jobOf, shotCount, firstShots}
 use Rattle.refusals.specs.declared.Refusal.{Refusal}
 use Rattle.refusals.specs.declared.Checked.{Checked}
 use Rattle.refusals.specs.declared.Checked.the-variants.{Accepted, Refused}
-use Rattle.shotfile.specs.Files.{File}
-use Rattle.shotfile.specs.Calls.{ReadCall}
-use Rattle.shotfile.specs.declared.reader.ReadAnswer.{ReadAnswer}
-use Rattle.shotfile.specs.declared.reader.ReadAnswer.the-variants.{Read, Refused as Unread}
-use Rattle.shotfile.proofs.Accepted.{accepted-file, refused-file}
+use Rattle.shotfile_reader.specs.Files.{File, file, fileIn}
+use Rattle.shotfile_reader.specs.Calls.{ReadCall}
+use Rattle.shotfile_reader.specs.declared.ReadAnswer.{ReadAnswer}
+use Rattle.shotfile_reader.specs.declared.ReadAnswer.the-variants.{Read, Refused as Unread}
+use Rattle.shotfile_reader.proofs.Accepted.{accepted-file, refused-file}
 use Rattle.ground.proofs.JoinLaws.{join-next}
-use Rattle.measure_intake.specs.Intake.{workAfter}
 use Rattle.text_parts.proofs.LineLaws.{digits-length, line-length}
 use Rattle.text_parts.specs.Decimal.{decimal}
-use Rattle.quoting_text.specs.Quoting.{refusalText, indexAfter}
-use Rattle.crediting.specs.Credits.{creditsOf, creditsAfter, CreditCall}
+use Rattle.text_refusal.specs.RefusalLine.{refusalText}
+use Rattle.quoting_text.specs.Quoting.{indexAfter}
+use Rattle.crediting.specs.Credits.{creditsOf, CreditCall}
 use Rattle.crediting.proofs.FieldLaws.{credits-long}
 use Rattle.crediting.proofs.CreditTheorems.{credit-holds, credits-are}
 use Rattle.crediting_text.specs.Credited.{creditLine, creditLines, creditedText, listText, fileText, fileCredits, ListCredited, FileCredited}
@@ -101,13 +101,11 @@ module _ {bytes coords coords' : List ℕ} {a : ReadAnswer} (read : ReadCall byt
 
   pub file-credited : {n : ℕ} {work work' credits credits' list out out' : List ℕ} (F E G shots : ℕ) → a ≡ Read F E G shots → list ≡ firstShots shots coords'
       → ListCredited (jobOf F E G list) work credits out n work' credits' out' → FileCredited bytes coords work credits out n coords' work' credits' out'
-  file-credited {n} {work} {work'} {credits} F E G shots e l q =
-      let f = accepted-file read e in
-      let k = l ∙ f .stored in
-      let is = sym (f .is) in
+  file-credited {n} {work} {work'} {credits} {list = list} F E G shots e l q =
+      let is : file (jobOf F E G list) ≡ fileIn (shotCount coords) bytes = ap (λ (c : List ℕ). file (jobOf F E G c)) l ∙ sym (accepted-file read e .is) in
       record {
-        text = wrote-as (ap (λ c. listText (jobOf F E G c) (length work) (length credits)) k ∙ ap (λ (f : File). fileText f (length work) (length credits)) is) (q .text);
+        text = wrote-as (ap (λ (f : File). fileText f (length work) (length credits)) is) (q .text);
         coordinates = read .coordinates;
-        index = q .index ∙ ap (λ c. workAfter (jobOf F E G c) work) k ∙ ap (λ (f : File). indexAfter f work) is;
-        credited = q .credited ∙ ap (λ c. creditsAfter (jobOf F E G c) (length work) credits) k ∙ ap (λ (f : File). fileCredits f (length work) credits) is;
+        index = q .index ∙ ap (λ (f : File). indexAfter f work) is;
+        credited = q .credited ∙ ap (λ (f : File). fileCredits f (length work) credits) is;
       }

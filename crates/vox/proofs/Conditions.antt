@@ -4,7 +4,7 @@ use mathlib.Core.Path.{_≡_, refl, sym, ap, subst, _∙_}
 use mathlib.Core.Bool.{Bool, true, false, not, _||_}
 use mathlib.Core.List.{List}
 use mathlib.Core.Logic.{_↔_, _⊎_}
-use Prim.Native.Nat.{ℕ, _+_, _-_, _≤_, _<_}
+use Prim.Native.Nat.{ℕ, _+_, _≤_, _<_}
 use native.Mathlib.Omega.{arith}
 use lib.Dec.{ltb, leb, eqb}
 use lib.ListN.{length, take, drop}
@@ -19,9 +19,9 @@ use Rattle.refusals.specs.Deciding.{Each, Says, First}
 use Rattle.ground.proofs.Tests.{ltb-says, leb-says, eqb-says, not-says, or-says, and-says}
 use Rattle.job.proofs.Tests.{outside-says}
 use Rattle.refusals.proofs.FirstOf.{first-iff, none-each, none-iff}
-use Rattle.shotfile.specs.Calls.{readAnswer}
-use Rattle.shotfile.specs.declared.reader.ReadAnswer.{ReadAnswer}
-use Rattle.shotfile.specs.declared.reader.ReadAnswer.the-variants.{Read, Refused as Unread}
+use Rattle.shotfile_reader.specs.Calls.{readAnswer}
+use Rattle.shotfile_reader.specs.declared.ReadAnswer.{ReadAnswer}
+use Rattle.shotfile_reader.specs.declared.ReadAnswer.the-variants.{Read, Refused as Unread}
 use Rattle.text_same.proofs.SameLaws.{same-iff}
 use Rattle.text_parts.specs.Text.{text}
 use Rattle.vox_chunks.specs.Chunks.{numberAt, stands, contentAt, childrenAt, afterChunk, missing, overruns, mismatched}

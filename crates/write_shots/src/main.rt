@@ -1,11 +1,11 @@
 // The writing program: reads a shot list that is typed as plain text from standard input, and writes its shot file, in the shortest
 // form, to standard output. A mistake in the text, and a list that is refused, give one line on standard error and no file. What the
-// text says is `typed_list::read_text`, and its file `shotfile::writer::write`; here are the system calls, the sizes and the sentences.
+// text says is `typed_list::read_text`, and its file `shotfile_writer::write`; here are the system calls, the sizes and the sentences.
 use input::Filled;
 use libc::STDERR_FILENO;
 use libc::STDOUT_FILENO;
 use refusals::Refusal;
-use shotfile::writer::WriteAnswer;
+use shotfile_writer::WriteAnswer;
 use typed_line::Mistake;
 use typed_list::Typed;
 
@@ -55,7 +55,7 @@ fn tell_refusal(refusal: Refusal) {
 // Writes the file of a list; 28,679 bytes are the longest file.
 fn write_list(field: u16, edge: u16, grid: u16, coords: &[u16]) {
     let mut bytes = [0u8; 28679];
-    let answer = shotfile::writer::write(field, edge, grid, coords, &mut bytes);
+    let answer = shotfile_writer::write(field, edge, grid, coords, &mut bytes);
     match answer {
         WriteAnswer::Written { bytes: n } => {
             if !io::write_all(STDOUT_FILENO, &bytes[..n]) {

@@ -2,7 +2,7 @@
 use mathlib.Core.Path.{_∙_, ap₂}
 use mathlib.Core.List.{[], _∷_}
 use Rattle.buffer.specs.Wrote.{inFront}
-use Rattle.shotfile.specs.Calls.{writtenNumbers}
+use Rattle.shotfile_writer.specs.Calls.{writtenNumbers}
 use Rattle.capi_answers.proofs.StoreLaws.{put-as}
 use borrow.Author.Needs.{needs}
 use Rattle.capi_answers.proofs.put_written.Statement.{statement}
