@@ -10,6 +10,7 @@ use oracle::corners::sums;
 use oracle::grid;
 use oracle::inputs::{accepted, accepted_with, coarsen, damaged, Length, Random, Size};
 use oracle::list::{List, Shot};
+use oracle::literal;
 
 /// Holds so many accepted lists of a size, with buffers of all lengths.
 fn hold_accepted(seed: u64, lists: usize, size: Size, entries: usize) {
@@ -112,6 +113,39 @@ fn listings_by_themselves() {
             assert_eq!(listed(&other), (totals, listing), "{list:?} {other:?}");
         }
     }
+}
+
+/// The cells of the field, covered or not.
+fn cells(list: &List) -> Vec<bool> {
+    let field = i64::from(list.field);
+    let place = |n: i64| [n / field / field, n / field % field, n % field];
+    (0..field.pow(3)).map(place).map(|[i, j, k]| literal::covered(list, i, j, k)).collect()
+}
+
+/// With a shot more, or another shot in the place of one, a list has the same listing exactly if it covers the same
+/// cells. Some have other cells and yet the same totals.
+#[test]
+fn other_cells_another_listing() {
+    let mut random = Random::new(21);
+    let (mut same, mut other, mut twins) = (0, 0, 0);
+    for _ in 0..3_000 {
+        let list = accepted(&mut random, Size { field: 9, shots: 8 });
+        let (totals, listing) = listed(&list);
+        let shot = [0; 3].map(|_| random.within(0, (list.field - list.edge).into()) as u16);
+        let more = [list.coords.clone(), shot.to_vec()].concat();
+        let moved = more[3..].to_vec();
+        for coords in [more, moved] {
+            let changed = List { coords, ..list.clone() };
+            let (their_totals, their_listing) = listed(&changed);
+            let same_cells = cells(&list) == cells(&changed);
+            assert_eq!(their_listing == listing, same_cells, "{list:?} {changed:?}");
+            same += usize::from(same_cells);
+            other += usize::from(!same_cells);
+            twins += usize::from(!same_cells && their_totals == totals);
+        }
+    }
+    let counts = format!("{same} with the same cells, {other} with others, {twins} of them with the same totals");
+    assert!(same > 500 && other > 2_000 && twins > 100, "{counts}");
 }
 
 /// On how many axes two cubes touch without overlapping, where they overlap or lie alike on the others: 0 for a repeat,
