@@ -51,10 +51,6 @@ fn print_places(coords: &[u16]) {
     print_coords(&coords[from..]);
 }
 
-fn byte_of(number: u16) -> u8 {
-    (number % 256) as u8
-}
-
 // Puts the numbers of a file into bytes, as far as they go.
 fn put_bytes(numbers: &[u16], file: &mut [u8]) {
     let mut i = 0;
@@ -62,7 +58,7 @@ fn put_bytes(numbers: &[u16], file: &mut [u8]) {
         if file.len() <= i {
             return;
         }
-        file[i] = byte_of(numbers[i]);
+        file[i] = (numbers[i] % 256) as u8;
         i += 1;
     }
 }
@@ -84,19 +80,19 @@ fn write_in(field: u16, edge: u16, grid: u16, coords: &[u16], file: &mut [u8]) {
 }
 
 // Reads the file of these numbers, which are put into as many bytes, with so many places lent.
-fn read_with(numbers: &[u16], file: &mut [u8], most: usize) {
+fn read_with(numbers: &[u16], file: &mut [u8], most: u16) {
     put_bytes(numbers, file);
     let mut coords = [9u16; 12291];
     read_in(file, places(&mut coords, most));
 }
 
-pub(crate) fn show_read(numbers: &[u16], most: usize) {
+pub(crate) fn show_read(numbers: &[u16], length: u16, most: u16) {
     let mut file = [0u8; 4098];
-    read_with(numbers, bytes(&mut file, numbers.len()), most);
+    read_with(numbers, bytes(&mut file, length), most);
 }
 
 // Writes a list, with so many bytes lent.
-pub(crate) fn show_write(field: u16, edge: u16, grid: u16, coords: &[u16], most: usize) {
+pub(crate) fn show_write(field: u16, edge: u16, grid: u16, coords: &[u16], most: u16) {
     let mut file = [9u8; 16];
     write_in(field, edge, grid, coords, bytes(&mut file, most));
 }

@@ -99,5 +99,5 @@ fn print_widened(listing: &[u8], wide: &mut [u32]) {
 // Prints what became of a listing buffer of at most 150 bytes, and the listing in it.
 pub(crate) fn print_listing(listing: &[u8]) {
     let mut wide = [ENTRY; 150];
-    print_widened(listing, entries(&mut wide, listing.len()));
+    print_widened(listing, entries(&mut wide, (listing.len() % 65536) as u16));
 }

@@ -5,9 +5,9 @@
 // together they are all places where only the front was written. The index in front is printed too, where it is short, and so are the
 // credits; the listing always. Of a file it has the lent slice before and after (files.rt).
 //
-// A line of the data is a name, a colon, and numbers: which calls (1 credit, 3 measure, list and credit, 4 read, 5 write), field, edge, grid,
-// the lengths of the slices that are lent (work entries, bytes, credit or coordinate places), how many numbers the list or file has, and
-// these. Where fewer are given, the first of them is repeated. A line without eight numbers is a comment.
+// A line of the data is a name, a colon, and numbers with a blank before each: which calls (1 credit, 3 measure, list and credit, 4 read,
+// 5 write), field, edge, grid, the lengths of the slices that are lent (work entries, bytes, credit or coordinate places), how many numbers
+// the list or file has, and these. Where fewer are given, the first of them is repeated. A line without a colon is a comment.
 mod files;
 mod junk;
 mod lines;
@@ -33,11 +33,12 @@ struct Settings {
     grid: u16,
 }
 
-// How long the lent slices are.
+// How long the lent slices are, and how many numbers the list or file has.
 struct Sizes {
-    entries: usize,
-    bytes: usize,
-    places: usize,
+    entries: u16,
+    bytes: u16,
+    places: u16,
+    numbers: u16,
 }
 
 fn print_answer(answer: Measured) {
@@ -150,7 +151,7 @@ fn show_calls(name: &[u8], calls: u16, list: Settings, sizes: Sizes, numbers: &[
             next_call(name);
             show_credit(list, sizes, numbers);
         }
-        4 => files::show_read(numbers, sizes.places),
+        4 => files::show_read(numbers, sizes.numbers, sizes.places),
         _ => files::show_write(list.field, list.edge, list.grid, numbers, sizes.bytes),
     }
     io::write_all(1, b"\n");
@@ -188,17 +189,14 @@ fn settings_of(numbers: &[u16]) -> Settings
     }
 }
 
-fn size(number: u16) -> usize {
-    number as usize
-}
-
 fn sizes_of(numbers: &[u16]) -> Sizes
     requires { ⌜ 8 ≤ length (now numbers) ⌝ }
 {
     Sizes {
-        entries: size(numbers[4]),
-        bytes: size(numbers[5]),
-        places: size(numbers[6]),
+        entries: numbers[4],
+        bytes: numbers[5],
+        places: numbers[6],
+        numbers: numbers[7],
     }
 }
 
@@ -222,7 +220,7 @@ fn show_job(name: &[u8], numbers: &[u16]) {
         return;
     }
     let mut list = [0u16; 12291];
-    show_spread(name, numbers, places(&mut list, size(numbers[7])));
+    show_spread(name, numbers, places(&mut list, numbers[7]));
 }
 
 // A job by its line.

@@ -1,4 +1,4 @@
--- The loop goes through the file once. Assumes nothing.
+-- The loop goes through the numbers once. Assumes nothing.
 use mathlib.Core.Path.{_≡_}
 use Prim.Native.Nat.{_-_, _≤_}
 use lib.ListN.{length}
@@ -21,14 +21,14 @@ same-length c = search needs
 returns : tie.Need-returns Inv-loop μ-loop
 returns c = search needs
 
-mul-byte-of : tie.Need-mul-byte-of Inv-loop μ-loop
-mul-byte-of c = search needs
+mul-file : tie.Need-mul-file Inv-loop μ-loop
+mul-file c = search needs
 
-shared-slice-read-byte-of : tie.Need-shared-slice-read-byte-of Inv-loop μ-loop
-shared-slice-read-byte-of c = search needs
+shared-slice-read-file : tie.Need-shared-slice-read-file Inv-loop μ-loop
+shared-slice-read-file c = search needs
 
-byte-of-requires : tie.Need-byte-of-requires Inv-loop μ-loop
-byte-of-requires c κs = search needs
+cast-file : tie.Need-cast-file Inv-loop μ-loop
+cast-file c = search needs
 
 slice-write-file : tie.Need-slice-write-file Inv-loop μ-loop
 slice-write-file c = search needs
@@ -57,9 +57,9 @@ put-bytes-spec =
     loop-holds
     same-length
     returns
-    mul-byte-of
-    shared-slice-read-byte-of
-    byte-of-requires
+    mul-file
+    shared-slice-read-file
+    cast-file
     slice-write-file
     add-i
     loop-less

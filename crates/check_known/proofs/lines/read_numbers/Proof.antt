@@ -7,10 +7,10 @@ use Rattle.check_known.proofs.lines.read_numbers.Statement.{statement}
 use Rattle.check_known.proofs.lines.read_numbers.Tie as tie
 
 abbrev Inv-loop : tie.InvT-loop
-Inv-loop text numbers₀ n₀ before₀ at₀ numbers n before at = (at ≤ length text) × (n ≤ length numbers) × (length numbers ≡ length numbers₀)
+Inv-loop text numbers₀ n₀ at₀ numbers n at = (at ≤ length text) × (n ≤ length numbers) × (length numbers ≡ length numbers₀)
 
 abbrev μ-loop : tie.MeasureT-loop
-μ-loop text numbers₀ n₀ before₀ at₀ numbers n before at = length text - at
+μ-loop text numbers₀ n₀ at₀ numbers n at = length text - at
 
 loop-holds : tie.Need-loop-holds Inv-loop μ-loop
 loop-holds c = search needs
@@ -20,9 +20,6 @@ shared-slice-read-take c = search needs
 
 take-requires : tie.Need-take-requires Inv-loop μ-loop
 take-requires c κs = search needs
-
-shared-slice-read-before : tie.Need-shared-slice-read-before Inv-loop μ-loop
-shared-slice-read-before c = search needs
 
 add-at : tie.Need-add-at Inv-loop μ-loop
 add-at c = search needs
@@ -48,7 +45,6 @@ read-numbers-spec =
     loop-holds
     shared-slice-read-take
     take-requires
-    shared-slice-read-before
     add-at
     loop-less
     loop-again
