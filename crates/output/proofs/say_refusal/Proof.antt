@@ -3,8 +3,8 @@ use mathlib.Core.Path.{sym}
 use native.Mathlib.Omega.{arith}
 use lib.Seq.{length-take-le}
 use borrow.Author.Needs.{needs}
-use Rattle.write_shots.proofs.tell_refusal.Statement.{statement}
-use Rattle.write_shots.proofs.tell_refusal.Tie as tie
+use Rattle.output.proofs.say_refusal.Statement.{statement}
+use Rattle.output.proofs.say_refusal.Tie as tie
 
 slice-aggregate-say : tie.Need-slice-aggregate-say
 slice-aggregate-say c = search needs
@@ -63,8 +63,8 @@ say-requires-5 c κs = search needs
 returns : tie.Need-returns
 returns c = search needs
 
-pub tell-refusal-spec : {M : Type 1} → statement M
-tell-refusal-spec =
+pub say-refusal-spec : {M : Type 1} → statement M
+say-refusal-spec =
     tie.close
     (tie.spec
     slice-aggregate-say
