@@ -22,8 +22,9 @@ use Rattle.lattice_sums.specs.declared.sums.CornerSums.{CornerSums}
 use Rattle.lattice_sums.proofs.CornerSumLaws.{no-room, room-more}
 use Rattle.job.specs.Job.{Job, Valid}
 use Rattle.sweep_image.specs.Images.{columns, inRect}
-use Rattle.sweep_image.proofs.ImageLaws.{shows-ext, zeros-at, shows-zeros, tells-zeros}
-use Rattle.sweep_faces.specs.Faces.{rectOf, shade}
+use Rattle.sweep_image.proofs.ImageLaws.{shows-ext, zeros-at, shows-zeros}
+use Rattle.sweep_names.proofs.NameLaws.{tells-zeros}
+use Rattle.sweep_overlaps.specs.Overlaps.{rectOf, shade}
 use Rattle.sweep_layer.specs.Layers.{About, touching}
 use Rattle.sweep_slots.specs.Slots.{Slots}
 use Rattle.sweep_tally.specs.Found.{Found, state, found}

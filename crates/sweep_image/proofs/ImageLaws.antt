@@ -1,7 +1,7 @@
 -- Images column by column: a rectangle filled or emptied in the columns before that of a loop, which at the end changes what the image
 -- shows; layers that are the same cell by cell, and blank images.
-use mathlib.Core.Path.{_≡_, refl, sym, _∙_, ap}
-use mathlib.Core.Bool.{Bool, true, false, false≢true}
+use mathlib.Core.Path.{_≡_, refl, _∙_, ap}
+use mathlib.Core.Bool.{Bool, true, false}
 use mathlib.Core.List.{List}
 use Prim.Native.Nat.{ℕ, zero, suc, _+_, _*_, _/_, _≤_, _<_}
 use native.Mathlib.Omega.{arith}
@@ -10,7 +10,7 @@ use lib.ListN.{length, getD, replicate, length-replicate}
 use borrow.Author.Tests.{ltb-true, ltb-false}
 use Rattle.sweep_words.specs.Words.{bitAt}
 use Rattle.sweep_words.proofs.BitLaws.{bit-zero}
-use Rattle.sweep_image.specs.Images.{Layer, columns, wordAt, Shows, Tells, inRect, Turned, filling, filled}
+use Rattle.sweep_image.specs.Images.{Layer, columns, wordAt, Shows, inRect, Turned, filling, filled}
 use Rattle.sweep_image.specs.Changes.{ColumnFilled}
 use Rattle.sweep_image.specs.declared.Rect.{Rect}
 use Rattle.sweep_image.proofs.ColumnLaws.{left-of, right-of, filling-kept}
@@ -78,24 +78,12 @@ shows-ext e s = record { size = s .size; at = λ k y b h m l. s .at k y b h m l 
 pub shows-none : (n : ℕ) (img : List ℕ) → columns n * 1026 ≤ length img → ((i : ℕ) → getD img i 0 ≡ 0) → Shows n (λ y z. false) img
 shows-none n img h z = record { size = h; at = λ k y b i j l. ap (λ (w : ℕ). bitAt w b) (z (k * 1026 + y)) ∙ bit-zero b }
 
--- two images that are the same, and blank names
-pub tells-blank : (n : ℕ) (l names : List ℕ) → length names ≡ 1040 → ((y : ℕ) → getD names y 0 ≡ 0) → Tells n l l names
-tells-blank n l names h z = record {
-  size = h;
-  same = λ k y i j e. refl;
-  past = λ y i. z y;
-  few = λ k y e. absurd (false≢true (sym (ap (λ (w : ℕ). bitAt w k) (z y) ∙ bit-zero k) ∙ e));
-}
-
 -- every word of an array of zeros is 0
 pub zeros-at : (m i : ℕ) → _≡_ {A = ℕ} (getD (replicate m 0) i 0) 0
 zeros-at zero i = refl
 zeros-at (suc m) zero = refl
 zeros-at (suc m) (suc i) = zeros-at m i
 
--- an image as it is first lent, and the names
+-- an image as it is first lent
 pub shows-zeros : (n m : ℕ) → columns n * 1026 ≤ m → Shows n (λ y z. false) (replicate m 0)
 shows-zeros n m h = shows-none n (replicate m 0) (rw (length-replicate {A = ℕ} m 0) h) (zeros-at m)
-
-pub tells-zeros : (n : ℕ) (l : List ℕ) → Tells n l l (replicate 1040 0)
-tells-zeros n l = tells-blank n l (replicate 1040 0) (length-replicate {A = ℕ} 1040 0) (zeros-at 1040)

@@ -1,5 +1,8 @@
-pub mod ChangeLaws
-pub mod ColumnLaws
+-- what an image shows, as it is filled column by column
 pub mod ImageLaws
-pub mod SettleLaws
+-- the words of a column, changed in the rows of a rectangle
+pub mod ColumnLaws
+-- the words of a rectangle
 pub mod WordLaws
+-- words changed one after the other
+pub mod ChangeLaws

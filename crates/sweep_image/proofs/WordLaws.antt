@@ -1,12 +1,12 @@
--- The words of a rectangle: an image changed in them only, rectangle after rectangle; and the names that tell of the other words.
+-- The words of a rectangle: an image changed in them only, rectangle after rectangle.
 use mathlib.Core.Path.{_≡_, refl, sym, _∙_}
 use mathlib.Core.Bool.{Bool, true, false, _&&_, true≢false, false≢true}
 use mathlib.Core.List.{List}
-use Prim.Native.Nat.{ℕ, _+_, _/_, _≤_, _<_}
+use Prim.Native.Nat.{ℕ, _/_, _≤_, _<_}
 use native.Mathlib.Omega.{arith}
 use lib.Dec.{ltb, leb}
 use borrow.Author.Tests.{ltb-true, leb-true, lt-ltb, le-leb}
-use Rattle.sweep_image.specs.Images.{Tells, TellsBut, Beside, after, wordsFrom, inWords}
+use Rattle.sweep_image.specs.Images.{Beside, after, wordsFrom}
 use Rattle.sweep_image.specs.declared.Rect.{Rect}
 
 both : (a b : Bool) → a && b ≡ true → (a ≡ true) × (b ≡ true)
@@ -66,23 +66,4 @@ beside-less r s low high from to b = record {
         low = omega (arith, low, w .low);
         high = omega (arith, high, w .high);
       }));
-}
-
--- ---- the names
--- they tell of the words that are as before
-pub tells-beside : {n : ℕ} {r : Rect} {l u v names : List ℕ} → Tells n l u names → Beside r u v → TellsBut n (inWords r) l v names
-tells-beside t b = record {
-  size = t .size;
-  same = λ k y h m out e. t .same k y h m e ∙ sym (b .kept k y m out);
-  past = t .past;
-  few = t .few;
-}
-
--- past the last column there are no words of the rectangle left
-pub tells-all : {n : ℕ} (r : Rect) {l u names : List ℕ} → TellsBut n (wordsFrom r (r .to / 63 + 1)) l u names → Tells n l u names
-tells-all r t = record {
-  size = t .size;
-  same = λ k y h m e. t .same k y h m (word-not r (r .to / 63 + 1) k y λ w. omega (arith, w .from, w .to)) e;
-  past = t .past;
-  few = t .few;
 }

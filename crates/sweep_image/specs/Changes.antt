@@ -4,7 +4,6 @@ use mathlib.Core.Bool.{Bool, cond}
 use mathlib.Core.List.{List}
 use Prim.Native.Nat.{ℕ, _+_, _-_, _*_, _^_, _≤_, _<_}
 use lib.Bits.{bitAnd, bitOr}
-use lib.Dec.{eqb}
 use lib.ListN.{length, getD}
 use Rattle.sweep_words.specs.Words.{bitAt}
 use Rattle.sweep_image.specs.Images.{wordAt, inRect, filling}
@@ -16,10 +15,6 @@ pub record Changed (g : ℕ → ℕ → ℕ) (a b : ℕ) (w w' : List ℕ) : Typ
   pub within : (i : ℕ) → a ≤ i → i < b → getD w' i 0 ≡ g i (getD w i 0)
   pub before : (i : ℕ) → i < a → getD w' i 0 ≡ getD w i 0
   pub past : (i : ℕ) → b ≤ i → getD w' i 0 ≡ getD w i 0
-
--- the names of row y with one bit more where the two images differ in the word at + y
-abbrev pub namedIf : List ℕ → List ℕ → ℕ → ℕ → ℕ → ℕ → ℕ
-namedIf l u at bit y w = cond (eqb (getD l (at + y) 0) (getD u (at + y) 0)) w (bitOr w bit)
 
 -- a word with the bits of v set, or cleared
 abbrev pub masked : Bool → ℕ → ℕ → ℕ

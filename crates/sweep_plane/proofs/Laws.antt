@@ -15,11 +15,13 @@ use Rattle.lattice.proofs.SameSolid.{here-none}
 use Rattle.lattice.proofs.BoxLaws.{boxes-within}
 use Rattle.lattice_sums.specs.CornerSums.{Room}
 use Rattle.lattice_sums.specs.declared.sums.CornerSums.{CornerSums}
-use Rattle.sweep_image.specs.Images.{Layer, columns, Shows, Settled}
-use Rattle.sweep_faces.specs.Faces.{Lent, shade}
+use Rattle.sweep_image.specs.Images.{Layer, columns, Shows}
+use Rattle.sweep_settling.specs.Settling.{Settled}
+use Rattle.sweep_names.specs.Names.{Lent}
+use Rattle.sweep_overlaps.specs.Overlaps.{shade}
 use Rattle.sweep_layer.specs.Layers.{About, touching, Becomes}
 use Rattle.sweep_image.proofs.ImageLaws.{shows-ext}
-use Rattle.sweep_layer.proofs.Laws.{below-touching, below-shade, bare-plane}
+use Rattle.sweep_layer.proofs.LayerLaws.{below-touching, below-shade, bare-plane}
 use Rattle.sweep_tally.specs.Found.{Found, state, found}
 use Rattle.sweep_points.specs.Points.{planeAt, Shown, PlaneFound}
 use Rattle.sweep_plane.specs.Plane.{Both, PlaneOut}

@@ -17,7 +17,8 @@ use Rattle.lattice.specs.Listing.{Corner}
 use Rattle.lattice.proofs.PatternLaws.{still-no-corner}
 use Rattle.sweep_words.specs.Words.{bitAt, wordOf, patternOf}
 use Rattle.sweep_words.proofs.BitLaws.{bit-or, bit-zero}
-use Rattle.sweep_image.specs.Images.{Tells, columns, wordAt}
+use Rattle.sweep_image.specs.Images.{columns, wordAt}
+use Rattle.sweep_names.specs.Names.{Tells}
 use Rattle.sweep_tally.specs.Found.{at, Found, meet, found}
 use Rattle.sweep_tally.proofs.Laws.{found-append, found-one}
 use Rattle.sweep_points.specs.Points.{cornerAt, columnCorners, columnAt, lineAt, Blank}

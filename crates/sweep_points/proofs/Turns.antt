@@ -12,7 +12,8 @@ use Rattle.lattice.specs.Pattern.{byte, corner}
 use Rattle.lattice.specs.Sums.{join}
 use Rattle.lattice_sums.specs.CornerSums.{Room, RoomFor}
 use Rattle.sweep_words.specs.Words.{bitAt, patternOf, Lowest, WithoutLowest}
-use Rattle.sweep_image.specs.Images.{Tells, columns, wordAt}
+use Rattle.sweep_image.specs.Images.{columns, wordAt}
+use Rattle.sweep_names.specs.Names.{Tells}
 use Rattle.sweep_tally.specs.Found.{at, Found, meet, found}
 use Rattle.sweep_points.specs.Points.{Layers, PlaneFound, cornerAt, columnAt, lineAt, Inside}
 use Rattle.sweep_points.proofs.Visits.{Names, Visited, next-set, next-in, visit-to, visit-next}

@@ -1,0 +1,2 @@
+-- a rectangle shown anew, box by box and part by part
+pub mod CarvingLaws

@@ -1,0 +1,2 @@
+-- columns named, and what is lent
+pub mod NameLaws

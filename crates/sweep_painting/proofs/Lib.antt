@@ -1,0 +1,2 @@
+-- a rectangle painted part by part
+pub mod PaintingLaws

@@ -1,0 +1,2 @@
+-- words copied from one image to the other
+pub mod SettlingLaws
