@@ -209,6 +209,6 @@ pub fn sweep(
         ≡ found (state (sumsOf []) (now (buf .entry))) (corners field (cells (shotsOf edge (now (coords .entry))))) ⌝ }
 {
     let mut boxes = [0u16; 24576];
-    let n = sweep_slots::fill(field, edge, grid, coords, work, &mut boxes);
+    let n = sweep_slots::fill_slots(field, edge, grid, coords, work, &mut boxes);
     sweep_boxes(field, &boxes, n, buf)
 }

@@ -35,7 +35,24 @@ carve-below t = and 4 carve-kinds.ps (falls 4 carve-kinds.ps _<_ μ-carve t) car
 
 -- what the calls in it ask and promise; its own for fewer boxes
 abbrev carve-claims : ℕ → carve-lts.Claims
-carve-claims t = (has-no-cell-reads.Asked, has-no-cell-reads.Learnt, again-reads.Asked, again-reads.Learnt, first-meeting-reads.Asked, first-meeting-reads.Learnt, fuel-left-reads.Asked, fuel-left-reads.Learnt, wipe-reads.Asked, wipe-reads.Learnt, common-reads.Asked, common-reads.Learnt, part-reads.Asked, part-reads.Learnt, carve-below t, carve.Post)
+carve-claims t = (
+  has-no-cell-reads.Asked,
+  has-no-cell-reads.Learnt,
+  again-reads.Asked,
+  again-reads.Learnt,
+  first-meeting-reads.Asked,
+  first-meeting-reads.Learnt,
+  fuel-left-reads.Asked,
+  fuel-left-reads.Learnt,
+  wipe-reads.Asked,
+  wipe-reads.Learnt,
+  common-reads.Asked,
+  common-reads.Learnt,
+  part-reads.Asked,
+  part-reads.Learnt,
+  carve-below t,
+  carve.Post,
+)
 
 abbrev carve-Inv-loop : carve-lts.InvT-loop
 carve-Inv-loop field boxes x from to r l u₀ names₀ fuel place left₀ core next side₀ u names left side = (side ≤ 4) × (Partly field boxes x from to r (partsTo r core side) u₀ u × Tells field l u names)
@@ -89,7 +106,10 @@ carve-same-length-4 : (t : ℕ) → carve-lts.Need-same-length-4 (carve-claims t
 carve-same-length-4 t c = search needs
 
 carve-returns-3 : (t : ℕ) → carve-lts.Need-returns-3 (carve-claims t) (carve-at t) carve.Post carve-Inv-loop carve-μ-loop
-carve-returns-3 t c = (carved-leaf _ _ _ _ _ _ _ (c .before .before .before .before .before .before .before .before .before .first-meeting .ensures) (c .before .before .before .before .before .before .before .if3 .taken) _ _ (c .before .before .before .before .wipe .ensures .0), c .before .before .before .before .wipe .ensures .1)
+carve-returns-3 t c =
+    let first = c .before .before .before .before .before .before .before .before .before in
+    let wiped = c .before .before .before .before .wipe .ensures in
+    (carved-leaf _ _ _ _ _ _ _ (first .first-meeting .ensures) (c .before .before .before .before .before .before .before .if3 .taken) _ _ (wiped .0), wiped .1)
 
 carve-common-requires : (t : ℕ) → carve-lts.Need-common-requires (carve-claims t) (carve-at t) carve.Post carve-Inv-loop carve-μ-loop
 carve-common-requires t c κs = omega (arith, c .before .before .first-meeting .ensures .within, c .if3 .left, c .before .before .before .before .before .before .before .before .before .before .pre .1 .1 .1 .0 .there)
@@ -98,7 +118,10 @@ carve-add-next : (t : ℕ) → carve-lts.Need-add-next (carve-claims t) (carve-a
 carve-add-next t c = search needs
 
 carve-loop-holds : (t : ℕ) → carve-lts.Need-loop-holds (carve-claims t) (carve-at t) carve.Post carve-Inv-loop carve-μ-loop
-carve-loop-holds t c = (search needs, (parts-none _ _ _ _ _ _ _ (c .before .before .before .first-meeting .ensures) (omega (arith, c .before .before .before .first-meeting .ensures .within, c .before .if3 .left)) _ (c .common .ensures) _, c .before .before .before .before .before .before .before .before .before .before .before .pre .1 .1 .1 .1 .1 .tells))
+carve-loop-holds t c =
+    let first = c .before .before .before .first-meeting .ensures in
+    let tells = c .before .before .before .before .before .before .before .before .before .before .before .pre .1 .1 .1 .1 .1 .tells in
+    (search needs, (parts-none _ _ _ _ _ _ _ first (omega (arith, first .within, c .before .if3 .left)) _ (c .common .ensures) _, tells))
 
 carve-part-requires : (t : ℕ) → carve-lts.Need-part-requires (carve-claims t) (carve-at t) carve.Post carve-Inv-loop carve-μ-loop
 carve-part-requires t c κs = search needs
@@ -125,7 +148,17 @@ carve-loop-less : (t : ℕ) → carve-lts.Need-loop-less (carve-claims t) (carve
 carve-loop-less t c = search needs
 
 carve-loop-again : (t : ℕ) → carve-lts.Need-loop-again (carve-claims t) (carve-at t) carve.Post carve-Inv-loop carve-μ-loop
-carve-loop-again t c = (search needs, (parts-more _ _ _ _ _ _ _ (c .before .before .before .before .before .before .before .before .before .before .before .before .before .first-meeting .ensures) (omega (arith, c .before .before .before .before .before .before .before .before .before .before .before .before .before .first-meeting .ensures .within, c .before .before .before .before .before .before .before .before .before .before .before .if3 .left)) _ (c .before .before .before .before .before .before .before .before .before .before .common .ensures) (c .before .before .before .before .before .before .before .before .before .loop .side) _ _ _ (c .before .before .before .before .before .before .before .before .before .loop .inv .1 .0) (rw (c .before .before .before .before .before .before .before .part .ensures) at (c .before .before .before .before .carve .ensures .0)), c .before .before .before .before .carve .ensures .1))
+carve-loop-again t c =
+    let at-loop = c .before .before .before .before .before .before .before .before .before in
+    let first = at-loop .before .before .before .before .first-meeting .ensures in
+    let carved = c .before .before .before .before .carve .ensures in (
+      search needs,
+      (
+        parts-more _ _ _ _ _ _ _ first (omega (arith, first .within, at-loop .before .before .if3 .left)) _ (at-loop .before .common .ensures) (at-loop .loop .side) _ _ _
+            (at-loop .loop .inv .1 .0) (rw (c .before .before .before .before .before .before .before .part .ensures) at (carved .0)),
+        carved .1,
+      ),
+    )
 
 carve-same-length-5 : (t : ℕ) → carve-lts.Need-same-length-5 (carve-claims t) (carve-at t) carve.Post carve-Inv-loop carve-μ-loop
 carve-same-length-5 t c = c .before .loop .inv .1 .0 .same-size
@@ -134,7 +167,14 @@ carve-same-length-6 : (t : ℕ) → carve-lts.Need-same-length-6 (carve-claims t
 carve-same-length-6 t c = search needs
 
 carve-returns-4 : (t : ℕ) → carve-lts.Need-returns-4 (carve-claims t) (carve-at t) carve.Post carve-Inv-loop carve-μ-loop
-carve-returns-4 t c = let four : c .before .loop .side ≡ 4 = omega arith in (parts-all _ _ _ _ _ _ _ (c .before .before .before .before .before .first-meeting .ensures) (omega (arith, c .before .before .before .before .before .first-meeting .ensures .within, c .before .before .before .if3 .left)) _ (c .before .before .common .ensures) _ _ (rw four at (c .before .loop .inv .1 .0)), c .before .loop .inv .1 .1)
+carve-returns-4 t c =
+    let at-loop = c .before in
+    let four : at-loop .loop .side ≡ 4 = omega arith in
+    let first = at-loop .before .before .before .before .first-meeting .ensures in (
+      parts-all _ _ _ _ _ _ _ first (omega (arith, first .within, at-loop .before .before .if3 .left)) _ (at-loop .before .common .ensures) _ _
+          (rw four at (at-loop .loop .inv .1 .0)),
+      at-loop .loop .inv .1 .1,
+    )
 
 pub +carve-spec : {M : Type 1} → statement M
 +carve-spec = close μ-carve λ t. carve-lts.spec (carve-claims t)

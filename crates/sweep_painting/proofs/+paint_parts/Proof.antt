@@ -35,7 +35,22 @@ paint-parts-below t = and 4 paint-parts-kinds.ps (falls 4 paint-parts-kinds.ps _
 
 -- what the calls in it ask and promise; its own for fewer boxes
 abbrev paint-parts-claims : ℕ → paint-parts-lts.Claims
-paint-parts-claims t = (has-no-cell-reads.Asked, has-no-cell-reads.Learnt, paint-reads.Asked, paint-reads.Learnt, last-meeting-reads.Asked, last-meeting-reads.Learnt, fuel-left-reads.Asked, fuel-left-reads.Learnt, common-reads.Asked, common-reads.Learnt, part-reads.Asked, part-reads.Learnt, paint-parts-below t, paint-parts.Post)
+paint-parts-claims t = (
+  has-no-cell-reads.Asked,
+  has-no-cell-reads.Learnt,
+  paint-reads.Asked,
+  paint-reads.Learnt,
+  last-meeting-reads.Asked,
+  last-meeting-reads.Learnt,
+  fuel-left-reads.Asked,
+  fuel-left-reads.Learnt,
+  common-reads.Asked,
+  common-reads.Learnt,
+  part-reads.Asked,
+  part-reads.Learnt,
+  paint-parts-below t,
+  paint-parts.Post,
+)
 
 abbrev paint-parts-Inv-loop : paint-parts-lts.InvT-loop
 paint-parts-Inv-loop field boxes x from to r l u₀ names₀ fuel end left₀ last core around₀ u names left around = (around ≤ 4) × (Painted field boxes x to (partsTo r core around) u₀ u × Tells field l u names)
@@ -108,16 +123,17 @@ paint-parts-part-requires t c κs = search needs
 
 paint-parts-paint-parts-requires : (t : ℕ) → paint-parts-lts.Need-paint-parts-requires (paint-parts-claims t) (paint-parts-at t) paint-parts.Post paint-parts-Inv-loop paint-parts-μ-loop
 paint-parts-paint-parts-requires t c κs =
-    let start = c .before .before .before .before .before .before .before .before .before .before .before .before .before .before .before .before in
-    let cells = sym (c .before .before .before .before .before .before .before .before .before .before .before .has-no-cell .ensures) ∙ c .before .before .before .before .before .before .before .before .before .before .if1 .left in
-    let at = c .before .before .before .before .before .before .before .before .last-meeting .ensures in
-    let more : c .before .before .before .before .before .before .before .before .before .before .before .before .before .before .before .before .args .from < c .before .before .before .before .before .before .before .before .last-meeting .result = omega (arith, at .onward, c .before .before .before .before .before .before .if3 .left) in
-    let inv = c .before .before .before .before .loop .inv in
+    let at-loop = c .before .before .before .before in
+    let last = at-loop .before .before .before .before in
+    let start = last .before .before .before .before .before .before .before .before in
+    let cells = sym (last .before .before .before .has-no-cell .ensures) ∙ last .before .before .if1 .left in
+    let at = last .last-meeting .ensures in
+    let more : start .args .from < last .last-meeting .result = omega (arith, at .onward, at-loop .before .before .if3 .left) in
+    let inv = at-loop .loop .inv in
     let fits =
-    part-ready (start .args .boxes .now) (start .args .x) (start .args .r) _ (at .found more) _
-    (c .before .before .before .before .before .common .ensures) (start .args .field)
-    (cells-in (start .args .r) (start .args .field) cells (start .pre .1 .0) (start .pre .1 .1 .0))
-    (c .before .before .before .before .loop .around) (c .before .before .part .ensures) in
+    part-ready (start .args .boxes .now) (start .args .x) (start .args .r) _ (at .found more) _ (at-loop .before .common .ensures)
+    (start .args .field) (cells-in (start .args .r) (start .args .field) cells (start .pre .1 .0) (start .pre .1 .1 .0))
+    (at-loop .loop .around) (c .before .before .part .ensures) in
     let lent = lent-still (start .pre .1 .1 .1 .1 .1) (inv .1 .0 .same-size) (inv .1 .1) in
     (omega (arith, start .pre .0, at .within, more), (fits .0, (fits .1, (boxes-less _ (omega (arith, at .within)) (start .pre .1 .1 .1 .0), (omega (arith, more), lent)))))
 
@@ -128,11 +144,18 @@ paint-parts-loop-less : (t : ℕ) → paint-parts-lts.Need-loop-less (paint-part
 paint-parts-loop-less t c = search needs
 
 paint-parts-loop-again : (t : ℕ) → paint-parts-lts.Need-loop-again (paint-parts-claims t) (paint-parts-at t) paint-parts.Post paint-parts-Inv-loop paint-parts-μ-loop
-paint-parts-loop-again t c =
-    let at = c .before .before .before .before .before .before .before .before .before .before .before .before .before .last-meeting .ensures in
-    let more : c .before .before .before .before .before .before .before .before .before .before .before .before .before .before .before .before .before .before .before .before .before .args .from < c .before .before .before .before .before .before .before .before .before .before .before .before .before .last-meeting .result = omega (arith, at .onward, c .before .before .before .before .before .before .before .before .before .before .before .if3 .left) in
-    let turn = c .before .before .before .before .paint-parts .ensures in
-    (search needs, (painted-more _ _ _ _ _ _ (omega (arith, more, at .within)) _ (c .before .before .before .before .before .before .before .before .before .loop .around) _ _ _ (c .before .before .before .before .before .before .before .before .before .loop .inv .1 .0) (rw (c .before .before .before .before .before .before .before .part .ensures) at (turn .0)), turn .1))
+paint-parts-loop-again t c = (
+  search needs,
+  let at-loop = c .before .before .before .before .before .before .before .before .before in
+      let last = at-loop .before .before .before .before in
+      let at = last .last-meeting .ensures in
+      let more : last .before .before .before .before .before .before .before .before .args .from < last .last-meeting .result = omega (arith, at .onward, at-loop .before .before .if3 .left) in
+      let turn = c .before .before .before .before .paint-parts .ensures in (
+        painted-more _ _ _ _ _ _ (omega (arith, more, at .within)) _ (at-loop .loop .around) _ _ _ (at-loop .loop .inv .1 .0)
+            (rw (c .before .before .before .before .before .before .before .part .ensures) at (turn .0)),
+        turn .1,
+      ),
+)
 
 paint-parts-same-length-5 : (t : ℕ) → paint-parts-lts.Need-same-length-5 (paint-parts-claims t) (paint-parts-at t) paint-parts.Post paint-parts-Inv-loop paint-parts-μ-loop
 paint-parts-same-length-5 t c = c .before .loop .inv .1 .0 .same-size

@@ -1,8 +1,8 @@
 -- A span on each axis.
-use Rattle.sweep_slots.proofs.BoxLaws.{box-put}
+use Rattle.sweep_boxes.proofs.BoxLaws.{box-put}
 use borrow.Author.Needs.{needs}
-use Rattle.sweep_slots.proofs.put.Statement.{statement}
-use Rattle.sweep_slots.proofs.put.Tie as tie
+use Rattle.sweep_boxes.proofs.put_box.Statement.{statement}
+use Rattle.sweep_boxes.proofs.put_box.Tie as tie
 
 mul-at : tie.Need-mul-at
 mul-at c = search needs
@@ -38,10 +38,16 @@ same-length : tie.Need-same-length
 same-length c = search needs
 
 returns : tie.Need-returns
-returns c = box-put _ _ _ _ (c .before .before .before .before .before .before .before .before .before .before .before .before .edge-of .ensures) (c .before .before .before .before .before .before .before .before .before .before .before .before .before .before .before .x-of .ensures) (c .before .before .before .before .before .before .before .before .before .before .before .before .before .before .y-of .ensures) (c .before .before .before .before .before .before .before .before .before .before .before .before .before .z-of .ensures) (c .before .before .before .before .before .before .before .before .before .before .put-span .ensures) (c .before .before .before .before .before .before .put-span2 .ensures) (c .before .before .put-span3 .ensures)
+returns c =
+    let first = c .before .before .before .before .before .before .before .before .before .before in
+    let edge = first .before .before in
+    let z = edge .before in
+    let y = z .before in
+    box-put _ _ _ _ (edge .edge-of .ensures) (y .before .x-of .ensures) (y .y-of .ensures) (z .z-of .ensures)
+    (first .put-span .ensures) (c .before .before .before .before .before .before .put-span2 .ensures) (c .before .before .put-span3 .ensures)
 
-pub put-spec : {M : Type 1} → statement M
-put-spec =
+pub put-box-spec : {M : Type 1} → statement M
+put-box-spec =
     tie.close
     (tie.spec
     mul-at

@@ -1,0 +1,2 @@
+-- the boxes of shots as numbers
+pub mod BoxLaws
