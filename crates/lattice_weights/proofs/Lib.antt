@@ -1,2 +1,2 @@
-pub mod TableLaws
+-- the packed table as it is filled
 pub mod PackedLaws

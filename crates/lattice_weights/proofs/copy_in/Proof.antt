@@ -3,13 +3,13 @@ use Prim.Native.Nat.{_≤_, _-_}
 use native.Mathlib.Omega.{arith}
 use mathlib.Core.Path.{_≡_, subst}
 use Rattle.lattice.specs.Pattern.{ofByte}
-use Rattle.lattice_weights.proofs.PackedLaws.{weight-read, Filled, filled-none, filled-more, filled-all}
+use Rattle.lattice_weights.proofs.PackedLaws.{weight-read, FilledTo, filled-none, filled-more, filled-all}
 use borrow.Author.Needs.{needs}
 use Rattle.lattice_weights.proofs.copy_in.Statement.{statement}
 use Rattle.lattice_weights.proofs.copy_in.Tie as tie
 
 abbrev Inv-loop : tie.InvT-loop
-Inv-loop t₀ j table q₀ t q = (q ≤ 256) × Filled j q t
+Inv-loop t₀ j table q₀ t q = (q ≤ 256) × FilledTo j q t
 
 abbrev μ-loop : tie.MeasureT-loop
 μ-loop t₀ j table q₀ t q = 256 - q
@@ -50,7 +50,7 @@ returns c =
     let s = c .before .before in
     let l = c .before .loop in
     let q : l .q ≡ 256 = omega arith in
-    filled-all (s .args .j) (subst (λ q. Filled (s .args .j) q (l .t)) q (l .inv .1))
+    filled-all (s .args .j) (subst (λ q. FilledTo (s .args .j) q (l .t)) q (l .inv .1))
 
 pub copy-in-spec : {M : Type 1} → statement M
 copy-in-spec =

@@ -1,0 +1,2 @@
+-- a table computed once gives the weight at each entry
+pub mod TableLaws

@@ -1,0 +1,2 @@
+-- boxes passed over, and their ends counted
+pub mod OrderLaws

@@ -1,0 +1,2 @@
+-- plane after plane, all corners
+pub mod PlanesLaws
