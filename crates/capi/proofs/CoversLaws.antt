@@ -4,7 +4,7 @@ use mathlib.Core.Path.{_≡_, ap, _∙_, subst}
 use mathlib.Core.List.{List, [], _∷_}
 use Prim.Native.Nat.{ℕ, _+_, _*_, _<_}
 use native.Mathlib.Omega.{arith}
-use Rattle.lattice.specs.Cells.{bit}
+use Rattle.ground.specs.Numbers.{bit}
 use Rattle.lattice.specs.Shots.{cells}
 use Rattle.job.specs.Job.{Job, shots, Valid}
 use Rattle.grid.specs.Grid.{Holds, between, holding}

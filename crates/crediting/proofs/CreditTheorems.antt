@@ -4,31 +4,31 @@
 -- sum; and the shots without credit may all be left out: the others are a valid list and cover the same cells, and so have the same totals
 -- and the same listing. Assumes nothing.
 use mathlib.Core.Path.{_≡_, refl, sym, ap, _∙_, subst, fun-ext}
-use mathlib.Core.Bool.{Bool, true, false, true≢false, false≢true}
+use mathlib.Core.Bool.{true, false, true≢false}
 use mathlib.Core.Option.{Option, none, some}
 use mathlib.Core.List.{List, _++_}
-use Prim.Native.Nat.{ℕ, zero, suc, _+_, _*_, _%_, _≤_, _<_}
-use native.Mathlib.Nat.{add-zero}
+use Prim.Native.Nat.{ℕ, _+_, _*_, _%_, _≤_, _<_}
 use native.Mathlib.Omega.{arith}
-use lib.Dec.{T, eqb, ltb}
+use lib.Dec.{T}
 use lib.ListN.{length, getD, take, drop, List·getD-append}
 use lib.Seq.{drop-at}
-use borrow.Author.Tests.{eqb-true, eq-eqb, ne-eqb, ltb-true, ltb-false}
-use Rattle.lattice.specs.Sums.{total}
-use Rattle.lattice.specs.Cells.{Cells, bit, volume}
+use borrow.Author.Tests.{eq-eqb, ne-eqb}
+use Rattle.ground.specs.Sums.{total}
+use Rattle.ground.specs.Numbers.{bit}
+use Rattle.lattice.specs.Cells.{Cells, volume}
 use Rattle.lattice.specs.Shots.{Shot, covers, InField}
 use Rattle.lattice.specs.Listing.{listing}
 use Rattle.lattice_sums.specs.CornerSums.{totalsOf}
 use Rattle.lattice_sums.specs.declared.sums.Totals.{Totals}
-use Rattle.lattice.proofs.Cases.{bool-ext}
+use Rattle.ground.proofs.Bools.{is-true, truth, bool-ext}
+use Rattle.ground.proofs.Bits.{bit-none}
 use Rattle.job.specs.Job.{Job, jobOf, shot, shotCount, Valid}
-use Rattle.job.specs.declared.Refusal.the-variants.{ShortCredits}
 use Rattle.job.specs.declared.Checked.the-variants.{Accepted}
 use Rattle.job.proofs.Conditions.{valid-within}
 use Rattle.job.proofs.Shots.{any-at, at-any, stay-at, stay-all}
 use Rattle.grid.specs.Grid.{need, withIndex, Holds}
-use Rattle.grid.proofs.TotalLaws.{total-agree, total-swap}
-use Rattle.grid.proofs.NumberLaws.{singles-length, singles-at}
+use Rattle.ground.proofs.TotalLaws.{total-agree, total-none, total-none-at, total-swap, count-one}
+use Rattle.ground.proofs.JoinLaws.{singles-length, singles-at}
 use Rattle.grid_cover.specs.Cover.{isSome, names, lowestCovering}
 use Rattle.grid_cover.proofs.CoverRuns.{lowest-covers}
 use Rattle.grid_cover.proofs.LowestLaws.{lowest-shot, lowest-covering, lowest-least}
@@ -40,62 +40,29 @@ use Rattle.measure.specs.Answers.{ListCall}
 use Rattle.measure.specs.Agreement.{SameCells, Among}
 use Rattle.measure.proofs.AcceptedLaws.{list-accepted}
 use Rattle.measure.proofs.Condition3.{bytes-are, same-shots}
-use Rattle.crediting.specs.Credits.{creditedTo, creditOf, creditsOf, creditTests, creditChecked, creditsAfter, CreditCall}
+use Rattle.crediting.specs.Credits.{creditedTo, creditOf, creditsOf, creditsAfter, CreditCall}
 use Rattle.crediting.specs.LeavingOut.{Hidden, KeepsCredited}
 
 -- ---- one cell
-
--- a sum of nothing but 0
-nothing : (n : ℕ) (f : ℕ → ℕ) → ((i : ℕ) → i < n → f i ≡ 0) → total n f ≡ 0
-unfolding total
-nothing zero f h = refl
-nothing (suc n) f h = omega (arith, nothing n f (λ i l. h i (omega arith)), h n (omega arith))
-
--- of n numbers, one is t
-one-named : (t n : ℕ) → t < n → total n (λ s. bit (eqb t s)) ≡ 1
-unfolding total
-one-named t zero h = absurd (omega arith)
-one-named t (suc n) h = one (ltb t n) refl (one-named t n)
-  where
-    one : (b : Bool) → ltb t n ≡ b → (t < n → total n (λ s. bit (eqb t s)) ≡ 1) → total n (λ s. bit (eqb t s)) + bit (eqb t n) ≡ 1
-    one true e before = rw (before (ltb-true t n e), ne-eqb t n (λ same. omega (arith, same, ltb-true t n e)))
-    one false e before =
-        let last : t ≡ n = omega (arith, ltb-false t n e) in
-        rw (nothing n (λ s. bit (eqb t s)) (λ s l. ap bit (ne-eqb t s (λ same. omega (arith, same, l, last)))), eq-eqb t n last)
 
 -- a covered cell is credited to one shot, an uncovered one to none
 cell-named : (job : Job) (i j k : ℕ) → total (shotCount job.coords) (λ s. bit (creditedTo job s i j k)) ≡ bit (solid job i j k)
 cell-named job i j k = one (lowestCovering job.edge job.coords i j k) refl ∙ ap bit (lowest-covers job.edge job.coords i j k)
   where
     one : (o : Option ℕ) → lowestCovering job.edge job.coords i j k ≡ o → total (shotCount job.coords) (λ s. bit (names (lowestCovering job.edge job.coords i j k) s)) ≡ bit (isSome (lowestCovering job.edge job.coords i j k))
-    one none e = rw e (nothing (shotCount job.coords) (λ s. 0) (λ s l. refl))
-    one (some t) e = rw e (one-named t (shotCount job.coords) (lowest-shot job.edge job.coords i j k t e))
+    one none e = rw e (total-none (shotCount job.coords) (λ s. 0) (λ s l. refl))
+    one (some t) e = rw e (count-one t (shotCount job.coords) (lowest-shot job.edge job.coords i j k t e))
 
 -- ---- one shot
 
 -- a solid without cells in the field
-none-counted : (n : ℕ) (f : ℕ → ℕ) → total n f ≡ 0 → (i : ℕ) → i < n → f i ≡ 0
-unfolding total
-none-counted zero f e i h = absurd (omega arith)
-none-counted (suc n) f e i h = one (ltb i n) refl (none-counted n f)
-  where
-    one : (b : Bool) → ltb i n ≡ b → (total n f ≡ 0 → (i : ℕ) → i < n → f i ≡ 0) → f i ≡ 0
-    one true l before = before (omega arith) i (ltb-true i n l)
-    one false l before =
-        let last : n ≡ i = omega (arith, ltb-false i n l) in
-        rw (← last) (omega arith)
-
 none-in-field : (F : ℕ) (p : Cells) → volume F p ≡ 0 → (i j k : ℕ) → i < F → j < F → k < F → p i j k ≡ false
 unfolding volume
-none-in-field F p e i j k hi hj hk = one (p i j k) (none-counted F (λ k. bit (p i j k)) (none-counted F (λ j. total F (λ k. bit (p i j k))) (none-counted F (λ i. total F (λ j. total F (λ k. bit (p i j k)))) e i hi) j hj) k hk)
-  where
-    one : (b : Bool) → bit b ≡ 0 → b ≡ false
-    one true h = absurd (omega arith)
-    one false h = refl
+none-in-field F p e i j k hi hj hk = bit-none (p i j k) (total-none-at F (λ k. bit (p i j k)) (total-none-at F (λ j. total F (λ k. bit (p i j k))) (total-none-at F (λ i. total F (λ j. total F (λ k. bit (p i j k)))) e i hi) j hj) k hk)
 
 none-at-all : (F : ℕ) (p : Cells) → ((i j k : ℕ) → p i j k ≡ false) → volume F p ≡ 0
 unfolding volume
-none-at-all F p h = nothing F _ λ i l. nothing F _ λ j m. nothing F _ λ k n. ap bit (h i j k)
+none-at-all F p h = total-none F _ λ i l. total-none F _ λ j m. total-none F _ λ k n. ap bit (h i j k)
 
 -- a shot whose cells earlier shots cover is the lowest covering shot of none
 hidden-credited : (job : Job) (s : ℕ) → Hidden job s → creditOf job s ≡ 0
@@ -108,14 +75,6 @@ hidden-credited job s hidden = none-at-all job.field (creditedTo job s) λ i j k
         let low : lowestCovering job.edge job.coords i j k ≡ some s = e ∙ ap some is in
         let h = hidden i j k (lowest-covering job.edge job.coords i j k s low) in
         true≢false (sym (h .2) ∙ lowest-least job.edge job.coords i j k s low (h .0) (h .1))
-
-is-true : (b : Bool) → T b → b ≡ true
-is-true true t = refl
-is-true false t = absurd t
-
-truth : (b : Bool) → b ≡ true → T b
-truth true e = tt
-truth false e = absurd (false≢true e)
 
 -- ---- the credits of an accepted list
 

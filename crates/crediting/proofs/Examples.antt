@@ -1,10 +1,10 @@
 -- Two cubes of edge 2 that overlap in one cell, and a cube twice: what each shot is credited with, by computing it.
 use mathlib.Core.Path.{_≡_, refl}
-use mathlib.Core.List.{List, [], _∷_}
-use Rattle.lattice.specs.Sums.{total, join}
+use mathlib.Core.List.{[], _∷_}
+use Rattle.ground.specs.Sums.{total, join}
 use Rattle.lattice.specs.Cells.{volume}
 use Rattle.job.specs.Job.{jobOf}
-use Rattle.grid.specs.Numbers.{upTo}
+use Rattle.ground.specs.Numbers.{upTo}
 use Rattle.grid_cover.specs.Cover.{shotCovers, first, firstCovering, lowestCovering}
 use Rattle.crediting.specs.Credits.{creditOf, creditsOf}
 

@@ -3,7 +3,7 @@
 use mathlib.Core.Path.{_≡_, refl, sym, ap, _∙_}
 use mathlib.Core.Bool.{Bool, true, false}
 use mathlib.Core.List.{List, [], _∷_, _++_, append-assoc, append-nil}
-use Prim.Native.Nat.{ℕ, zero, suc, _+_, _-_, _*_, _/_, _%_, _≤_, _<_}
+use Prim.Native.Nat.{ℕ, suc, _+_, _-_, _*_, _/_, _%_, _≤_, _<_}
 use native.Mathlib.Nat.{zero-add, add-mul, one-mul, mul-le-mul, mul-le-mul-right, mod-lt, div-add-mod', div-lt-iff-lt-mul}
 use native.Mathlib.Numerals.{add-one}
 use native.Mathlib.Omega.{arith}
@@ -11,13 +11,15 @@ use lib.ListN.{length, getD, drop, set, replicate, length-replicate, getD-replic
 use lib.Seq.{drop-cons, drop-length, set-at}
 use lib.Dec.{ltb}
 use borrow.Author.Tests.{ltb-true, ltb-false}
-use Rattle.lattice.specs.Sums.{total, join}
-use Rattle.lattice.specs.Cells.{Cells, bit, volume}
+use Rattle.ground.specs.Sums.{total}
+use Rattle.ground.specs.Numbers.{bit}
+use Rattle.lattice.specs.Cells.{Cells, volume}
 use Rattle.job.specs.Job.{Job, shotCount, Valid}
 use Rattle.grid.specs.Grid.{runOf}
-use Rattle.grid.proofs.TotalLaws.{total-agree, total-most, total-up, total-front, total-swap, total-digits}
-use Rattle.lattice.proofs.JoinLaws.{join-ext}
-use Rattle.grid.proofs.CellLaws.{digit-high, digit-low}
+use Rattle.ground.proofs.Bits.{bit-most}
+use Rattle.ground.proofs.TotalLaws.{total-agree, total-most, total-up, total-front, total-swap, total-digits}
+use Rattle.ground.proofs.JoinLaws.{join-ext}
+use Rattle.ground.proofs.Digits.{digit-high, digit-low}
 use Rattle.grid.proofs.ShotLaws.{width-times}
 use Rattle.grid_cover.specs.Cover.{firstCovering, names, lowestCovering}
 use Rattle.grid_cover.proofs.CoverRuns.{Near, run-names}
@@ -102,12 +104,8 @@ module _ {job : Job} (v : Valid job) where
   field-few : (p : Cells) → volume F p ≤ 1073741824
   unfolding volume
   field-few p =
-      omega (arith, total-most F (F * (F * 1)) (λ i. total F (λ j. total F (λ k. bit (p i j k)))) (λ i l. total-most F (F * 1) (λ j. total F (λ k. bit (p i j k))) (λ j m. total-most F 1 (λ k. bit (p i j k)) (λ k n. bit-few (p i j k)))), cube)
+      omega (arith, total-most F (F * (F * 1)) (λ i. total F (λ j. total F (λ k. bit (p i j k)))) (λ i l. total-most F (F * 1) (λ j. total F (λ k. bit (p i j k))) (λ j m. total-most F 1 (λ k. bit (p i j k)) (λ k n. bit-most (p i j k)))), cube)
     where
-      bit-few : (t : Bool) → bit t ≤ 1
-      bit-few true = omega arith
-      bit-few false = omega arith
-
       cube : F * (F * (F * 1)) ≤ 1073741824
       cube = let line : F * 1 ≤ 1024 = omega (arith, v .field-most) in mul-le-mul (v .field-most) (mul-le-mul (v .field-most) line)
 

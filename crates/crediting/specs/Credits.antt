@@ -6,7 +6,7 @@ use mathlib.Core.Logic.{_⊎_}
 use Prim.Native.Nat.{ℕ, _≤_, _<_}
 use lib.Dec.{ltb}
 use lib.ListN.{length, drop}
-use Rattle.lattice.specs.Sums.{join}
+use Rattle.ground.specs.Sums.{join}
 use Rattle.lattice.specs.Cells.{Cells, volume}
 use Rattle.job.specs.Job.{Job, shotCount}
 use Rattle.job.specs.Refusals.{checkedNumbers}

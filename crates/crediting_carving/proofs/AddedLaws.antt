@@ -8,8 +8,8 @@ use native.Mathlib.Omega.{arith}
 use lib.Dec.{eqb, ltb}
 use lib.ListN.{length, getD, set, length-set, List·getD-eq-default}
 use lib.Seq.{ext-getD, getD-set-same, getD-set-other}
-use borrow.Author.Tests.{eqb-true, eqb-false, eq-eqb, ltb-true, ltb-false}
-use Rattle.grid.proofs.NumberLaws.{singles-length, singles-at}
+use borrow.Author.Tests.{eqb-true, eqb-false, ltb-true, ltb-false}
+use Rattle.ground.proofs.JoinLaws.{singles-length, singles-at}
 use Rattle.crediting_carving.specs.Blocks.{added, only, RoomFor}
 
 module _ (l : List ℕ) (f : ℕ → ℕ) where

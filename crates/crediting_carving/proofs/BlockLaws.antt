@@ -1,14 +1,16 @@
 -- Counting the cells of a block: cell by cell, by the parts around a block in it, and at most all.
 use mathlib.Core.Path.{_≡_, refl, sym, ap, _∙_}
-use mathlib.Core.Bool.{Bool, true, false}
-use Prim.Native.Nat.{ℕ, zero, suc, _+_, _-_, _*_, _≤_, _<_}
+use mathlib.Core.Bool.{false}
+use Prim.Native.Nat.{ℕ, _+_, _-_, _*_, _≤_}
 use native.Mathlib.Nat.{mul-assoc, mul-one, mul-le-mul}
 use native.Mathlib.Omega.{arith}
-use Rattle.lattice.specs.Sums.{total}
-use Rattle.lattice.specs.Cells.{Cells, bit}
+use Rattle.ground.specs.Sums.{total}
+use Rattle.ground.specs.Numbers.{bit}
+use Rattle.ground.proofs.Bits.{bit-most}
+use Rattle.lattice.specs.Cells.{Cells}
 use Rattle.crediting_carving.specs.declared.blocks.Span.{Span}
 use Rattle.crediting_carving.specs.declared.blocks.Block.{Block}
-use Rattle.crediting_carving.specs.Blocks.{along, countIn, sizeOf, InSpan, InBlock, spanBefore, spanAfter, partOf}
+use Rattle.crediting_carving.specs.Blocks.{along, countIn, sizeOf, InBlock, spanBefore, spanAfter, partOf}
 use Rattle.crediting_carving.proofs.SpanLaws.{along-agree, along-plus, along-up, along-same, along-three}
 
 -- a block in another, on each axis
@@ -67,11 +69,7 @@ product-most x y z hx hy hz = let p : x * y ≤ 1048576 = mul-le-mul hx hy in (p
 
 pub count-most : (b : Block) (p : Cells) → countIn b p ≤ sizeOf b
 unfolding countIn
-count-most b p = along-up (b .x) _ _ λ i. along-up (b .y) _ _ λ j. along-up (b .z) _ _ λ k. one (p i j k)
-  where
-    one : (t : Bool) → bit t ≤ 1
-    one true = omega arith
-    one false = omega arith
+count-most b p = along-up (b .x) _ _ λ i. along-up (b .y) _ _ λ j. along-up (b .z) _ _ λ k. bit-most (p i j k)
 
 -- ---- a block in it, and the six parts around that
 

@@ -2,21 +2,21 @@
 -- and those of the six parts around them are credited by the shots after it.
 use mathlib.Core.Path.{_≡_, refl, sym, ap, _∙_}
 use mathlib.Core.Bool.{Bool, true, false, cond}
-use mathlib.Core.Option.{none, some}
+use mathlib.Core.Option.{some}
 use mathlib.Core.List.{List}
-use Prim.Native.Nat.{ℕ, zero, suc, _+_, _-_, _≤_, _<_}
+use Prim.Native.Nat.{ℕ, suc, _+_, _-_, _≤_, _<_}
 use native.Mathlib.Numerals.{add-one}
 use native.Mathlib.Omega.{arith}
 use lib.Dec.{eqb}
 use lib.ListN.{length, getD, take, drop, length-drop}
 use lib.Seq.{take-all}
-use Rattle.lattice.specs.Sums.{total}
-use Rattle.lattice.specs.Cells.{Cells, bit}
+use Rattle.ground.specs.Sums.{total}
+use Rattle.ground.specs.FirstPlace.{FirstPlace}
+use Rattle.ground.proofs.Conds.{cond-most}
 use Rattle.job.specs.Job.{shotCount}
 use Rattle.grid_cover.specs.Cover.{firstCovering, names}
-use Rattle.grid_cover.proofs.CoverLaws.{rest-whole, rest-next, rest-found, rest-none}
-use Rattle.grid.proofs.TotalLaws.{total-agree, total-up, total-front}
-use Rattle.crediting_carving.specs.declared.blocks.Span.{Span}
+use Rattle.grid_cover.proofs.CoverLaws.{rest-next, rest-decides, rest-found, rest-none}
+use Rattle.ground.proofs.TotalLaws.{total-agree, total-up, total-front}
 use Rattle.crediting_carving.specs.declared.blocks.Block.{Block}
 use Rattle.crediting_carving.specs.Blocks.{countIn, sizeOf, creditsIn, added, only, RoomFor, InBlock, Small, Ordered, emptyBlock, meetsBlock, Meets, FirstMeeting, sharedBlock, partOf}
 use Rattle.crediting_carving.proofs.BlockLaws.{Inside, count-agree, count-false, count-most, count-parts}
@@ -26,10 +26,6 @@ use Rattle.crediting_carving.proofs.AddedLaws.{added-keeps, added-none,
 -- the credits of the first parts of a block around one in it
 abbrev pub sidesIn : ℕ → List ℕ → List ℕ → Block → Block → ℕ → ℕ → ℕ
 sidesIn E coords rest b c sides s = total sides λ side. creditsIn E coords rest (partOf b c side) s
-
-only-most : (t : Bool) (n : ℕ) → cond t n 0 ≤ n
-only-most true n = omega arith
-only-most false n = omega arith
 
 -- ---- the cells of a block that a shot covers
 
@@ -56,20 +52,14 @@ module _ (E : ℕ) (coords : List ℕ) (s : ℕ) (b : Block) where
   pub core-counted : Meets E coords s b → Small b → {c : Block} → c ≡ sharedBlock E coords s b → Ordered c × Small c
   core-counted m h is = (core-ordered is m, core-small is m h)
 
--- ---- the first shot that meets a block, place by place
+-- ---- the first shot that meets a block
 
 module _ (E : ℕ) (coords run : List ℕ) (b : Block) where
-  -- no shot before place n covers a cell of the block
-  abbrev pub RestCredits : ℕ → Type 0
-  RestCredits n = (i j k : ℕ) → InBlock b i j k → firstCovering E coords (drop n run) i j k ≡ firstCovering E coords run i j k
+  -- whether the shot at a place of the run meets the block
+  abbrev pub meetsAt : ℕ → Bool
+  meetsAt n = meetsBlock E coords (getD run n 0) b
 
-  pub rest-all : RestCredits 0
-  rest-all i j k l = rest-whole E coords run i j k
-
-  pub rest-more : (n : ℕ) → n < length run → {t : Bool} → t ≡ meetsBlock E coords (getD run n 0) b → t ≡ false → RestCredits n → RestCredits (n + 1)
-  rest-more n h is miss rest i j k l = rest-next E coords run i j k n h (missed-bare E coords (getD run n 0) b i j k l (sym is ∙ miss)) (rest i j k l)
-
-  -- a block without cells; a run that ends; a shot that meets the block
+  -- a block without cells
   pub none-meets : {t : Bool} → t ≡ emptyBlock b → t ≡ true → FirstMeeting E coords run b (length run)
   none-meets is e = record {
     within = omega arith;
@@ -77,14 +67,12 @@ module _ (E : ℕ) (coords run : List ℕ) (b : Block) where
     found = λ h. absurd (omega (arith, h));
   }
 
-  pub end-meets : (n : ℕ) → n ≡ length run → RestCredits n → FirstMeeting E coords run b n
-  end-meets n e rest = record { within = omega arith; rest-decides = rest; found = λ h. absurd (omega (arith, e, h)) }
-
-  pub shot-found : (n : ℕ) → n < length run → RestCredits n → {u : Bool} → u ≡ emptyBlock b → u ≡ false → {t : Bool} → t ≡ meetsBlock E coords (getD run n 0) b → t ≡ true → FirstMeeting E coords run b n
-  shot-found n h rest empty cells is e = record {
-    within = omega arith;
-    rest-decides = rest;
-    found = λ k. record { has-cells = sym empty ∙ cells; meets = sym is ∙ e };
+  -- one with cells: no shot before the place that a search finds covers one of them
+  pub first-meets : {t : Bool} → t ≡ emptyBlock b → t ≡ false → {n : ℕ} → FirstPlace meetsAt 0 (length run) n → FirstMeeting E coords run b n
+  first-meets is e {n} found = record {
+    within = found .within;
+    rest-decides = λ i j k l. rest-decides E coords run i j k n (found .within) (λ p h. missed-bare E coords (getD run p 0) b i j k l (found .earlier p (omega arith) h));
+    found = λ h. record { has-cells = sym is ∙ e; meets = found .passes h };
   }
 
   -- ---- no shot meets it
@@ -141,7 +129,7 @@ module _ (E : ℕ) (coords run : List ℕ) (b : Block) where
     unfolding creditsIn total
     carved-few side l s =
         let all : suc side + (5 - side) ≡ 6 = omega arith in
-        omega (arith, rw all at (total-front (λ m. sizeOf (partOf b core m)) (suc side) (5 - side)), only-most (eqb (getD run n 0) s) (sizeOf core), total-up side _ _ (λ m. count-most (partOf b core m) (λ i j k. names (firstCovering E coords (drop (n + 1) run) i j k) s)), count-parts b core core-inside (λ i j k. true))
+        omega (arith, rw all at (total-front (λ m. sizeOf (partOf b core m)) (suc side) (5 - side)), cond-most (eqb (getD run n 0) s) (sizeOf core), total-up side _ _ (λ m. count-most (partOf b core m) (λ i j k. names (firstCovering E coords (drop (n + 1) run) i j k) s)), count-parts b core core-inside (λ i j k. true))
 
     module _ {shot : ℕ} (shot-is : shot ≡ getD run n 0) {c : Block} (c-is : c ≡ sharedBlock E coords shot b) {rest : List ℕ} (rest-is : rest ≡ drop (n + 1) run) where
       part-fits : (side : ℕ) → Small b → Small (partOf b c side)

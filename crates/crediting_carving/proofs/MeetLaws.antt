@@ -1,5 +1,5 @@
 -- Which shots meet a block: the tests one by one, and what they say of the cells of the block.
-use mathlib.Core.Path.{_≡_, refl, sym, ap, _∙_}
+use mathlib.Core.Path.{_≡_, refl, sym, _∙_}
 use mathlib.Core.Bool.{Bool, true, false, _&&_, _||_, and-false, true≢false}
 use mathlib.Core.List.{List}
 use Prim.Native.Nat.{ℕ, zero, suc, _+_, _≤_, _<_, min, max}
@@ -8,7 +8,7 @@ use lib.Dec.{leb, ltb}
 use borrow.Author.Tests.{le-leb, lt-leb, le-ltb, lt-ltb, leb-true, leb-false, ltb-true}
 use Rattle.lattice.specs.Shots.{spans, covers}
 use Rattle.job.specs.Job.{shotCount, xAt, yAt, zAt, edgeAt, shotAt}
-use Rattle.job.proofs.Tests.{or-false, and-true}
+use Rattle.ground.proofs.Bools.{not-so, or-false, and-true}
 use Rattle.grid_cover.specs.Cover.{shotCovers}
 use Rattle.crediting_carving.specs.declared.blocks.Span.{Span}
 use Rattle.crediting_carving.specs.declared.blocks.Block.{Block}
@@ -79,11 +79,7 @@ module _ (E : ℕ) (coords : List ℕ) (s : ℕ) (b : Block) (i j k : ℕ) (l : 
       rw (n .0, span-meets (edgeAt E coords s) (xAt coords s) (b .x) i (l .x) (x .0), span-meets (edgeAt E coords s) (yAt coords s) (b .y) j (l .y) (yz .0), span-meets (edgeAt E coords s) (zAt coords s) (b .z) k (l .z) (yz .1))
 
   pub missed-bare : meetsBlock E coords s b ≡ false → shotCovers E coords s i j k ≡ false
-  missed-bare m = one (shotCovers E coords s i j k) refl
-    where
-      one : (t : Bool) → shotCovers E coords s i j k ≡ t → t ≡ false
-      one true e = absurd (true≢false (sym (covers-meets e) ∙ m))
-      one false e = refl
+  missed-bare m = not-so (shotCovers E coords s i j k) (λ e. true≢false (sym (covers-meets e) ∙ m))
 
 -- ---- the cells of the block that it covers
 

@@ -1,10 +1,8 @@
 -- Sums over the cells of a span: term by term, cut in two and in three.
-use mathlib.Core.Path.{_≡_, ap, _∙_}
+use mathlib.Core.Path.{_≡_}
 use Prim.Native.Nat.{ℕ, _+_, _-_, _*_, _≤_}
 use native.Mathlib.Omega.{arith}
-use Rattle.lattice.specs.Sums.{total}
-use Rattle.lattice.proofs.SumLaws.{total-plus}
-use Rattle.grid.proofs.TotalLaws.{total-agree, total-append, total-up, total-same}
+use Rattle.ground.proofs.TotalLaws.{total-plus, total-agree, total-cut, total-up, total-same}
 use Rattle.crediting_carving.specs.declared.blocks.Span.{Span}
 use Rattle.crediting_carving.specs.Blocks.{along, InSpan, spanBefore, spanAfter}
 
@@ -21,13 +19,7 @@ module _ (s : Span) where
   pub along-same : (k : ℕ) → along s (λ i. k) ≡ (s .to - s .from) * k
   along-same k = total-same (s .to - s .from) k
 
-cut : (f : ℕ → ℕ) (a m b : ℕ) → a ≤ m → m ≤ b → total (b - a) (λ i. f (a + i)) ≡ total (m - a) (λ i. f (a + i)) + total (b - m) (λ i. f (m + i))
-cut f a m b h k =
-    let whole : b - a ≡ (m - a) + (b - m) = omega arith in
-    rw whole (total-append (m - a) (b - m) (λ i. f (a + i)))
-    ∙ ap (λ (t : ℕ). total (m - a) (λ i. f (a + i)) + t) (total-agree (b - m) _ _ λ i l. let place : a + (m - a + i) ≡ m + i = omega arith in ap f place)
-
 -- what is before and after r, and r
 pub along-three : (s r : Span) → s .from ≤ r .from → r .from ≤ r .to → r .to ≤ s .to → (f : ℕ → ℕ) → along s f ≡ along (spanBefore s r) f + (along (spanAfter s r) f + along r f)
 along-three s r low order high f =
-    omega (arith, cut f (s .from) (r .from) (s .to) low (omega arith), cut f (r .from) (r .to) (s .to) order high)
+    omega (arith, total-cut f (s .from) (r .from) (s .to) low (omega arith), total-cut f (r .from) (r .to) (s .to) order high)

@@ -5,8 +5,9 @@ use mathlib.Core.List.{List, [], _∷_}
 use Prim.Native.Nat.{ℕ, zero, suc, _+_, _-_, _≤_, _<_, min, max}
 use lib.Dec.{eqb, leb, ltb}
 use lib.ListN.{length, getD, drop}
-use Rattle.lattice.specs.Sums.{total, join}
-use Rattle.lattice.specs.Cells.{Cells, bit}
+use Rattle.ground.specs.Sums.{total, join}
+use Rattle.ground.specs.Numbers.{bit}
+use Rattle.lattice.specs.Cells.{Cells}
 use Rattle.job.specs.Job.{shotCount, xAt, yAt, zAt, edgeAt}
 use Rattle.grid_cover.specs.Cover.{firstCovering, names}
 use Rattle.crediting_carving.specs.declared.blocks.Span.{Span}

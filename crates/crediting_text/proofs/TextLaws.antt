@@ -8,7 +8,7 @@ use lib.ListN.{length, getD, take, drop, length-append}
 use lib.Seq.{take-at, length-take-le}
 use Rattle.buffer.specs.Wrote.{Wrote}
 use Rattle.buffer.proofs.WroteLaws.{wrote-none, wrote-as, wrote-then}
-use Rattle.lattice.specs.Sums.{join}
+use Rattle.ground.specs.Sums.{join}
 use Rattle.job.specs.Job.{Job, jobOf, shots, shotCount, firstShots}
 use Rattle.job.specs.declared.Refusal.{Refusal}
 use Rattle.job.specs.declared.Checked.{Checked}
@@ -18,7 +18,7 @@ use Rattle.shotfile.specs.Calls.{ReadCall}
 use Rattle.shotfile.specs.declared.reader.ReadAnswer.{ReadAnswer}
 use Rattle.shotfile.specs.declared.reader.ReadAnswer.the-variants.{Read, Refused as Unread}
 use Rattle.shotfile.proofs.Accepted.{accepted-file, refused-file}
-use Rattle.grid.proofs.NumberLaws.{join-next, singles-length}
+use Rattle.ground.proofs.JoinLaws.{join-next, singles-length}
 use Rattle.measure_intake.specs.Intake.{workAfter}
 use Rattle.text_parts.proofs.LineLaws.{digits-length, line-length}
 use Rattle.text_parts.specs.Decimal.{decimal}

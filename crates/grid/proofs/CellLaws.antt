@@ -1,29 +1,14 @@
--- Grid cells by their numbers, and that the runs of a valid list are few.
-use mathlib.Core.Path.{_≡_, _∙_}
-use mathlib.Core.List.{List}
-use Prim.Native.Nat.{ℕ, _+_, _*_, _/_, _%_, _≤_, _<_}
-use native.Mathlib.Nat.{mul-le-mul, mul-le-mul-right, add-mul, one-mul, add-zero, mul-add-div-right, mul-add-mod-self-right, mod-eq-of-lt, div-eq-of-lt}
+-- The runs of a valid list are few.
+use Prim.Native.Nat.{ℕ, _*_, _/_, _≤_}
+use native.Mathlib.Nat.{mul-le-mul}
 use native.Mathlib.Omega.{arith}
 use lib.ListN.{length}
-use Rattle.lattice.specs.Sums.{join}
+use Rattle.ground.specs.Sums.{join}
 use Rattle.job.specs.Job.{Job, shot, shotCount, Valid}
-use Rattle.grid.specs.Numbers.{upTo}
+use Rattle.ground.specs.Numbers.{upTo}
 use Rattle.grid.specs.Grid.{touchesCell, touchesSlab, runOf, slabOf}
-use Rattle.grid.proofs.NumberLaws.{upTo-length, those-length, join-length-most, join-length-up}
-
--- ---- numbers of two digits: a * n + b with b < n
-
-module _ (n a b : ℕ) (h : b < n) where
-  pub digit-high : (a * n + b) / n ≡ a
-  digit-high = mul-add-div-right (omega arith) a b ∙ (rw (div-eq-of-lt h) (add-zero a))
-
-  pub digit-low : (a * n + b) % n ≡ b
-  digit-low = mul-add-mod-self-right a n b ∙ mod-eq-of-lt h
-
-  pub digits-below : (m : ℕ) → a < m → a * n + b < m * n
-  digits-below m k = omega (arith, mul-le-mul-right {m = a + 1} {n = m} n (omega arith), add-mul a 1 n, one-mul n)
-
--- ---- a valid list's runs are few
+use Rattle.ground.proofs.JoinLaws.{join-length-most, join-length-up}
+use Rattle.ground.proofs.NumberLaws.{upTo-length, those-length}
 
 pub square-most : (g : ℕ) → g ≤ 64 → g * g ≤ 4096
 square-most g h = mul-le-mul h h

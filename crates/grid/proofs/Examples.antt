@@ -1,7 +1,7 @@
 -- Needs that docs/SCOPE.md names: field 8, edge 2, grid 2.
 use mathlib.Core.Path.{_≡_, refl}
 use mathlib.Core.List.{[], _∷_}
-use Rattle.lattice.specs.Sums.{total}
+use Rattle.ground.specs.Sums.{total}
 use Rattle.job.specs.Job.{jobOf}
 use Rattle.grid.specs.Grid.{meets, pairs, need}
 

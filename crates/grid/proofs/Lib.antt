@@ -1,10 +1,8 @@
-pub mod NumberLaws
 pub mod StartLaws
 pub mod PutLaws
 pub mod TouchLaws
 pub mod CellLaws
 pub mod ShotLaws
-pub mod TotalLaws
 pub mod QuotientLaws
 pub mod NeedLaws
 pub mod Examples

@@ -1,24 +1,25 @@
 -- The need, counted shot by shot: the pairs of a shot are the product of three spans.
 use mathlib.Core.Path.{_≡_, refl, sym, ap, _∙_}
-use mathlib.Core.Bool.{Bool, true, false, _&&_}
+use mathlib.Core.Bool.{true, _&&_}
 use mathlib.Core.List.{List}
-use Prim.Native.Nat.{ℕ, zero, suc, _+_, _-_, _*_, _/_, _≤_, _<_}
+use Prim.Native.Nat.{ℕ, suc, _+_, _-_, _*_, _/_, _≤_, _<_}
 use native.Mathlib.Nat.{le-div-iff-mul-le, div-lt-iff-lt-mul, mul-le-mul, mul-pos, mul-one, mul-comm, div-mul-le-self, div-le-of-le-mul, div-le-self, div-eq-of-lt}
 use native.Mathlib.Numerals.{add-one}
 use native.Mathlib.Omega.{arith}
 use lib.Dec.{leb, ltb}
 use borrow.Author.Tests.{le-leb}
-use Rattle.lattice.specs.Sums.{total}
-use Rattle.lattice.specs.Cells.{bit}
+use Rattle.ground.specs.Sums.{total}
+use Rattle.ground.specs.Numbers.{bit}
 use Rattle.lattice.specs.Shots.{Shot}
 use Rattle.job.specs.Job.{Job, jobOf, shot, shotCount, shotAt, Valid}
 use Rattle.job.proofs.Shots.{stay-at}
-use Rattle.grid.specs.Numbers.{Quotients}
+use Rattle.grid.specs.Quotients.{Quotients}
 use Rattle.grid.specs.Grid.{meets, touches, touchesCell, spanOf, pairsOf, pairs, need}
-use Rattle.grid.proofs.TotalLaws.{total-agree, total-most, total-swap, total-digits, total-triples, count-inside, count-past}
-use Rattle.grid.proofs.TouchLaws.{leb-alike}
+use Rattle.ground.proofs.TotalLaws.{total-agree, total-most, total-same, total-swap, total-digits, total-triples, count-inside, count-past}
+use Rattle.ground.proofs.Bits.{bit-most}
+use Rattle.ground.proofs.Tests.{leb-alike}
 use Rattle.grid.proofs.QuotientLaws.{quotients-fewer}
-use Rattle.grid.proofs.CellLaws.{digit-high, digit-low}
+use Rattle.ground.proofs.Digits.{digit-high, digit-low}
 use Rattle.grid.proofs.ShotLaws.{width-times, width-least}
 
 -- ---- how many intervals a span meets
@@ -68,10 +69,6 @@ first-of-none s c h e = rw e (sym (div-eq-of-lt {n = 0} {m = s} h))
 
 span-most : (G s c e : ℕ) → spanOf G s c e ≤ G
 span-most G s c e = omega (arith, total-most G 1 (λ g. bit (meets s g c e)) (λ g l. bit-most (meets s g c e)), mul-one G)
-  where
-    bit-most : (b : Bool) → bit b ≤ 1
-    bit-most true = omega arith
-    bit-most false = omega arith
 
 -- three spans of at most 64
 pub square-few : (a b : ℕ) → a ≤ 64 → b ≤ 64 → a * b ≤ 4096
@@ -140,11 +137,6 @@ module _ (job : Job) where
   need-by-pairs c p = rw (c, p)
 
 -- ---- a grid of one cell
-total-ones : (n : ℕ) → total n (λ i. 1) ≡ n
-unfolding total
-total-ones zero = refl
-total-ones (suc n) = omega (arith, total-ones n)
-
 whole-meets : (F c e : ℕ) → c ≤ F → meets (F / 1) 0 c e ≡ true
 unfolding meets
 whole-meets F c e h = rw (le-leb (0 * (F / 1)) (c + e) (omega arith), le-leb c ((0 + 1) * (F / 1)) (omega arith))
@@ -152,7 +144,7 @@ whole-meets F c e h = rw (le-leb (0 * (F / 1)) (c + e) (omega arith), le-leb c (
 -- every shot belongs to it: an entry a shot, and the two starting places
 pub one-cell-need : {F E : ℕ} {coords : List ℕ} → Valid (jobOf F E 1 coords) → need (jobOf F E 1 coords) ≡ shotCount coords + 2
 unfolding need pairs total
-one-cell-need {F} {E} {coords} v = omega (arith, total-agree (shotCount coords) _ _ touched ∙ total-ones (shotCount coords))
+one-cell-need {F} {E} {coords} v = omega (arith, total-agree (shotCount coords) _ _ touched ∙ total-same (shotCount coords) 1)
   where
     touched : (i : ℕ) → i < shotCount coords → bit (touchesCell F 1 0 (shotAt E coords i)) ≡ 1
     touched i h =

@@ -1,16 +1,16 @@
 -- A number that is wanted or not, written at a place; and those of a list that pass a test, one by one.
-use mathlib.Core.Path.{_≡_, refl, ap}
+use mathlib.Core.Path.{_≡_, ap}
 use mathlib.Core.Bool.{Bool, true, false, cond}
 use mathlib.Core.List.{List, [], _∷_}
 use Prim.Native.Nat.{ℕ, _+_, _≤_, _<_}
 use native.Mathlib.Omega.{arith}
 use lib.ListN.{length, getD, take, set, length-append}
 use lib.Seq.{take-length}
-use Rattle.lattice.specs.Cells.{bit}
+use Rattle.ground.specs.Numbers.{bit, those}
+use Rattle.ground.proofs.Bits.{bit-length}
 use Rattle.buffer.specs.Wrote.{Wrote}
 use Rattle.buffer.proofs.WroteLaws.{wrote-none, wrote-one, wrote-length, wrote-then}
-use Rattle.grid.specs.Numbers.{those}
-use Rattle.grid.proofs.NumberLaws.{those-next, those-front}
+use Rattle.ground.proofs.NumberLaws.{those-next, those-front}
 
 module _ (b : Bool) where
   pub put-room : {at n : ℕ} → b ≡ true → at + bit b ≤ n → at < n
@@ -32,11 +32,7 @@ module _ (f : ℕ → Bool) (l w : List ℕ) (at : ℕ) where
   module _ {b : List ℕ} {o i : ℕ} (h : i < length l) (a : Wrote w b at o (those f (take i l))) where
     pub put-those-room : at + length (those f l) ≤ length w → {t : Bool} → t ≡ f (getD l i 0) → o + bit t ≤ length b
     put-those-room room {t} e =
-        omega (arith, ap bit e, one (f (getD l i 0)), wrote-length a, a .next, ap length (those-next f l i h), length-append (those f (take i l)) (cond (f (getD l i 0)) (getD l i 0 ∷ []) []), those-front f l (i + 1))
-      where
-        one : (b : Bool) → length (cond b (getD l i 0 ∷ []) []) ≡ bit b
-        one true = refl
-        one false = refl
+        omega (arith, ap bit e, bit-length (f (getD l i 0)) (getD l i 0), wrote-length a, a .next, ap length (those-next f l i h), length-append (those f (take i l)) (cond (f (getD l i 0)) (getD l i 0 ∷ []) []), those-front f l (i + 1))
 
     pub put-those-turn : {b' : List ℕ} {o' : ℕ} {t : Bool} → t ≡ f (getD l i 0) → Wrote b b' o o' (cond t (getD l i 0 ∷ []) []) → Wrote w b' at o' (those f (take (i + 1) l))
     put-those-turn e c = rw (those-next f l i h) (wrote-then a (rw e at c))

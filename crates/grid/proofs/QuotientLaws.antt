@@ -7,7 +7,7 @@ use native.Mathlib.Omega.{arith}
 use lib.ListN.{length, getD, set, length-set}
 use lib.Seq.{getD-set-same, getD-set-other}
 use borrow.Author.Count.{below-more}
-use Rattle.grid.specs.Numbers.{Quotients}
+use Rattle.grid.specs.Quotients.{Quotients}
 
 module _ (s : ℕ) where
   pub quotients-none : (table : List ℕ) → Quotients s 0 table

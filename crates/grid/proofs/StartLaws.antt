@@ -3,9 +3,9 @@ use mathlib.Core.Path.{_≡_}
 use mathlib.Core.List.{List, [], _∷_, _++_}
 use Prim.Native.Nat.{ℕ, _+_}
 use lib.ListN.{length}
-use Rattle.lattice.specs.Sums.{join}
+use Rattle.ground.specs.Sums.{join}
 use Rattle.grid.specs.Grid.{starts}
-use Rattle.grid.proofs.NumberLaws.{join-next, singles-length}
+use Rattle.ground.proofs.JoinLaws.{join-next, singles-length}
 
 pub starts-length : (run : ℕ → List ℕ) (n : ℕ) → length (starts run n) ≡ n
 unfolding starts

@@ -1,5 +1,5 @@
 -- When an interval of an axis meets a span, and how many intervals do.
-use mathlib.Core.Path.{_≡_, refl, sym, ap, _∙_}
+use mathlib.Core.Path.{_≡_, refl, ap, _∙_}
 use mathlib.Core.Bool.{Bool, true, false, _&&_}
 use mathlib.Core.List.{List}
 use Prim.Native.Nat.{ℕ, zero, suc, _+_, _*_, _%_, _≤_, _<_}
@@ -8,7 +8,8 @@ use native.Mathlib.Omega.{arith}
 use lib.Dec.{leb}
 use mir.Val.{Fits}
 use mir.Syntax.{w32}
-use borrow.Author.Tests.{le-leb, lt-leb, leb-true, leb-false}
+use borrow.Author.Tests.{lt-leb, leb-true, leb-false}
+use Rattle.ground.proofs.Tests.{leb-alike}
 use Rattle.job.specs.Job.{xAt, yAt, zAt}
 use Rattle.grid.specs.Grid.{meets, onAxis}
 
@@ -28,15 +29,6 @@ module _ (coords : List ℕ) (i : ℕ) {r : ℕ} where
 -- a 16-bit number and one up to 2 ^ 16 have a 32-bit product
 pub product-fits : (a b : ℕ) → a ≤ 65536 → b ≤ 65535 → Fits w32 (a * b)
 product-fits a b h k = record { fits = omega (arith, mul-le-mul {n₁ = a} {m₁ = b} {n₂ = 65536} {m₂ = 65535} h k) }
-
--- tests of orders that imply each other
-pub leb-alike : (a b c d : ℕ) → (a ≤ b → c ≤ d) → (c ≤ d → a ≤ b) → leb a b ≡ leb c d
-leb-alike a b c d f g = one (leb a b) (leb c d) refl refl
-  where
-    one : (s t : Bool) → leb a b ≡ s → leb c d ≡ t → leb a b ≡ leb c d
-    one true t e e' = e ∙ sym (le-leb c d (f (leb-true a b e)))
-    one false true e e' = absurd (omega (arith, leb-false a b e, g (leb-true c d e')))
-    one false false e e' = e ∙ sym e'
 
 -- the difference d of where a span ends and where an interval begins, modulo 2 ^ 32, tells whether they meet
 module _ (s g c e d : ℕ) (hs : s ≤ 65535) (hg : g ≤ 65535) (hc : c ≤ 65535) (he : e ≤ 65535) (hd : d < 4294967296) (w : (d + g * s) % 4294967296 ≡ c + e) where

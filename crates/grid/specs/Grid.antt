@@ -6,11 +6,10 @@ use mathlib.Core.List.{List, [], _∷_, _++_}
 use Prim.Native.Nat.{ℕ, zero, suc, _+_, _-_, _*_, _/_, _%_, _≤_}
 use lib.Dec.{leb}
 use lib.ListN.{length, getD, take, drop}
-use Rattle.lattice.specs.Sums.{total, join}
-use Rattle.lattice.specs.Cells.{bit}
+use Rattle.ground.specs.Sums.{total, join}
+use Rattle.ground.specs.Numbers.{bit, upTo, those}
 use Rattle.lattice.specs.Shots.{Shot}
 use Rattle.job.specs.Job.{Job, shot, shotCount, xAt, yAt, zAt, edgeAt}
-use Rattle.grid.specs.Numbers.{upTo, those}
 
 -- interval g of width s, with both its ends, shares a point with the e units from c, with both their ends
 unfoldable pub meets : ℕ → ℕ → ℕ → ℕ → Bool

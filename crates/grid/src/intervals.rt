@@ -3,7 +3,7 @@ ghost use mathlib.Core.Path.{_≡_};
 ghost use Prim.Native.Nat.{_+_, _-_, _*_, _/_, _≤_, _<_};
 ghost use Rattle.job.specs.Job.{shotCount};
 ghost use lib.ListN.{length};
-ghost use Rattle.grid.specs.Numbers.{Quotients};
+ghost use Rattle.grid.specs.Quotients.{Quotients};
 ghost use Rattle.grid.specs.Grid.{meets, onAxis, meetsOn, spanOf};
 use job::shot;
 

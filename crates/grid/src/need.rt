@@ -2,7 +2,7 @@
 ghost use mathlib.Core.Path.{_≡_};
 ghost use Prim.Native.Nat.{_+_, _*_, _/_, _≤_, _<_};
 ghost use Rattle.job.specs.Job.{jobOf, shotCount, Valid};
-ghost use Rattle.grid.specs.Numbers.{Quotients};
+ghost use Rattle.grid.specs.Quotients.{Quotients};
 ghost use Rattle.grid.specs.Grid.{pairsOf, pairs, need};
 use crate::intervals::cells_of;
 use crate::intervals::quotients;

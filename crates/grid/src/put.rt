@@ -3,7 +3,7 @@ ghost use mathlib.Core.Bool.{cond};
 ghost use mathlib.Core.List.{[], _∷_};
 ghost use Prim.Native.Nat.{_+_, _≤_};
 ghost use lib.ListN.{length};
-ghost use Rattle.lattice.specs.Cells.{bit};
+ghost use Rattle.ground.specs.Numbers.{bit};
 ghost use Rattle.buffer.specs.Wrote.{Wrote};
 
 // Puts a number at a place if it is wanted, and gives the place after it.

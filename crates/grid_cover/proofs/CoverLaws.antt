@@ -1,9 +1,9 @@
 -- The cover test of a run: of one shot, and shot by shot.
 use mathlib.Core.Path.{_≡_, refl, sym, ap, _∙_}
-use mathlib.Core.Bool.{Bool, true, false, cond, _||_, true≢false}
+use mathlib.Core.Bool.{Bool, true, false, cond, true≢false}
 use mathlib.Core.Option.{Option, none, some}
-use mathlib.Core.List.{List, [], _∷_, _++_}
-use Prim.Native.Nat.{ℕ, suc, _+_, _≤_, _<_}
+use mathlib.Core.List.{List, [], _∷_}
+use Prim.Native.Nat.{ℕ, zero, suc, _+_, _≤_, _<_}
 use native.Mathlib.Numerals.{add-one}
 use native.Mathlib.Omega.{arith}
 use lib.Dec.{ltb}
@@ -12,7 +12,8 @@ use lib.Seq.{drop-cons, drop-length}
 use borrow.Author.Tests.{le-ltb, lt-ltb, le-leb, lt-leb}
 use Rattle.lattice.specs.Shots.{spans}
 use Rattle.job.specs.Job.{shotCount, xAt, yAt, zAt, edgeAt}
-use Rattle.grid.specs.Numbers.{those}
+use Rattle.ground.specs.Numbers.{those}
+use Rattle.ground.specs.FirstPlace.{FirstPlace}
 use Rattle.grid_cover.specs.Cover.{shotCovers, first, isSome, firstCovering, runCovers, coveringOf}
 use Rattle.grid_cover.specs.declared.Covering.{Covering}
 use Rattle.grid_cover.specs.declared.Covering.the-variants.{Shot, Nothing}
@@ -47,16 +48,6 @@ module _ (e : ℕ) (coords : List ℕ) (s i j k : ℕ) where
 
 -- ---- the first of a list that passes a test
 
-module _ (f : ℕ → Bool) where
-  pub first-append : (l m : List ℕ) → isSome (first f (l ++ m)) ≡ (isSome (first f l) || isSome (first f m))
-  unfolding first
-  first-append [] m = refl
-  first-append (a ∷ l) m = one (f a) (first-append l m)
-    where
-      one : (b : Bool) → isSome (first f (l ++ m)) ≡ (isSome (first f l) || isSome (first f m)) → isSome (cond b (some a) (first f (l ++ m))) ≡ (isSome (cond b (some a) (first f l)) || isSome (first f m))
-      one true h = refl
-      one false h = h
-
 -- those that pass a weaker test are enough
 module _ (f p : ℕ → Bool) (h : (s : ℕ) → f s ≡ true → p s ≡ true) where
   pub first-among : (l : List ℕ) → first f (those p l) ≡ first f l
@@ -73,20 +64,25 @@ module _ (f p : ℕ → Bool) (h : (s : ℕ) → f s ≡ true → p s ≡ true) 
 -- ---- a run, shot by shot
 
 module _ (e : ℕ) (coords : List ℕ) (run : List ℕ) (i j k : ℕ) where
-  -- no shot before place n covers the cell: the first that does is the first of the rest
+  -- whether the shot at a place of the run covers the cell
+  abbrev pub coversAt : ℕ → Bool
+  coversAt n = shotCovers e coords (getD run n 0) i j k
+
+  -- where no shot before place n covers the cell, the first that does is the first of the rest
   abbrev pub RestDecides : ℕ → Type 0
   RestDecides n = firstCovering e coords (drop n run) i j k ≡ firstCovering e coords run i j k
 
-  pub rest-whole : RestDecides 0
-  rest-whole = refl
-
-  pub rest-next : (n : ℕ) → n < length run → shotCovers e coords (getD run n 0) i j k ≡ false → RestDecides n → RestDecides (n + 1)
+  pub rest-next : (n : ℕ) → n < length run → coversAt n ≡ false → RestDecides n → RestDecides (n + 1)
   unfolding firstCovering first
   rest-next n h miss rest =
       let step : firstCovering e coords (drop n run) i j k ≡ firstCovering e coords (drop (suc n) run) i j k = rw (drop-cons run n 0 h, miss) in
       rw (add-one n) (sym step ∙ rest)
 
-  pub rest-found : (n : ℕ) → n < length run → shotCovers e coords (getD run n 0) i j k ≡ true → RestDecides n → some (getD run n 0) ≡ firstCovering e coords run i j k
+  pub rest-decides : (n : ℕ) → n ≤ length run → ((p : ℕ) → p < n → coversAt p ≡ false) → RestDecides n
+  rest-decides zero h miss = refl
+  rest-decides (suc n) h miss = rw (← add-one n) (rest-next n h (miss n (omega arith)) (rest-decides n (omega arith) (λ p l. miss p (omega arith))))
+
+  pub rest-found : (n : ℕ) → n < length run → coversAt n ≡ true → RestDecides n → some (getD run n 0) ≡ firstCovering e coords run i j k
   unfolding firstCovering first
   rest-found n h hit rest = rw (← rest, drop-cons run n 0 h, hit)
 
@@ -94,9 +90,20 @@ module _ (e : ℕ) (coords : List ℕ) (run : List ℕ) (i j k : ℕ) where
   unfolding firstCovering first
   rest-none n h rest = rw (← rest, h, drop-length run)
 
+  -- what a search of the run finds
+  module _ {n : ℕ} (found : FirstPlace coversAt 0 (length run) n) where
+    rest : RestDecides n
+    rest = rest-decides n (found .within) (λ p l. found .earlier p (omega arith) l)
+
+    pub run-found : n < length run → some (getD run n 0) ≡ firstCovering e coords run i j k
+    run-found h = rest-found n h (found .passes h) rest
+
+    pub run-bare : n ≡ length run → none ≡ firstCovering e coords run i j k
+    run-bare h = rest-none n h rest
+
   -- a run of no shot
   pub run-none : length run ≡ 0 → false ≡ runCovers e coords run i j k
-  run-none h = ap isSome (rest-none 0 (sym h) rest-whole)
+  run-none h = ap isSome (rest-none 0 (sym h) refl)
 
 -- ---- what the answer says
 

@@ -1,87 +1,45 @@
 -- The run of a grid cell names the lowest covering shot of the list, and so covers what the list covers: for the unit cells in it, and for
 -- the eight cells about each lattice point of its closed box.
 use mathlib.Core.Path.{_≡_, refl, sym, ap, _∙_}
-use mathlib.Core.Bool.{Bool, true, false, cond, _&&_, _||_}
-use mathlib.Core.Option.{none, some}
-use mathlib.Core.List.{List, [], _∷_}
+use mathlib.Core.Bool.{Bool, true, false, _&&_}
+use mathlib.Core.List.{List}
 use Prim.Native.Nat.{ℕ, zero, suc, _+_, _*_, _/_, _≤_, _<_}
 use native.Mathlib.Nat.{div-mul-le-self, lt-div-mul-add, div-lt-iff-lt-mul, add-mul, one-mul}
 use native.Mathlib.Omega.{arith}
 use lib.Dec.{T, leb, ltb}
-use borrow.Author.Tests.{le-leb, lt-ltb, leb-true, ltb-true, ltb-false}
+use borrow.Author.Tests.{le-leb, lt-ltb, leb-true, ltb-true}
 use Rattle.lattice.specs.Cells.{Cells, below, up}
 use Rattle.lattice.specs.Pattern.{around}
 use Rattle.lattice.specs.Shots.{Shot, spans, covers, any, cells}
 use Rattle.job.specs.Job.{Job, shots, shot, shotsOf, shotCount, shotAt, Valid}
 use Rattle.job.proofs.Shots.{any-at, at-any}
-use Rattle.job.proofs.Tests.{or-left, or-right, and-true}
-use Rattle.lattice.proofs.ShotLaws.{or-elim}
-use Rattle.grid.specs.Numbers.{upTo}
+use Rattle.ground.proofs.Bools.{bool-ext, and-true}
+use Rattle.ground.proofs.AnyLaws.{any-to-ext, any-to-some, any-to-at}
+use Rattle.ground.specs.Numbers.{anyTo, upTo}
 use Rattle.grid.specs.Grid.{meets, touchesCell, runOf, holding}
-use Rattle.grid_cover.specs.Cover.{shotCovers, first, isSome, firstCovering, lowestCovering, runCovers}
-use Rattle.grid.proofs.CellLaws.{digit-high, digit-low, digits-below}
+use Rattle.grid_cover.specs.Cover.{shotCovers, isSome, firstCovering, lowestCovering, runCovers}
+use Rattle.ground.proofs.Digits.{digit-high, digit-low, digits-below}
 use Rattle.grid.proofs.ShotLaws.{width-times, width-least}
-use Rattle.grid_cover.proofs.CoverLaws.{first-append, first-among}
+use Rattle.grid_cover.proofs.CoverLaws.{first-among}
+use Rattle.grid_cover.proofs.LowestLaws.{first-any}
 
--- ---- some number below n passes a test
+-- ---- some shot of a list
 
-someBelow : ℕ → (ℕ → Bool) → Bool
-someBelow zero f = false
-someBelow (suc n) f = someBelow n f || f n
-
-some-agree : (n : ℕ) (f g : ℕ → Bool) → ((i : ℕ) → i < n → f i ≡ g i) → someBelow n f ≡ someBelow n g
-unfolding someBelow
-some-agree zero f g h = refl
-some-agree (suc n) f g h = rw (some-agree n f g (λ i l. h i (omega arith)), h n (omega arith))
-
-some-of : (n : ℕ) (f : ℕ → Bool) (i : ℕ) → i < n → T (f i) → T (someBelow n f)
-unfolding someBelow
-some-of zero f i h t = absurd (omega arith)
-some-of (suc n) f i h t = one (ltb i n) refl (λ l. some-of n f i l t)
+any-shots : (f : Shot → Bool) (e : ℕ) (coords : List ℕ) → any f (shotsOf e coords) ≡ anyTo (shotCount coords) (λ i. f (shotAt e coords i))
+any-shots f e coords = bool-ext (any f (shotsOf e coords)) (anyTo (shotCount coords) (λ i. f (shotAt e coords i))) there back
   where
-    one : (b : Bool) → ltb i n ≡ b → (i < n → T (someBelow n f)) → T (someBelow n f || f n)
-    one true e before = or-left (someBelow n f) (f n) (before (ltb-true i n e))
-    one false e before =
-        let last : n ≡ i = omega (arith, ltb-false i n e) in
-        or-right (someBelow n f) (f n) (rw last t)
+    there : T (any f (shotsOf e coords)) → T (anyTo (shotCount coords) (λ i. f (shotAt e coords i)))
+    there t = let r = any-at e f coords t in any-to-at (shotCount coords) (λ i. f (shotAt e coords i)) (r .0) (r .1) (r .2)
 
-some-at : (n : ℕ) (f : ℕ → Bool) → T (someBelow n f) → (i : ℕ) × (i < n) × T (f i)
-unfolding someBelow
-some-at zero f t = absurd t
-some-at (suc n) f t = or-elim (someBelow n f) (f n) t (λ h. let r = some-at n f h in (r .0, omega (arith, r .1), r .2)) (λ h. (n, omega arith, h))
-
--- some shot of a list
-any-shots : (f : Shot → Bool) (e : ℕ) (coords : List ℕ) → any f (shotsOf e coords) ≡ someBelow (shotCount coords) (λ i. f (shotAt e coords i))
-any-shots f e coords = same (any f (shotsOf e coords)) (someBelow (shotCount coords) (λ i. f (shotAt e coords i))) there back
-  where
-    there : T (any f (shotsOf e coords)) → T (someBelow (shotCount coords) (λ i. f (shotAt e coords i)))
-    there t = let r = any-at e f coords t in some-of (shotCount coords) (λ i. f (shotAt e coords i)) (r .0) (r .1) (r .2)
-
-    back : T (someBelow (shotCount coords) (λ i. f (shotAt e coords i))) → T (any f (shotsOf e coords))
-    back t = let r = some-at (shotCount coords) (λ i. f (shotAt e coords i)) t in at-any e f coords (r .0) (r .1) (r .2)
-
-    same : (b c : Bool) → (T b → T c) → (T c → T b) → b ≡ c
-    same true true g h = refl
-    same true false g h = absurd (g tt)
-    same false true g h = absurd (h tt)
-    same false false g h = refl
-
--- the first of 0, 1, .. n - 1
-first-up : (f : ℕ → Bool) (n : ℕ) → isSome (first f (upTo n)) ≡ someBelow n f
-unfolding upTo first someBelow
-first-up f zero = refl
-first-up f (suc n) = first-append f (upTo n) (n ∷ []) ∙ rw (first-up f n) (ap (λ b. someBelow n f || b) (one (f n)))
-  where
-    one : (b : Bool) → isSome (cond b (some n) none) ≡ b
-    one true = refl
-    one false = refl
+    back : T (anyTo (shotCount coords) (λ i. f (shotAt e coords i))) → T (any f (shotsOf e coords))
+    back t = let r = any-to-some (shotCount coords) (λ i. f (shotAt e coords i)) t in at-any e f coords (r .0) (r .1) (r .2)
 
 -- a list covers a cell exactly if it has a lowest covering shot
 pub lowest-covers : (E : ℕ) (coords : List ℕ) (i j k : ℕ) → isSome (lowestCovering E coords i j k) ≡ cells (shotsOf E coords) i j k
 unfolding lowestCovering firstCovering shotCovers
 lowest-covers E coords i j k =
-    first-up (λ s. shotCovers E coords s i j k) (shotCount coords)
-    ∙ (some-agree (shotCount coords) _ _ (λ s l. rw (lt-ltb s (shotCount coords) l)) ∙ sym (any-shots (λ t. covers t i j k) E coords))
+    first-any (λ s. shotCovers E coords s i j k) (shotCount coords)
+    ∙ (any-to-ext (shotCount coords) (λ s l. rw (lt-ltb s (shotCount coords) l)) ∙ sym (any-shots (λ t. covers t i j k) E coords))
 
 -- ---- a unit cell that touches a grid cell
 

@@ -7,11 +7,12 @@ use native.Mathlib.Omega.{arith}
 use lib.ListN.{length, set}
 use Rattle.job.specs.Job.{Job, shotCount, Valid}
 use Rattle.buffer.specs.Wrote.{Wrote}
-use Rattle.grid.specs.Numbers.{upTo, AllBelow}
+use Rattle.ground.specs.Numbers.{upTo, AllBelow}
 use Rattle.grid.specs.Grid.{meetsOn, runOf, rowOf, slabOf}
 use Rattle.grid_filling.specs.Filling.{narrowed, Ready, Grew}
-use Rattle.grid.proofs.NumberLaws.{upTo-length, those-length, below-upTo}
-use Rattle.grid.proofs.CellLaws.{digits-below, square-most, cube-most, slab-few}
+use Rattle.ground.proofs.NumberLaws.{upTo-length, those-length, below-upTo}
+use Rattle.ground.proofs.Digits.{digits-below}
+use Rattle.grid.proofs.CellLaws.{square-most, cube-most, slab-few}
 use Rattle.grid_filling.proofs.StoreLaws.{grew-none, grew-cell, grew-then, ready-after, ready-room}
 use Rattle.grid_filling.proofs.NarrowLaws.{slab-narrow, row-narrow, run-narrow, slab-below, row-below, place-fits}
 

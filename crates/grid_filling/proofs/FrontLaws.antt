@@ -6,10 +6,9 @@ use Prim.Native.Nat.{ℕ, _+_, _≤_, _<_}
 use native.Mathlib.Omega.{arith}
 use lib.ListN.{length, getD, take, set, length-append}
 use lib.Seq.{take-at, take-length, set-at, append-snoc, length-take-le}
-use Rattle.lattice.specs.Cells.{bit}
-use Rattle.grid.specs.Numbers.{those}
+use Rattle.ground.specs.Numbers.{bit, those}
 use Rattle.grid_filling.specs.Filling.{Front}
-use Rattle.grid.proofs.NumberLaws.{those-next, those-length}
+use Rattle.ground.proofs.NumberLaws.{those-next, those-length}
 
 module _ {w : List ℕ} {n : ℕ} {xs : List ℕ} (a : Front w n xs) where
   pub front-taken : take n w ≡ xs

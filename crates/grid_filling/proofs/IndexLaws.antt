@@ -1,38 +1,24 @@
 -- The index of a list: what it needs, that a filled slice holds it, and the runs read from it.
-use mathlib.Core.Path.{_≡_, refl, sym, ap, _∙_, fun-ext}
-use mathlib.Core.Bool.{Bool, true, false, cond}
-use mathlib.Core.List.{List, [], _∷_}
-use Prim.Native.Nat.{ℕ, zero, suc, _+_, _-_, _*_, _≤_}
-use native.Mathlib.Nat.{add-zero, add-suc, le-refl}
+use mathlib.Core.Path.{_≡_, sym, ap, _∙_, fun-ext}
+use mathlib.Core.List.{List}
+use Prim.Native.Nat.{ℕ, _+_, _-_, _*_, _≤_}
+use native.Mathlib.Nat.{le-refl}
 use native.Mathlib.Omega.{arith}
 use lib.ListN.{length, take, set, length-append}
-use lib.Seq.{take-all, take-append-le}
 use mir.Val.{Fits}
 use mir.Syntax.{w32}
-use Rattle.lattice.specs.Sums.{total, join}
-use Rattle.lattice.specs.Cells.{bit}
+use Rattle.ground.specs.Sums.{total, join}
+use Rattle.ground.specs.Numbers.{upTo}
 use Rattle.job.specs.Job.{Job, shot, shotCount, Valid}
-use Rattle.grid.specs.Numbers.{upTo, those}
 use Rattle.grid.specs.Grid.{touchesCell, runOf, starts, indexOf, pairs, need, withIndex}
 use Rattle.grid_filling.specs.Filling.{runPlace, Ready, Grew}
-use Rattle.lattice.proofs.JoinLaws.{length-join}
-use Rattle.grid.proofs.NumberLaws.{upTo-length, those-append}
+use Rattle.ground.proofs.JoinLaws.{length-join}
+use Rattle.ground.proofs.NumberLaws.{upTo-length, upTo-front, those-count}
 use Rattle.grid.proofs.CellLaws.{runs-few}
 use Rattle.grid.proofs.StartLaws.{starts-length}
 use Rattle.grid_filling.proofs.StoreLaws.{runs-in-none, index-whole}
 
 -- ---- the need
-
--- how many pass a test
-those-count : (f : ℕ → Bool) (n : ℕ) → length (those f (upTo n)) ≡ total n (λ i. bit (f i))
-unfolding upTo those total
-those-count f zero = refl
-those-count f (suc n) =
-    omega (arith, ap length (those-append f (upTo n) (n ∷ [])), length-append (those f (upTo n)) (those f (n ∷ [])), those-count f n, one (f n))
-  where
-    one : (b : Bool) → length (cond b (n ∷ []) []) ≡ bit b
-    one true = refl
-    one false = refl
 
 module _ (job : Job) where
   open Job job using (field as F, grid as G, coords)
@@ -54,16 +40,6 @@ module _ (job : Job) where
       omega (arith, need-place, length-append (starts (runOf job) (G * G * G + 1)) (join (G * G * G) (runOf job)), starts-length (runOf job) (G * G * G + 1))
 
 -- ---- a filled slice
-
-upTo-more : (n k : ℕ) → take n (upTo (n + k)) ≡ upTo n
-unfolding upTo
-upTo-more n zero = rw (add-zero n) (take-all n (upTo n) (omega (arith, upTo-length n)))
-upTo-more n (suc k) = rw (add-suc n k, take-append-le n (upTo (n + k)) ((n + k) ∷ []) (omega (arith, upTo-length (n + k)))) (upTo-more n k)
-
-upTo-front : (n m : ℕ) → n ≤ m → take n (upTo m) ≡ upTo n
-upTo-front n m h =
-    let e : n + (m - n) ≡ m = omega arith in
-    rw e at (upTo-more n (m - n))
 
 pub upTo-part : (n : ℕ) {all : List ℕ} → n ≤ 4096 → all ≡ upTo 4096 → take n all ≡ upTo n
 upTo-part n h e = rw e (upTo-front n 4096 h)

@@ -5,11 +5,12 @@ use mathlib.Core.List.{List}
 use Prim.Native.Nat.{ℕ, _+_, _*_, _/_, _%_, _≤_, _<_}
 use native.Mathlib.Omega.{arith}
 use Rattle.job.specs.Job.{Job, shotCount, Valid}
-use Rattle.grid.specs.Numbers.{upTo, AllBelow}
+use Rattle.ground.specs.Numbers.{upTo, AllBelow}
 use Rattle.grid.specs.Grid.{meetsOn, runOf, rowOf, slabOf}
 use Rattle.grid_filling.specs.Filling.{narrowed, Ready}
-use Rattle.grid.proofs.NumberLaws.{those-those, those-agree, below-upTo, below-those}
-use Rattle.grid.proofs.CellLaws.{digit-high, digit-low, cube-most, runs-few}
+use Rattle.ground.proofs.NumberLaws.{those-those, those-agree, below-upTo, below-those}
+use Rattle.ground.proofs.Digits.{digit-high, digit-low}
+use Rattle.grid.proofs.CellLaws.{cube-most, runs-few}
 
 module _ (job : Job) where
   open Job job using (field as F, edge as E, grid as G, coords)

@@ -7,14 +7,15 @@ use native.Mathlib.Numerals.{add-one}
 use native.Mathlib.Omega.{arith}
 use lib.ListN.{length, take, drop, set, getD, length-append, length-drop, length-set, take-append-drop}
 use lib.Seq.{take-suc, take-length, length-take-le, drop-drop, drop-cons, set-at, set-append-left, append-snoc, drop-length}
-use Rattle.lattice.specs.Sums.{join}
+use Rattle.ground.specs.Sums.{join}
 use Rattle.buffer.specs.Wrote.{Wrote}
 use Rattle.buffer.proofs.WroteLaws.{wrote-none, wrote-one, wrote-then, wrote-length, wrote-behind}
-use Rattle.grid.specs.Numbers.{upTo}
+use Rattle.ground.specs.Numbers.{upTo}
 use Rattle.grid.specs.Grid.{starts}
 use Rattle.grid_filling.specs.Filling.{runPlace, RunsIn, Ready, Grew}
 use Rattle.grid.proofs.StartLaws.{starts-length, starts-next}
-use Rattle.grid.proofs.NumberLaws.{upTo-length, join-next, join-length-next, join-length-up}
+use Rattle.ground.proofs.JoinLaws.{join-next, join-length-next, join-length-up}
+use Rattle.ground.proofs.NumberLaws.{upTo-length}
 
 -- ---- a slice whose places are numbered one by one
 

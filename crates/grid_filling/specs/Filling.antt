@@ -4,8 +4,8 @@ use mathlib.Core.Path.{_≡_}
 use mathlib.Core.List.{List, _++_}
 use Prim.Native.Nat.{ℕ, _+_, _≤_}
 use lib.ListN.{length, drop}
-use Rattle.lattice.specs.Sums.{join}
-use Rattle.grid.specs.Numbers.{those}
+use Rattle.ground.specs.Sums.{join}
+use Rattle.ground.specs.Numbers.{those}
 use Rattle.grid.specs.Grid.{meetsOn, starts}
 
 -- a slice that begins with the n numbers of a list, and then has anything

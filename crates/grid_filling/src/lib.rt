@@ -6,10 +6,9 @@
 ghost use mathlib.Core.Path.{_≡_};
 ghost use Prim.Native.Nat.{_+_, _-_, _*_, _≤_, _<_};
 ghost use lib.ListN.{length, set};
-ghost use Rattle.lattice.specs.Cells.{bit};
+ghost use Rattle.ground.specs.Numbers.{bit, upTo, AllBelow};
 ghost use Rattle.job.specs.Job.{jobOf, shotCount, Valid};
 ghost use Rattle.buffer.specs.Wrote.{Wrote};
-ghost use Rattle.grid.specs.Numbers.{upTo, AllBelow};
 ghost use Rattle.grid.specs.Grid.{runOf, rowOf, slabOf, need, withIndex};
 ghost use Rattle.grid_filling.specs.Filling.{Front, narrowed, Ready, Grew};
 use grid::intervals::cells_of;

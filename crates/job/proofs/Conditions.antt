@@ -18,7 +18,9 @@ use Rattle.job.specs.declared.Checked.the-variants.{Accepted, Refused}
 use Rattle.job.specs.Job.{Job, shots, shot, shotCount, Valid}
 use Rattle.job.specs.Checking.{outside, leaves, firstLeaving, settingTests, shotTests, tests, checked}
 use Rattle.job.specs.Conditions.{FirstOutside, Condition, broken-shot, too-many-shots, field-range, edge-range, grid-range, outside-field, Each, Says, First}
-use Rattle.job.proofs.Tests.{within, out, is-out, settled, or-false, or-true, or-true-left, or-true-right}
+use Rattle.ground.proofs.Bools.{or-false, or-true, or-true-left, or-true-right}
+use Rattle.ground.proofs.Tests.{settled}
+use Rattle.job.proofs.Tests.{within, out, is-out}
 use Rattle.job.proofs.Shots.{shots-count, shots-at, any-leaves, stays, stays-not, all-stay, first-leaves, earlier-stays, stay-at}
 use Rattle.job.proofs.Places.{passes, first-iff, none-each, none-iff}
 

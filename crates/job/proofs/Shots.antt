@@ -11,8 +11,7 @@ use borrow.Author.Tests.{lt-ltb, le-ltb, ltb-false}
 use Rattle.lattice.specs.Shots.{Shot, any, InField, AllInField}
 use Rattle.job.specs.Job.{shotsOf, shotAt, xAt, yAt, zAt, edgeAt}
 use Rattle.job.specs.Checking.{past, leaves, firstLeaving}
-use Rattle.job.proofs.Tests.{or-false, or-left, or-right}
-use Rattle.lattice.proofs.ShotLaws.{or-elim}
+use Rattle.ground.proofs.Bools.{or-false, or-left, or-right, or-elim}
 
 module _ (e : ℕ) where
   -- three numbers a shot

@@ -1,6 +1,5 @@
 -- How large the figures of a field of at most 1,024 are: every partial corner sum fits 64 bits with its sign, and so does the figure.
 use mathlib.Core.Path.{ap}
-use mathlib.Core.Bool.{Bool, true, false}
 use mathlib.Core.List.{List, [], _∷_}
 use Prim.Native.Nat.{ℕ, zero, suc, _*_, _^_, _<_, _≤_}
 use native.Mathlib.Nat.{mul-le-mul, mul-one, le-trans, le-of-eq}
@@ -8,13 +7,15 @@ use native.Mathlib.Omega.{arith}
 use lib.IntN.{natAbs}
 use lib.ListN.{length, take}
 use lib.Seq.{take-length}
-use Rattle.lattice.specs.Sums.{total}
-use Rattle.lattice.specs.Cells.{Cells, Within, fieldPoints, bit}
+use Rattle.ground.specs.Sums.{total}
+use Rattle.ground.proofs.Bits.{bit-most}
+use Rattle.ground.proofs.TotalLaws.{total-most}
+use Rattle.ground.specs.Numbers.{bit}
+use Rattle.lattice.specs.Cells.{Cells, Within, fieldPoints}
 use Rattle.lattice.specs.Pattern.{around, corner, ofByte}
 use Rattle.lattice.specs.Figures.{Figure, cellCount, term, largestTerm}
 use Rattle.lattice.specs.Listing.{Corner, corners, cornerCount, IsCorner, All, over, termAt, cornerSum}
-use Rattle.lattice.proofs.Integers.{natAbs-add}
-use Rattle.lattice.proofs.SumLaws.{total-bound}
+use Rattle.ground.proofs.Integers.{natAbs-add}
 use Rattle.lattice.proofs.ListingLaws.{length-corners}
 use Rattle.lattice.proofs.Order.{all-map, corners-are}
 use Rattle.lattice.proofs.TermBounds.{term-small}
@@ -41,17 +42,13 @@ all-take P (suc k) [] a = (tt, omega arith)
 all-take P (suc k) (v ∷ vs) a = let r = all-take P k vs (a .1) in ((a .0, r .0), omega (arith, r .1))
 
 -- ---- there are no more corners than lattice points
-bit-le : (b : Bool) → bit b ≤ 1
-bit-le true = omega arith
-bit-le false = omega arith
-
 count-most : (n : ℕ) (s : Cells) → cornerCount n s ≤ fieldPoints n
 unfolding cornerCount
 count-most n s =
     le-trans
-    (total-bound (suc n * (suc n * 1)) (λ x. total (suc n) λ y. total (suc n) λ z. bit (corner (around s x y z))) (λ x.
-    total-bound (suc n * 1) (λ y. total (suc n) λ z. bit (corner (around s x y z))) (λ y.
-    total-bound 1 (λ z. bit (corner (around s x y z))) (λ z. bit-le (corner (around s x y z))) (suc n)) (suc n)) (suc n))
+    (total-most (suc n) (suc n * (suc n * 1)) (λ x. total (suc n) λ y. total (suc n) λ z. bit (corner (around s x y z))) (λ x _.
+    total-most (suc n) (suc n * 1) (λ y. total (suc n) λ z. bit (corner (around s x y z))) (λ y _.
+    total-most (suc n) 1 (λ z. bit (corner (around s x y z))) (λ z _. bit-most (corner (around s x y z))))))
     (le-of-eq (rw mul-one))
 
 -- a field has no more points than a wider one

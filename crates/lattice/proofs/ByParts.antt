@@ -5,9 +5,9 @@ use mathlib.Core.Bool.{Bool, true, false}
 use Prim.Native.Nat.{ℕ, suc, _+_, _*_, _≤_}
 use native.Mathlib.Omega.{arith}
 use lib.IntN.{ℤ, pos, _+ℤ_, _-ℤ_, _*ℤ_, +ℤ-invr}
-use Rattle.lattice.specs.Sums.{total, sum}
-use Rattle.lattice.proofs.Integers.{*ℤ-dist, *ℤ-neg, *ℤ-assoc, one-*ℤ}
-use Rattle.lattice.proofs.SumLaws.{sum-ext, sum-sub, sum-scale, sum-total, fall, sum-by-parts}
+use Rattle.ground.specs.Sums.{total, sum}
+use Rattle.ground.proofs.Integers.{*ℤ-dist, *ℤ-neg, *ℤ-assoc, one-*ℤ}
+use Rattle.ground.proofs.SumLaws.{sum-ext, sum-sub, sum-scale, sum-total, fall, sum-by-parts}
 
 abbrev pub scale : Bool → ℕ → ℕ
 scale true x = x

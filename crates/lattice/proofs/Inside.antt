@@ -4,6 +4,7 @@ use mathlib.Core.Bool.{Bool, true, false}
 use Prim.Native.Nat.{ℕ, zero, suc, _≤_}
 use native.Mathlib.Omega.{arith}
 use lib.Dec.{T}
+use Rattle.ground.proofs.Bools.{is-false}
 use Rattle.lattice.specs.Cells.{Cells, Within, below, up}
 use Rattle.lattice.specs.Pattern.{Pattern, around, corner}
 use Rattle.lattice.specs.Axes.{x-axis}
@@ -11,10 +12,6 @@ use Rattle.lattice.proofs.PatternLaws.{still-no-corner}
 
 abbrev pub empty : Pattern
 empty a b c = false
-
-pub refute : (b : Bool) → (T b → ⊥) → b ≡ false
-refute true h = absurd (h tt)
-refute false h = refl
 
 up-le : (b : Bool) {n x : ℕ} → up b x ≤ n → x ≤ n
 up-le false h = h
@@ -28,7 +25,7 @@ module _ (n : ℕ) (s : Cells) (within : Within n s) where
   ends-inside (suc i) (suc j) (suc k) t = within i j k t
 
   pub past : (x y z : ℕ) → ((x ≤ n) × (y ≤ n) × (z ≤ n) → ⊥) → below s x y z ≡ false
-  past x y z h = refute (below s x y z) (λ t. h (ends-inside x y z t))
+  past x y z h = is-false (below s x y z) (λ t. h (ends-inside x y z t))
 
   pub outside : (x y z : ℕ) → ((x ≤ n) × (y ≤ n) × (z ≤ n) → ⊥) → around s x y z ≡ empty
   outside x y z h = fun-ext λ a. fun-ext λ b. fun-ext λ c.

@@ -5,8 +5,8 @@ use Prim.Native.Nat.{ℕ, suc, _+_}
 use native.Mathlib.Omega.{arith}
 use lib.Dec.{eqb, eqb→eq}
 use Rattle.lattice.specs.Cells.{Cells, below, up, OfFour, lengthBy, edge, innerEdge, edgeLength, innerLength, eitherEdge}
-use Rattle.lattice.proofs.SumLaws.{totals-plus}
-use Rattle.lattice.proofs.Cases.{eachFour-at}
+use Rattle.ground.proofs.TotalLaws.{totals-plus}
+use Rattle.ground.proofs.Cases.{eachFour-at}
 
 either-is : (q : Bool → Bool → Bool) → eitherEdge q ≡ edge q + innerEdge q
 either-is q = eqb→eq (eitherEdge q) (edge q + innerEdge q) (eachFour-at (λ q. eqb (eitherEdge q) (edge q + innerEdge q)) tt q)

@@ -7,13 +7,16 @@ use native.Mathlib.Nat.{mul-zero}
 use native.Mathlib.Omega.{arith}
 use lib.IntN.{ℤ, pos, _+ℤ_, _*ℤ_, +ℤ-assoc, +ℤ-idl, +ℤ-idr, *ℤ-zero}
 use lib.ListN.{length}
-use Rattle.lattice.specs.Sums.{sum, join}
-use Rattle.lattice.specs.Cells.{Cells, bit}
+use Rattle.ground.specs.Sums.{sum, join}
+use Rattle.ground.specs.Numbers.{bit}
+use Rattle.lattice.specs.Cells.{Cells}
 use Rattle.lattice.specs.Pattern.{Pattern, around, byte, corner, Term}
 use Rattle.lattice.specs.Figures.{Figure, Volume, Area, EdgeLength, InnerLength, term}
 use Rattle.lattice.specs.Listing.{Corner, here, corners, cornerCount, cornerRecord, bytes, listing, readBack, over, termAt, cornerSum}
-use Rattle.lattice.proofs.SumLaws.{sum-ext, total-ext}
-use Rattle.lattice.proofs.JoinLaws.{length-join}
+use Rattle.ground.proofs.Bits.{bit-length}
+use Rattle.ground.proofs.SumLaws.{sum-ext}
+use Rattle.ground.proofs.TotalLaws.{total-ext}
+use Rattle.ground.proofs.JoinLaws.{length-join}
 use Rattle.lattice.proofs.PointSums.{points}
 use Rattle.lattice.proofs.PatternLaws.{ofByte-byte, no-corner-zero}
 
@@ -34,11 +37,7 @@ length-bytes (v ∷ vs) = omega (arith, length-bytes vs)
 -- ---- how many corners
 length-here : (s : Cells) (x y z : ℕ) → length (here s x y z) ≡ bit (corner (around s x y z))
 unfolding here
-length-here s x y z = one (corner (around s x y z)) (record { x = x; y = y; z = z; pattern = byte (around s x y z) })
-  where
-    one : (b : Bool) (v : Corner) → length (cond b (v ∷ []) []) ≡ bit b
-    one true v = refl
-    one false v = refl
+length-here s x y z = bit-length (corner (around s x y z)) (record { x = x; y = y; z = z; pattern = byte (around s x y z) })
 
 pub length-corners : (n : ℕ) (s : Cells) → length (corners n s) ≡ cornerCount n s
 unfolding corners cornerCount

@@ -8,7 +8,7 @@ use native.Mathlib.Nat.{zero-add, suc-add}
 use native.Mathlib.Omega.{arith}
 use Rattle.lattice.specs.Cells.{Cells}
 use Rattle.lattice.specs.Pattern.{around, byte, corner}
-use Rattle.lattice.specs.Sums.{join}
+use Rattle.ground.specs.Sums.{join}
 use Rattle.lattice.specs.Listing.{Corner, here, corners, IsCorner, Precedes, All, Rising}
 
 -- ---- properties of all corners of a list

@@ -6,11 +6,13 @@ use Prim.Native.Nat.{ℕ, zero, suc, zero-le, _<_, _≤_}
 use lib.Dec.{T, eqb, eqb→eq, leb, leb→le}
 use lib.IntN.{ℤ, pos, negsuc, natAbs}
 use lib.ListN.{getD}
-use Rattle.lattice.specs.Sums.{total}
-use Rattle.lattice.specs.Cells.{bit}
+use Rattle.ground.specs.Sums.{total}
+use Rattle.ground.specs.Numbers.{bit}
 use Rattle.lattice.specs.Pattern.{Pattern, byte, ofByte, w, ax, ay, az, ex, ey, ez, ix, iy, iz, weights, isZero, someNonzero, corner}
 use Rattle.lattice.specs.Axes.{Axis, x-axis, y-axis, z-axis}
-use Rattle.lattice.proofs.Cases.{same, same-at, each, each-at, eachPattern-at, eachBelow-at, and-left, and-right}
+use Rattle.ground.proofs.Bools.{same, same-at, same-refl, and-left, and-right}
+use Rattle.ground.proofs.Cases.{each, each-at, eachBelow-at}
+use Rattle.lattice.proofs.Cases.{eachPattern-at}
 
 -- ---- the pattern byte
 pub ofByte-byte : (p : Pattern) → ofByte (byte p) ≡ p
@@ -97,13 +99,6 @@ corner-many = refl
 -- a pattern that does not change across one axis is no corner
 abbrev pub Still : Axis → Pattern → Type 0
 Still axis p = (b c : Bool) → turned axis p true b c ≡ turned axis p false b c
-
-same-refl : {a b : Bool} → b ≡ a → same a b ≡ true
-same-refl {a} e = ap (same a) e ∙ go a
-  where
-    go : (a : Bool) → same a a ≡ true
-    go true = refl
-    go false = refl
 
 still-changes : (axis : Axis) (p : Pattern) → Still axis p → changes axis p ≡ false
 still-changes axis p h = rw (same-refl (h false false), same-refl (h false true), same-refl (h true false), same-refl (h true true))

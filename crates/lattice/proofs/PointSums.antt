@@ -4,12 +4,13 @@ use mathlib.Core.Bool.{Bool, true, false}
 use Prim.Native.Nat.{ℕ, suc, _+_, _*_}
 use native.Mathlib.Nat.{one-mul, mul-one}
 use lib.IntN.{ℤ, pos, _+ℤ_, _-ℤ_, _*ℤ_}
-use Rattle.lattice.specs.Sums.{sum}
-use Rattle.lattice.specs.Cells.{Cells, Within, below, up, bit, volume, OfTwo, areaBy, square, OfFour, lengthBy, edge, innerEdge}
+use Rattle.ground.specs.Sums.{sum}
+use Rattle.ground.specs.Numbers.{bit}
+use Rattle.lattice.specs.Cells.{Cells, Within, below, up, volume, OfTwo, areaBy, square, OfFour, lengthBy, edge, innerEdge}
 use Rattle.lattice.specs.Pattern.{Pattern, around, sign, both, w, ax, ay, az, ex, ey, ez, ix, iy, iz, across-x, across-y, across-z, along-x, along-y, along-z, volumeTerm}
 use Rattle.lattice.specs.Figures.{Figure, Volume, Area, EdgeLength, InnerLength, cellCount, term}
-use Rattle.lattice.proofs.Integers.{one-*ℤ, minus-one-*ℤ, *ℤ-dist, *ℤ-assoc}
-use Rattle.lattice.proofs.SumLaws.{sum-ext, sum-add}
+use Rattle.ground.proofs.Integers.{one-*ℤ, minus-one-*ℤ, *ℤ-dist, *ℤ-assoc}
+use Rattle.ground.proofs.SumLaws.{sum-ext, sum-add}
 use Rattle.lattice.proofs.ByParts.{scale, falls, countedℕ, by-parts-count, Vanishes}
 use Rattle.lattice.proofs.Inside.{empty, outside}
 

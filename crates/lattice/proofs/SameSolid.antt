@@ -1,43 +1,30 @@
 -- Two listings are the same exactly if the two solids have the same cells, whatever their fields.
 -- A solid is known by the weight w of each point, and a listing tells those weights; a wider field lists nothing more.
 use mathlib.Core.Path.{_≡_, refl, sym, _∙_, ap, subst, fun-ext}
-use mathlib.Core.Bool.{Bool, true, false, cond}
+use mathlib.Core.Bool.{false, cond}
 use mathlib.Core.Logic.{_↔_}
 use mathlib.Core.List.{[], _∷_}
 use Prim.Native.Nat.{ℕ, zero, suc, _+_, _-_, _≤_}
-use native.Mathlib.Nat.{add-comm, zero-add, suc-add, add-suc}
-use native.Mathlib.Decide.{decLe}
+use native.Mathlib.Nat.{add-comm, add-suc}
 use native.Mathlib.Omega.{arith}
-use lib.Dec.{T, eqb, eqb→eq, eqb-refl}
-use lib.IntN.{ℤ, pos, _+ℤ_, _-ℤ_, negℤ, +ℤ-assoc, +ℤ-idl, +ℤ-idr, +ℤ-invr, negℤ-+ℤ, negℤ-negℤ}
+use lib.Dec.{eqb}
+use lib.IntN.{ℤ, pos}
 use lib.ListN.{length, getD}
 use lib.Seq.{ext-getD}
-use Rattle.lattice.specs.Sums.{sum, join}
-use Rattle.lattice.specs.Cells.{Cells, Within, below, bit}
+use Rattle.ground.specs.Sums.{join}
+use Rattle.ground.proofs.Bits.{bit-known}
+use Rattle.ground.specs.Numbers.{bit}
+use Rattle.lattice.specs.Cells.{Cells, Within, below}
 use Rattle.lattice.specs.Pattern.{around, byte, corner, w, Term}
 use Rattle.lattice.specs.Listing.{here, corners, listing, bytes, readBack, cornerSum, SameBytes}
-use Rattle.lattice.proofs.SumLaws.{fall, sum-ext, sum-zero}
-use Rattle.lattice.proofs.JoinLaws.{join-ext, join-nil, join-end}
+use Rattle.ground.proofs.SumLaws.{fall, known-by-falls, sum-ext, pick, cond-zero, sum-cond, sum-pick}
+use Rattle.ground.proofs.JoinLaws.{join-ext, join-nil, join-end}
 use Rattle.lattice.proofs.Inside.{outside-no-corner}
 use Rattle.lattice.proofs.PatternLaws.{no-corner-zero}
 use Rattle.lattice.proofs.PointSums.{signs-three}
 use Rattle.lattice.proofs.ListingLaws.{readBack-bytes, corners-points}
 
 -- ---- a solid is known by the weight w of each point
-sub-sub : (a b : ℤ) → a -ℤ (a -ℤ b) ≡ b
-sub-sub a b = rw (negℤ-+ℤ, negℤ-negℤ, ← +ℤ-assoc a (negℤ a) b, +ℤ-invr, +ℤ-idl)
-
--- a function of ℕ is known by its value at 0 and its falls
-known-by-falls : (f g : ℕ → ℤ) → f 0 ≡ g 0 → ((x : ℕ) → fall f x ≡ fall g x) → (x : ℕ) → f x ≡ g x
-known-by-falls f g z h zero = z
-known-by-falls f g z h (suc x) = sym (sub-sub (f x) (f (suc x))) ∙ rw (h x, known-by-falls f g z h x) (sub-sub (g x) (g (suc x)))
-
-bit-known : (a b : Bool) → pos (bit a) ≡ pos (bit b) → a ≡ b
-bit-known true true h = refl
-bit-known true false h = let e : _≡_ {A = ℕ} 1 0 = cc in absurd (omega arith)
-bit-known false true h = let e : _≡_ {A = ℕ} 0 1 = cc in absurd (omega arith)
-bit-known false false h = refl
-
 none-y : (s : Cells) (x z : ℕ) → below s x 0 z ≡ false
 none-y s zero z = refl
 none-y s (suc x) z = refl
@@ -98,48 +85,6 @@ same-corners n m s t hs ht e = ap (corners n) path ∙ sym (wider n t (subst (Wi
     path = fun-ext λ i. fun-ext λ j. fun-ext λ k. e i j k
 
 -- ---- a listing tells the weight w of each point
-abbrev pick : ℕ → ℕ → ℤ → ℤ
-pick a i v = cond (eqb a i) v (pos 0)
-
-cond-zero : (b : Bool) {v : ℤ} → v ≡ pos 0 → cond b v (pos 0) ≡ pos 0
-cond-zero true h = h
-cond-zero false h = refl
-
-sum-cond : (b : Bool) (n : ℕ) (f : ℕ → ℤ) → sum n (λ i. cond b (f i) (pos 0)) ≡ cond b (sum n f) (pos 0)
-sum-cond true n f = refl
-sum-cond false n f = sum-zero n (λ i. refl)
-
-pick-other : (a i : ℕ) (v : ℤ) → (a ≡ i → ⊥) → pick a i v ≡ pos 0
-pick-other a i v h = go (eqb a i) (λ t. h (eqb→eq a i t))
-  where
-    go : (b : Bool) → (T b → ⊥) → cond b v (pos 0) ≡ pos 0
-    go true f = absurd (f tt)
-    go false f = refl
-
-pick-same : (a : ℕ) (v : ℤ) → pick a a v ≡ v
-pick-same a v = go (eqb a a) (eqb-refl a)
-  where
-    go : (b : Bool) → T b → cond b v (pos 0) ≡ v
-    go true t = refl
-    go false t = absurd t
-
-sum-before : (n a : ℕ) (f : ℕ → ℤ) → n ≤ a → sum n (λ i. pick a i (f i)) ≡ pos 0
-unfolding sum
-sum-before zero a f h = refl
-sum-before (suc n) a f h = rw (sum-before n a f (omega arith), pick-other a n (f n) (λ e. omega arith))
-
-sum-past : (k a : ℕ) (f : ℕ → ℤ) → sum (k + suc a) (λ i. pick a i (f i)) ≡ f a
-unfolding sum
-sum-past zero a f = rw (zero-add, sum-before a a f (omega arith), pick-same a (f a), +ℤ-idl)
-sum-past (suc k) a f = rw (suc-add k (suc a), sum-past k a f, pick-other a (k + suc a) (f (k + suc a)) (λ e. omega arith), +ℤ-idr)
-
-sum-pick : (n a : ℕ) (f : ℕ → ℤ) → ((i : ℕ) → n ≤ i → f i ≡ pos 0) → sum n (λ i. pick a i (f i)) ≡ f a
-sum-pick n a f h = go (decLe n a)
-  where
-    go : Dec (n ≤ a) → sum n (λ i. pick a i (f i)) ≡ f a
-    go (yes le) = sum-before n a f le ∙ sym (h a le)
-    go (no gt) = let e : n - suc a + suc a ≡ n = omega arith in ap (λ k. sum k (λ i. pick a i (f i))) (sym e) ∙ sum-past (n - suc a) a f
-
 module _ (x₀ y₀ z₀ : ℕ) where
   weight-there : Term
   weight-there x y z p = pick x₀ x (pick y₀ y (pick z₀ z (w p)))

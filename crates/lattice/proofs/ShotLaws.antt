@@ -1,21 +1,13 @@
 -- Shots that stay in the field cover cells within it.
-use mathlib.Core.Bool.{Bool, true, false, _&&_, _||_}
+use mathlib.Core.Bool.{_&&_}
 use mathlib.Core.List.{List, [], _∷_}
 use Prim.Native.Nat.{ℕ, _+_, _<_}
 use native.Mathlib.Omega.{arith}
 use lib.Dec.{T, leb, ltb, ltb→lt}
+use Rattle.ground.proofs.Bools.{and-elim, or-elim}
 use Rattle.lattice.specs.Cells.{Within}
 use Rattle.lattice.specs.Shots.{Shot, spans, covers, cells, any, InField, AllInField}
 
-pub and-elim : (a b : Bool) → T (a && b) → T a × T b
-and-elim true b t = (tt, t)
-and-elim false b t = absurd t
-
-pub or-elim : {C : Type 0} (a b : Bool) → T (a || b) → (T a → C) → (T b → C) → C
-or-elim true b t f g = f tt
-or-elim false b t f g = g t
-
--- ---- shots that stay in the field
 span-end : (e a i : ℕ) → T (spans e a i) → i < a + e
 span-end e a i t = ltb→lt i (a + e) (and-elim (leb a i) (ltb i (a + e)) t .1)
 

@@ -5,7 +5,7 @@ use native.Mathlib.Omega.{arith}
 use lib.IntN.{ℤ, pos, natAbs, _+ℤ_, _*ℤ_}
 use Rattle.lattice.specs.Pattern.{Pattern, w, ax, ay, az, ex, ey, ez, ix, iy, iz}
 use Rattle.lattice.specs.Figures.{Figure, Volume, Area, EdgeLength, InnerLength, term, largestTerm}
-use Rattle.lattice.proofs.Integers.{natAbs-add, natAbs-mul}
+use Rattle.ground.proofs.Integers.{natAbs-add, natAbs-mul}
 use Rattle.lattice.proofs.PatternLaws.{weight-small}
 
 -- ---- products

@@ -1,9 +1,10 @@
 -- Boxes of cells, by their two ends on each axis, six numbers a box; and the cells that a number of them cover.
-use mathlib.Core.Bool.{Bool, false, _&&_, _||_}
+use mathlib.Core.Bool.{Bool, _&&_}
 use mathlib.Core.List.{List}
-use Prim.Native.Nat.{ℕ, zero, suc, _+_, _*_, _≤_, _<_}
+use Prim.Native.Nat.{ℕ, _+_, _*_, _≤_, _<_}
 use lib.Dec.{leb, ltb}
 use lib.ListN.{getD}
+use Rattle.ground.specs.Numbers.{anyTo}
 use Rattle.lattice.specs.Cells.{Cells}
 use Rattle.lattice.specs.Shots.{Shot}
 
@@ -22,11 +23,6 @@ lies a b i = leb a i && ltb i b
 
 abbrev pub boxCovers : Box → Cells
 boxCovers t i j k = lies (t .x) (t .x-end) i && (lies (t .y) (t .y-end) j && lies (t .z) (t .z-end) k)
-
--- some number below n passes a test
-unfoldable pub anyTo : ℕ → (ℕ → Bool) → Bool
-anyTo zero f = false
-anyTo (suc n) f = anyTo n f || f n
 
 -- box number i of a list of numbers
 abbrev pub boxAt : List ℕ → ℕ → Box

@@ -3,7 +3,8 @@
 use mathlib.Core.Bool.{Bool, true, false, not}
 use Prim.Native.Nat.{ℕ, zero, suc, _+_, _*_, _<_}
 use lib.Dec.{T, eqb}
-use Rattle.lattice.specs.Sums.{total}
+use Rattle.ground.specs.Sums.{total}
+use Rattle.ground.specs.Numbers.{bit}
 
 -- cell (i, j, k) fills i to i + 1, j to j + 1, k to k + 1
 abbrev pub Cells : Type 0
@@ -36,10 +37,6 @@ up false x = x
 up true x = suc x
 
 -- volume: covered cells
-abbrev pub bit : Bool → ℕ
-bit true = 1
-bit false = 0
-
 unfoldable pub volume : ℕ → Cells → ℕ
 volume n s = total n λ i. total n λ j. total n λ k. bit (s i j k)
 

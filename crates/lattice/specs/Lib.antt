@@ -1,4 +1,3 @@
-pub mod Sums
 pub mod Cells
 pub mod Pattern
 pub mod Figures

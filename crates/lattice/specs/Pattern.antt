@@ -5,7 +5,8 @@ use mathlib.Core.List.{List, [], _∷_}
 use Prim.Native.Nat.{ℕ, _+_, _*_, _/_, _%_, _^_}
 use lib.Dec.{eqb}
 use lib.IntN.{ℤ, pos, negsuc, _+ℤ_, _-ℤ_, _*ℤ_}
-use Rattle.lattice.specs.Cells.{Cells, below, up, bit, OfTwo, OfFour, square, edge, innerEdge}
+use Rattle.ground.specs.Numbers.{bit}
+use Rattle.lattice.specs.Cells.{Cells, below, up, OfTwo, OfFour, square, edge, innerEdge}
 
 abbrev pub Pattern : Type 0
 Pattern = Bool → Bool → Bool → Bool

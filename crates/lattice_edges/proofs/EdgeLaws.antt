@@ -1,5 +1,5 @@
 -- The unit edges and the corner test as the pattern byte shows them: tests that are computed at all 256 bytes.
-use mathlib.Core.Path.{_≡_, refl, sym, _∙_, ap, subst}
+use mathlib.Core.Path.{_≡_, sym, _∙_, ap}
 use mathlib.Core.Bool.{Bool, true, false, cond, not}
 use Prim.Native.Nat.{ℕ, zero, suc, zero-le, _+_, _*_, _/_, _%_, _<_, _≤_}
 use native.Mathlib.Omega.{arith}
@@ -7,21 +7,15 @@ use lib.Dec.{T, eqb, eqb→eq}
 use lib.Bits.{bitAnd, bitXor}
 use lib.Count.{ones, onesIn}
 use borrow.Author.Tests.{eq-eqb, ne-eqb}
-use Rattle.lattice.specs.Cells.{bit, covered, edge, innerEdge}
+use Rattle.ground.specs.Numbers.{bit}
+use Rattle.lattice.specs.Cells.{covered, edge, innerEdge}
 use Rattle.lattice.specs.Pattern.{ofByte, corner, someNonzero, w, ax, ay, az, ex, ey, ez, ix, iy, iz}
 use Rattle.lattice_edges.specs.UnitEdges.{fourAbout}
 use Rattle.lattice_edges.specs.declared.UnitEdge.{UnitEdge}
 use Rattle.lattice_edges.specs.declared.UnitEdge.the-variants.{BelowX, AboveX, BelowY, AboveY, BelowZ, AboveZ}
-use Rattle.lattice.proofs.Cases.{same, same-at, each, each-at, eachFour-at, eachFrom, eachBelow-at}
-
--- of two tests the one that a third selects
-chosen-true : (a b c : Bool) → T (cond a b c) → a ≡ true → T b
-chosen-true true b c t e = t
-chosen-true false b c t e = absurd (subst T (sym e) tt)
-
-chosen-false : (a b c : Bool) → T (cond a b c) → a ≡ false → T c
-chosen-false true b c t e = absurd (subst T e tt)
-chosen-false false b c t e = t
+use Rattle.ground.proofs.Bools.{not-off, same, same-at}
+use Rattle.ground.proofs.Conds.{chosen-true, chosen-false}
+use Rattle.ground.proofs.Cases.{each, each-at, eachFour-at, eachFrom, eachBelow-at}
 
 -- ---- the four cells about a unit edge in the byte
 abbrev pub maskOf : UnitEdge → ℕ
@@ -137,15 +131,11 @@ all-on : T (eachFrom onXYZ 0 256)
 unfolding onXYZ onYZ ofByte corner someNonzero w ax ay az ex ey ez ix iy iz
 all-on = tt
 
-refuted : (b : Bool) → T (not b) → false ≡ b
-refuted true t = absurd t
-refuted false t = refl
-
 module _ (p : ℕ) (h : p < 256) where
   pub steady-on-x : p / 16 ≡ p % 16 → false ≡ corner (ofByte p)
   unfolding onXYZ
-  steady-on-x e = refuted (corner (ofByte p))
-      (chosen-true (eqb (p / 16) (p % 16)) (not (corner (ofByte p))) (onYZ p) (eachBelow-at onXYZ 256 all-on p h) (eq-eqb (p / 16) (p % 16) e))
+  steady-on-x e = sym (not-off (corner (ofByte p))
+      (chosen-true (eqb (p / 16) (p % 16)) (not (corner (ofByte p))) (onYZ p) (eachBelow-at onXYZ 256 all-on p h) (eq-eqb (p / 16) (p % 16) e)))
 
   past-x : (p / 16 ≡ p % 16 → ⊥) → T (onYZ p)
   unfolding onXYZ
@@ -153,8 +143,8 @@ module _ (p : ℕ) (h : p < 256) where
 
   pub steady-on-y : (p / 16 ≡ p % 16 → ⊥) → steady-y p ≡ 0 → false ≡ corner (ofByte p)
   unfolding onYZ
-  steady-on-y e f = refuted (corner (ofByte p))
-      (chosen-true (eqb (steady-y p) 0) (not (corner (ofByte p))) (same (not (eqb (steady-z p) 0)) (corner (ofByte p))) (past-x e) (eq-eqb (steady-y p) 0 f))
+  steady-on-y e f = sym (not-off (corner (ofByte p))
+      (chosen-true (eqb (steady-y p) 0) (not (corner (ofByte p))) (same (not (eqb (steady-z p) 0)) (corner (ofByte p))) (past-x e) (eq-eqb (steady-y p) 0 f)))
 
   pub z-decides : (p / 16 ≡ p % 16 → ⊥) → (steady-y p ≡ 0 → ⊥) → not (eqb (steady-z p) 0) ≡ corner (ofByte p)
   unfolding onYZ

@@ -4,15 +4,16 @@ use mathlib.Core.Bool.{Bool, true, _&&_}
 use mathlib.Core.List.{List, [], _∷_}
 use lib.Dec.{T, eqb, eqb→eq}
 use lib.IntN.{pos}
-use Rattle.lattice.specs.Sums.{total}
+use Rattle.ground.specs.Sums.{total}
 use Rattle.lattice.specs.Cells.{Cells, volume, areaBy, lengthBy}
 use Rattle.lattice.specs.Pattern.{corner, someNonzero, w, ax, ay, az, ex, ey, ez, ix, iy, iz}
 use Rattle.lattice.specs.Figures.{Figure, cellCount}
 use Rattle.lattice.specs.Listing.{cornerCount}
 use Rattle.lattice.specs.Shots.{cells, any}
 use Rattle.lattice_known.specs.KnownJobs.{KnownJob, stated, knownJobs}
-use Rattle.lattice.proofs.Integers.{eqZ, eqZ-at}
-use Rattle.lattice.proofs.Cases.{and-left, and-right, eachFigure, eachFigure-at}
+use Rattle.ground.proofs.Integers.{eqZ, eqZ-at}
+use Rattle.ground.proofs.Bools.{and-left, and-right}
+use Rattle.lattice.proofs.Cases.{eachFigure, eachFigure-at}
 
 -- a job has the totals of the table
 pub record Known (j : KnownJob) : Type 0 where

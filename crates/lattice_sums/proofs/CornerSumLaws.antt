@@ -17,7 +17,7 @@ use Rattle.lattice.specs.Listing.{Corner, corners, termAt, over, cornerSum}
 use Rattle.lattice_sums.specs.CornerSums.{sumIn, value, sumsBy, sumsOf, added, Room, RoomFor, Whole, totalsOf}
 use Rattle.lattice_sums.specs.declared.sums.Totals.{Totals}
 use Rattle.lattice_sums.specs.declared.sums.CornerSums.{CornerSums}
-use Rattle.lattice.proofs.Integers.{natAbs-add}
+use Rattle.ground.proofs.Integers.{natAbs-add}
 use Rattle.lattice.proofs.TermBounds.{scaled-small, term-small}
 use Rattle.lattice.proofs.ListingLaws.{over-append}
 use Rattle.lattice.proofs.Agreement.{corner-sums, count-is}

@@ -1,2 +1,1 @@
--- a table computed once gives the weight at each entry
-pub mod TableLaws
+pub mod TableLaws  -- a table computed once gives the weight at each entry

@@ -1,2 +1,1 @@
--- the packed table as it is filled
-pub mod PackedLaws
+pub mod PackedLaws  -- the packed table as it is filled

@@ -12,9 +12,9 @@ use lib.Signed.{mag}
 use mir.Syntax.{w8, w64}
 use mir.Val.{SFits, toZ, ofZ}
 use mir.Facts.{toZ-ofZ}
+use Rattle.ground.proofs.Cases.{eachBelow-at}
 use Rattle.lattice.specs.Pattern.{Pattern, ofByte}
 use Rattle.lattice_weights.specs.Packed.{weight, FirstWeights}
-use Rattle.lattice.proofs.Cases.{eachBelow-at}
 use Rattle.lattice.proofs.PatternLaws.{largest, weight-small}
 
 -- ---- signed numbers that fit
@@ -39,15 +39,15 @@ pub no-weight : {t : List ℤ} → length t ≡ 4096 → FirstWeights 0 t
 no-weight e = record { long = e; entry = λ p j h l. absurd (omega arith) }
 
 -- the weights before weight j, and weight j of the patterns before q
-pub record FilledTo (j q : ℕ) (t : List ℤ) : Type 0 where
+pub record PackedTo (j q : ℕ) (t : List ℤ) : Type 0 where
   pub before : FirstWeights j t
   pub done : (p : ℕ) → p < q → getD t (16 * p + j) (pos 0) ≡ weight j (ofByte p)
 
-pub filled-none : (j : ℕ) {t : List ℤ} → FirstWeights j t → FilledTo j 0 t
-filled-none j h = record { before = h; done = λ p l. absurd (omega arith) }
+pub packed-none : (j : ℕ) {t : List ℤ} → FirstWeights j t → PackedTo j 0 t
+packed-none j h = record { before = h; done = λ p l. absurd (omega arith) }
 
-pub filled-more : (j q : ℕ) (t : List ℤ) (v : ℤ) → j < 10 → q < 256 → v ≡ weight j (ofByte q) → FilledTo j q t → FilledTo j (q + 1) (set t (16 * q + j) v)
-filled-more j q t v hj hq e f = record {
+pub packed-more : (j q : ℕ) (t : List ℤ) (v : ℤ) → j < 10 → q < 256 → v ≡ weight j (ofByte q) → PackedTo j q t → PackedTo j (q + 1) (set t (16 * q + j) v)
+packed-more j q t v hj hq e f = record {
   before = record {
     long = length-set t (16 * q + j) v ∙ f .before .long;
     entry = λ p k h l. getD-set-other t (16 * q + j) (16 * p + k) v (pos 0) (λ same. omega arith) ∙ f .before .entry p k h l;
@@ -57,8 +57,8 @@ filled-more j q t v hj hq e f = record {
       (getD-set-same t (16 * q + j) v (pos 0) (omega (arith, f .before .long)) ∙ e);
 }
 
-pub filled-all : (j : ℕ) {t : List ℤ} → FilledTo j 256 t → FirstWeights (j + 1) t
-filled-all j {t} f = record {
+pub packed-all : (j : ℕ) {t : List ℤ} → PackedTo j 256 t → FirstWeights (j + 1) t
+packed-all j {t} f = record {
   long = f .before .long;
   entry = λ p k h. below-more (λ k. getD t (16 * p + k) (pos 0) ≡ weight k (ofByte p)) j (λ k l. f .before .entry p k h l) (f .done p h) k;
 }

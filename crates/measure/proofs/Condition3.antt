@@ -21,7 +21,7 @@ use Rattle.lattice.specs.Shots.{Shot, covers}
 use Rattle.lattice.specs.Listing.{corners, listing, cornerSum, SameBytes}
 use Rattle.lattice_sums.specs.CornerSums.{value, sumsOf}
 use Rattle.lattice_sums.specs.declared.sums.Totals.{Totals}
-use Rattle.lattice.proofs.Cases.{bool-ext}
+use Rattle.ground.proofs.Bools.{bool-ext}
 use Rattle.lattice.proofs.LengthLaws.{either-length}
 use Rattle.lattice.proofs.Agreement as agreement
 use Rattle.lattice.proofs.SameSolid.{same-corners}

@@ -6,15 +6,15 @@ use Prim.Native.Nat.{ℕ, zero, suc, _+_}
 use native.Mathlib.Nat.{add-zero}
 use native.Mathlib.Numerals.{add-one}
 use native.Mathlib.Omega.{arith}
-use Rattle.lattice.specs.Sums.{total}
-use Rattle.lattice.specs.Cells.{Cells, Within, below, up, bit, volume, areaBy, square, area, OfFour, lengthBy, edge, innerEdge}
+use Rattle.ground.specs.Sums.{total}
+use Rattle.ground.specs.Numbers.{bit}
+use Rattle.lattice.specs.Cells.{Cells, Within, below, up, volume, areaBy, square, area, OfFour, lengthBy, edge, innerEdge}
 use Rattle.lattice.specs.Pattern.{around}
 use Rattle.lattice.specs.Listing.{cornerCount}
 use Rattle.lattice_sums.specs.CornerSums.{totalsOf}
 use Rattle.lattice_sums.specs.declared.sums.Totals.{Totals}
 use Rattle.lattice.proofs.Inside.{past}
-use Rattle.lattice.proofs.SumLaws.{totals-plus}
-use Rattle.grid.proofs.TotalLaws.{total-agree}
+use Rattle.ground.proofs.TotalLaws.{totals-plus, total-agree}
 use Rattle.measure_tallies.specs.Tallies.{edgesAbove, atPattern, nothing, plus}
 use Rattle.measure_cells.specs.Points.{sumTo, fieldTo}
 

@@ -7,17 +7,18 @@ use native.Mathlib.Nat.{add-zero, add-assoc, zero-mul, div-mul-le-self, lt-div-m
 use native.Mathlib.Numerals.{add-one}
 use native.Mathlib.Omega.{arith}
 use lib.ListN.{length}
-use Rattle.lattice.specs.Cells.{Cells, bit, below}
+use Rattle.ground.specs.Numbers.{bit, upTo, those, AllBelow}
+use Rattle.lattice.specs.Cells.{Cells, below}
 use Rattle.lattice.specs.Pattern.{around, byte, ofByte}
 use Rattle.lattice.specs.Shots.{cells}
 use Rattle.lattice.proofs.PatternLaws.{ofByte-byte}
 use Rattle.lattice_sums.specs.declared.sums.Totals.{Totals}
 use Rattle.job.specs.Job.{Job, shots, shotCount, Valid}
-use Rattle.grid.specs.Numbers.{upTo, those, AllBelow}
 use Rattle.grid.specs.Grid.{runOf, between, Starts, Holds}
 use Rattle.grid_cover.specs.Cover.{runCovers}
-use Rattle.grid.proofs.NumberLaws.{below-upTo, below-those}
-use Rattle.grid.proofs.CellLaws.{digits-below, square-most, cube-most, run-few}
+use Rattle.ground.proofs.NumberLaws.{below-upTo, below-those}
+use Rattle.ground.proofs.Digits.{digits-below}
+use Rattle.grid.proofs.CellLaws.{square-most, cube-most, run-few}
 use Rattle.grid.proofs.ShotLaws.{width-times}
 use Rattle.grid_runs.proofs.ReadLaws.{holds-starts, holds-run}
 use Rattle.grid_cover.proofs.CoverLaws.{run-none}

@@ -1,7 +1,8 @@
 -- Counting point by point what each counts (`measure_tallies`). Over all points of a field every cell, square and edge is met once: the sums
 -- are the totals of docs/SCOPE.md (proofs/FieldLaws).
 use Prim.Native.Nat.{ℕ, zero, suc, _+_, _*_, _≤_, _<_}
-use Rattle.lattice.specs.Cells.{Cells, bit, below}
+use Rattle.ground.specs.Numbers.{bit}
+use Rattle.lattice.specs.Cells.{Cells, below}
 use Rattle.lattice.specs.Pattern.{around}
 use Rattle.lattice_sums.specs.declared.sums.Totals.{Totals}
 use Rattle.measure_tallies.specs.Tallies.{atPattern, nothing, plus}

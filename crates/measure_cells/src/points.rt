@@ -4,7 +4,8 @@
 ghost use mathlib.Core.Path.{_≡_};
 ghost use Prim.Native.Nat.{_+_, _*_, _/_, _≤_};
 ghost use lib.ListN.{length};
-ghost use Rattle.lattice.specs.Cells.{bit, below};
+ghost use Rattle.ground.specs.Numbers.{bit};
+ghost use Rattle.lattice.specs.Cells.{below};
 ghost use Rattle.lattice.specs.Shots.{cells};
 ghost use Rattle.lattice_sums.specs.CornerSums.{totalsOf};
 ghost use Rattle.job.specs.Job.{jobOf, shotsOf, Valid};

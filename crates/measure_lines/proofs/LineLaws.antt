@@ -11,9 +11,9 @@ use Rattle.lattice.specs.Cells.{up}
 use Rattle.lattice.specs.Pattern.{around}
 use Rattle.lattice.specs.Shots.{spans, covers}
 use Rattle.job.specs.Job.{shotCount, xAt, yAt, zAt, edgeAt, shotAt}
-use Rattle.job.proofs.Tests.{and-true}
-use Rattle.grid.specs.Numbers.{those}
-use Rattle.grid.proofs.NumberLaws.{those-length}
+use Rattle.ground.proofs.Bools.{and-true}
+use Rattle.ground.specs.Numbers.{those}
+use Rattle.ground.proofs.NumberLaws.{those-length}
 use Rattle.grid_cover.specs.Cover.{shotCovers, isSome, firstCovering, runCovers}
 use Rattle.grid_cover.proofs.CoverLaws.{first-among}
 use Rattle.grid_cover.proofs.CoverRuns.{below-agree}

@@ -4,7 +4,7 @@ ghost use Prim.Native.Nat.{_≤_, _<_};
 ghost use lib.ListN.{length};
 ghost use Rattle.buffer.specs.Wrote.{Wrote};
 ghost use Rattle.job.specs.Job.{shotCount};
-ghost use Rattle.grid.specs.Numbers.{AllBelow, those};
+ghost use Rattle.ground.specs.Numbers.{AllBelow, those};
 ghost use Rattle.measure_lines.specs.Lines.{reaches, reachesLine};
 use grid::put::put_if;
 use job::shot;

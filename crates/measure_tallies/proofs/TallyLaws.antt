@@ -6,10 +6,11 @@ use native.Mathlib.Nat.{add-zero, mod-eq-of-lt}
 use native.Mathlib.Omega.{arith}
 use lib.Dec.{eqb, leb, leb→le}
 use borrow.Author.Tests.{eq-eqb, ne-eqb}
-use Rattle.lattice.specs.Cells.{bit, square, OfFour, covered, edge, innerEdge}
+use Rattle.ground.specs.Numbers.{bit}
+use Rattle.lattice.specs.Cells.{square, OfFour, covered, edge, innerEdge}
 use Rattle.lattice.specs.Pattern.{Pattern, ofByte, w, ax, ay, az, ex, ey, ez, ix, iy, iz, someNonzero, corner}
 use Rattle.lattice_sums.specs.declared.sums.Totals.{Totals}
-use Rattle.lattice.proofs.Cases.{eachFour-at}
+use Rattle.ground.proofs.Cases.{eachFour-at}
 use Rattle.measure_tallies.specs.Tallies.{edgesAbove, atPattern, nothing, plus, differs, AtMost}
 
 pub alike : (a b : ℕ) → a ≡ b → 0 ≡ differs a b

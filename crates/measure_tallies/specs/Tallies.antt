@@ -2,7 +2,8 @@
 use mathlib.Core.Bool.{true, not}
 use Prim.Native.Nat.{ℕ, _+_, _≤_}
 use lib.Dec.{eqb}
-use Rattle.lattice.specs.Cells.{bit, square, OfFour, edge, innerEdge}
+use Rattle.ground.specs.Numbers.{bit}
+use Rattle.lattice.specs.Cells.{square, OfFour, edge, innerEdge}
 use Rattle.lattice.specs.Pattern.{Pattern, corner}
 use Rattle.lattice_sums.specs.declared.sums.Totals.{Totals}
 

@@ -6,7 +6,7 @@ use Prim.Native.Nat.{ℕ, zero, suc, _+_, _-_, _≤_}
 use native.Mathlib.Omega.{arith}
 use lib.Dec.{T}
 use lib.ListN.{length, drop, length-append, drop-of-length-le}
-use Rattle.lattice.proofs.Cases.{and-left, and-right}
+use Rattle.ground.proofs.Bools.{and-left, and-right}
 use Rattle.job.specs.declared.Refusal.{Refusal}
 use Rattle.job.specs.Job.{jobOf, shotsOf, shotCount}
 use Rattle.shotfile_records.specs.declared.Fields.{Fields}

@@ -12,7 +12,7 @@ use lib.Seq.{drop-cons}
 use borrow.Author.Tests.{ltb-true, leb-true, eqb-true, eqb-false, eq-eqb, ne-eqb}
 use Rattle.job.specs.declared.Refusal.{Refusal}
 use Rattle.job.specs.declared.Refusal.the-variants.{UnknownBit, CutShort}
-use Rattle.lattice.proofs.Cases.{and-left, and-right}
+use Rattle.ground.proofs.Bools.{and-left, and-right}
 use Rattle.shotfile_records.specs.declared.Fields.{Fields}
 use Rattle.shotfile_records.specs.declared.Taken.the-variants.{Whole, Refused}
 use Rattle.shotfile_records.specs.Records.{wordAt, fieldAt, secondAt, thirdAt, endAt, fieldsAt, recordAt, bitOf, fieldOf, mapOf, recordOf, needless, tight}

@@ -1,2 +1,1 @@
--- the boxes of shots as numbers
-pub mod BoxLaws
+pub mod BoxLaws  -- the boxes of shots as numbers

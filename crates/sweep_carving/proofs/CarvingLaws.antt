@@ -6,8 +6,10 @@ use Prim.Native.Nat.{ℕ, _+_, _≤_, _<_}
 use native.Mathlib.Omega.{arith}
 use lib.ListN.{length}
 use borrow.Author.Tests.{lt-ltb}
-use Rattle.lattice.proofs.BoxLaws.{any-to-more}
-use Rattle.lattice.specs.Boxes.{boxAt, anyTo}
+use Rattle.ground.proofs.Conds.{cond-agree, cond-twice}
+use Rattle.ground.specs.Numbers.{anyTo}
+use Rattle.ground.proofs.AnyLaws.{any-to-more}
+use Rattle.lattice.specs.Boxes.{boxAt}
 use Rattle.sweep_image.specs.Images.{Layer, Shows, Turned, Beside, RectIn, inRect, painted, wiped}
 use Rattle.sweep_image.specs.declared.Rect.{Rect}
 use Rattle.sweep_image.proofs.ImageLaws.{shows-ext}
@@ -96,16 +98,6 @@ pub record Partly (field : ℕ) (boxes : List ℕ) (x from to : ℕ) (r : Rect) 
       → ((y z : ℕ) → inRect r y z ≡ true → shade boxes x from y z ≡ false)
       → Shows field (λ y z. cond (d y z) (shade boxes x to y z) (f y z)) u'
   pub same-size : length u' ≡ length u
-
-cond-agree : (a g h f : Bool) → (a ≡ true → g ≡ h) → cond a g f ≡ cond a h f
-cond-agree true g h f e = e refl
-cond-agree false g h f e = refl
-
--- the same value set twice
-pub cond-twice : (a b g f : Bool) → cond b g (cond a g f) ≡ cond (a || b) g f
-cond-twice true true g f = refl
-cond-twice true false g f = refl
-cond-twice false b g f = refl
 
 cond-true : (a : Bool) {g f : Bool} → g ≡ true → f ≡ true → cond a g f ≡ true
 cond-true true e k = e

@@ -1,2 +1,1 @@
--- a rectangle shown anew, box by box and part by part
-pub mod CarvingLaws
+pub mod CarvingLaws  -- a rectangle shown anew, box by box and part by part

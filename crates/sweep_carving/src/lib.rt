@@ -6,14 +6,14 @@
 // `to` and `r` are as in `sweep_overlaps`. *Again* says that a rectangle is cleared and then shown box by box.
 //
 // specs/Carving.antt says what a rectangle shown anew is. Stands on `lattice`, `sweep_image`, `sweep_names` and `sweep_overlaps`.
-ghost use Prim.Native.Nat.{_+_, _*_, _≤_};
+ghost use Prim.Native.Nat.{_+_, _≤_};
 ghost use lib.ListN.{length};
-ghost use Rattle.sweep_image.specs.Images.{columns, Turned, Beside, RectIn};
+ghost use Rattle.sweep_image.specs.Images.{Turned, Beside, RectIn, imageSize};
 ghost use Rattle.sweep_names.specs.Names.{Tells, Lent};
 ghost use Rattle.sweep_overlaps.specs.Overlaps.{shadeOf, shadeFrom, FirstBoxes};
 ghost use Rattle.sweep_carving.specs.Carving.{replaced, joined, Carved};
 use sweep_image::Rect;
-use sweep_image::fill;
+use sweep_image::fill_rect;
 use sweep_names::name;
 use sweep_names::wipe;
 use sweep_overlaps::common;
@@ -27,14 +27,14 @@ use sweep_overlaps::part;
 fn fill_common(field: u16, boxes: &[u16], x: u16, i: usize, r: Rect, u: &mut [u64])
     requires { ⌜ RectIn field r ⌝ }
     requires { ⌜ FirstBoxes field (now boxes) (i + 1) ⌝ }
-    requires { ⌜ (field ≤ 1024) × (columns field * 1026 ≤ length (now u)) ⌝ }
+    requires { ⌜ (field ≤ 1024) × (imageSize field ≤ length (now u)) ⌝ }
     ensures { λ _. ⌜ Turned field (joined r (shadeOf (now (boxes .entry)) x i)) (now (u .entry)) (now (u .exit)) ⌝ }
     ensures { λ _. ⌜ Beside r (now (u .entry)) (now (u .exit)) ⌝ }
 {
     if !meets(boxes, i, x, r) {
         return;
     }
-    fill(field, true, common(boxes, i, r), u);
+    fill_rect(field, true, common(boxes, i, r), u);
 }
 
 // Shows a rectangle anew, box by box: clears it, and sets what each box that ends past the plane x has of it, from number `from` on and
@@ -57,7 +57,7 @@ pub fn again(
     ensures { λ _. ⌜ Turned field (replaced r (shadeFrom (now (boxes .entry)) x from to)) (now (u .entry)) (now (u .exit)) ⌝ }
     ensures { λ _. ⌜ Tells field (now (l .entry)) (now (u .exit)) (now (names .exit)) ⌝ }
 {
-    fill(field, false, r, u);
+    fill_rect(field, false, r, u);
     for i in from..to {
         fill_common(field, boxes, x, i, r, u);
     }

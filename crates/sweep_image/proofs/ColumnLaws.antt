@@ -9,7 +9,7 @@ use lib.Dec.{eqb, ltb, leb}
 use borrow.Author.Tests.{ltb-true, ltb-false, leb-true, leb-false, eqb-true, eqb-false, lt-ltb, le-ltb, le-leb, lt-leb}
 use Rattle.sweep_words.specs.Words.{bitAt}
 use Rattle.sweep_words.proofs.BitLaws.{bit-and, bit-or, bit-not}
-use Rattle.sweep_image.specs.Images.{wordAt, Beside, after, inRect, filling}
+use Rattle.sweep_image.specs.Images.{wordAt, Beside, after, inRect, filling, rows}
 use Rattle.sweep_image.specs.Changes.{Changed, masked, ColumnFilled}
 use Rattle.sweep_image.specs.declared.Rect.{Rect}
 use Rattle.sweep_image.proofs.WordLaws.{not-word}
@@ -64,19 +64,19 @@ here-or-not r k j y = go (eqb j k) (ltb (r .low) y) (leb y (r .high)) refl refl 
     go true true false e f g = inr (λ h. let l : r .high < y = leb-false y (r .high) g in let m : y ≤ r .high = h .2 in omega arith)
 
 module _ {g : ℕ → ℕ → ℕ} (r : Rect) (k : ℕ) {u u' : List ℕ} (small : r .high ≤ 1024)
-    (c : Changed g (k * 1026 + (r .low + 1)) (k * 1026 + (r .high + 1)) u u') where
+    (c : Changed g (k * rows + (r .low + 1)) (k * rows + (r .high + 1)) u u') where
   -- the words elsewhere stay
-  word-kept : (j y : ℕ) → y < 1026 → (Here r k j y → ⊥) → wordAt u' j y ≡ wordAt u j y
+  word-kept : (j y : ℕ) → y < rows → (Here r k j y → ⊥) → wordAt u' j y ≡ wordAt u j y
   word-kept j y h not-here =
-      go (ltb (j * 1026 + y) (k * 1026 + (r .low + 1))) (ltb (j * 1026 + y) (k * 1026 + (r .high + 1))) refl refl
+      go (ltb (j * rows + y) (k * rows + (r .low + 1))) (ltb (j * rows + y) (k * rows + (r .high + 1))) refl refl
     where
-      go : (s t : Bool) → ltb (j * 1026 + y) (k * 1026 + (r .low + 1)) ≡ s → ltb (j * 1026 + y) (k * 1026 + (r .high + 1)) ≡ t
+      go : (s t : Bool) → ltb (j * rows + y) (k * rows + (r .low + 1)) ≡ s → ltb (j * rows + y) (k * rows + (r .high + 1)) ≡ t
           → wordAt u' j y ≡ wordAt u j y
-      go true t e f = c .before (j * 1026 + y) (ltb-true (j * 1026 + y) (k * 1026 + (r .low + 1)) e)
-      go false false e f = c .past (j * 1026 + y) (ltb-false (j * 1026 + y) (k * 1026 + (r .high + 1)) f)
+      go true t e f = c .before (j * rows + y) (ltb-true (j * rows + y) (k * rows + (r .low + 1)) e)
+      go false false e f = c .past (j * rows + y) (ltb-false (j * rows + y) (k * rows + (r .high + 1)) f)
       go false true e f =
-          let l : k * 1026 + (r .low + 1) ≤ j * 1026 + y = ltb-false (j * 1026 + y) (k * 1026 + (r .low + 1)) e in
-          let m : j * 1026 + y < k * 1026 + (r .high + 1) = ltb-true (j * 1026 + y) (k * 1026 + (r .high + 1)) f in
+          let l : k * rows + (r .low + 1) ≤ j * rows + y = ltb-false (j * rows + y) (k * rows + (r .low + 1)) e in
+          let m : j * rows + y < k * rows + (r .high + 1) = ltb-true (j * rows + y) (k * rows + (r .high + 1)) f in
           let same : j ≡ k = omega arith in
           absurd (not-here (same, omega arith, omega arith))
 
@@ -89,12 +89,12 @@ module _ {g : ℕ → ℕ → ℕ} (r : Rect) (k : ℕ) {u u' : List ℕ} (small
     other = λ j y n h. word-kept j y h (λ e. n (e .0));
   }
     where
-      kept : (y b : ℕ) → y < 1026 → (Here r k k y → ⊥) → inRect r y (63 * k + b) ≡ false
+      kept : (y b : ℕ) → y < rows → (Here r k k y → ⊥) → inRect r y (63 * k + b) ≡ false
           → bitAt (wordAt u' k y) b ≡ filling fill (bitAt (wordAt u k y) b) (inRect r y (63 * k + b))
       kept y b h n e =
           ap (λ (w : ℕ). bitAt w b) (word-kept k y h n) ∙ filling-kept fill (bitAt (wordAt u k y) b) e
 
-      inside : (y b : ℕ) → y < 1026 → b < 64 → (s t : Bool) → ltb (r .low) y ≡ s → leb y (r .high) ≡ t
+      inside : (y b : ℕ) → y < rows → b < 64 → (s t : Bool) → ltb (r .low) y ≡ s → leb y (r .high) ≡ t
           → bitAt (wordAt u' k y) b ≡ filling fill (bitAt (wordAt u k y) b) (inRect r y (63 * k + b))
       inside y b h l false t e f =
           let m : y ≤ r .low = ltb-false (r .low) y e in
@@ -105,8 +105,8 @@ module _ {g : ℕ → ℕ → ℕ} (r : Rect) (k : ℕ) {u u' : List ℕ} (small
       inside y b h l true true e f =
           let m : r .low < y = ltb-true (r .low) y e in
           let q : y ≤ r .high = leb-true y (r .high) f in
-          ap (λ (w : ℕ). bitAt w b) (c .within (k * 1026 + y) (omega arith) (omega arith))
-          ∙ bits (k * 1026 + y) (wordAt u k y) b l
+          ap (λ (w : ℕ). bitAt w b) (c .within (k * rows + y) (omega arith) (omega arith))
+          ∙ bits (k * rows + y) (wordAt u k y) b l
           ∙ ap (filling fill (bitAt (wordAt u k y) b)) (sym (in-rows r y (63 * k + b) m q))
 
   -- all of them are words of the rectangle

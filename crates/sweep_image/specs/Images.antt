@@ -1,4 +1,4 @@
--- Bit images of a layer of cells about a plane. A cell is numbered by the points where it ends on y and z; word k * 1026 + y of an image has
+-- Bit images of a layer of cells about a plane. A cell is numbered by the points where it ends on y and z; word k * rows + y of an image has
 -- the cells of row y from place 63k to place 63k + 63.
 use mathlib.Core.Path.{_≡_}
 use mathlib.Core.Bool.{Bool, true, false, not, _&&_, _||_}
@@ -17,14 +17,22 @@ Layer = ℕ → ℕ → Bool
 abbrev pub columns : ℕ → ℕ
 columns n = n / 63 + 1
 
+-- how many rows a column has: one for each point of the largest field, and one more
+abbrev pub rows : ℕ
+rows = 1026
+
+-- how many words the image of a field of side n has
+abbrev pub imageSize : ℕ → ℕ
+imageSize n = columns n * rows
+
 -- the word of row y in column k
 abbrev pub wordAt : List ℕ → ℕ → ℕ → ℕ
-wordAt img k y = getD img (k * 1026 + y) 0
+wordAt img k y = getD img (k * rows + y) 0
 
 -- an image shows a layer of a field of side n
 pub record Shows (n : ℕ) (f : Layer) (img : List ℕ) : Type 0 where
-  pub size : columns n * 1026 ≤ length img
-  pub at : (k y b : ℕ) → k < columns n → y < 1026 → b < 64 → bitAt (wordAt img k y) b ≡ f y (63 * k + b)
+  pub size : imageSize n ≤ length img
+  pub at : (k y b : ℕ) → k < columns n → y < rows → b < 64 → bitAt (wordAt img k y) b ≡ f y (63 * k + b)
 
 -- the place p lies after a and up to b: the unit interval that ends there lies between a and b
 abbrev pub after : ℕ → ℕ → ℕ → Bool
@@ -51,7 +59,7 @@ inWords r k y = wordsFrom r (r .from / 63) k y
 
 -- u' is u but for the words of a rectangle
 pub record Beside (r : Rect) (u u' : List ℕ) : Type 0 where
-  pub kept : (k y : ℕ) → y < 1026 → inWords r k y ≡ false → wordAt u' k y ≡ wordAt u k y
+  pub kept : (k y : ℕ) → y < rows → inWords r k y ≡ false → wordAt u' k y ≡ wordAt u k y
 
 -- u' shows what u shows, changed
 pub record Turned (n : ℕ) (change : Layer → Layer) (u u' : List ℕ) : Type 0 where

@@ -6,8 +6,11 @@
 ghost use Prim.Native.Nat.{_*_, _/_, _≤_};
 ghost use lib.Bits.{bitAnd, bitOr};
 ghost use lib.ListN.{length};
-ghost use Rattle.sweep_image.specs.Images.{columns, RectIn, Turned, Beside, filled};
+ghost use Rattle.sweep_image.specs.Images.{RectIn, Turned, Beside, filled, imageSize};
 ghost use Rattle.sweep_image.specs.Changes.{Changed, masked, ColumnFilled};
+
+// How many rows a column of an image has.
+pub const ROWS: usize = 1026;
 
 // The cells of a layer after `low` and up to `high` on y, and after `from` and up to `to` on z, by the points where they end.
 pub struct Rect {
@@ -52,11 +55,11 @@ fn fill_rows(fill: bool, u: &mut [u64], a: usize, b: usize, v: u64)
 // Sets or clears the cells of a rectangle in one of its columns of an image.
 fn fill_column(field: u16, fill: bool, k: usize, r: Rect, u: &mut [u64])
     requires { ⌜ RectIn field r × (field ≤ 1024) × (r .from / 63 ≤ k) × (k ≤ r .to / 63) ⌝ }
-    requires { ⌜ columns field * 1026 ≤ length (now u) ⌝ }
+    requires { ⌜ imageSize field ≤ length (now u) ⌝ }
     ensures { λ _. ⌜ ColumnFilled fill r k (now (u .entry)) (now (u .exit)) ⌝ }
     ensures { λ _. ⌜ Beside r (now (u .entry)) (now (u .exit)) ⌝ }
 {
-    let at = k * 1026;
+    let at = k * ROWS;
     let a = at + (r.low as usize + 1);
     let b = at + (r.high as usize + 1);
     let v = sweep_words::interval(k, r.from as usize, r.to as usize);
@@ -64,9 +67,9 @@ fn fill_column(field: u16, fill: bool, k: usize, r: Rect, u: &mut [u64])
 }
 
 // Sets or clears the cells of a rectangle in an image, column by column.
-pub fn fill(field: u16, fill: bool, r: Rect, u: &mut [u64])
+pub fn fill_rect(field: u16, fill: bool, r: Rect, u: &mut [u64])
     requires { ⌜ RectIn field r × (field ≤ 1024) ⌝ }
-    requires { ⌜ columns field * 1026 ≤ length (now u) ⌝ }
+    requires { ⌜ imageSize field ≤ length (now u) ⌝ }
     ensures { λ _. ⌜ Turned field (filled fill r) (now (u .entry)) (now (u .exit)) ⌝ }
     ensures { λ _. ⌜ Beside r (now (u .entry)) (now (u .exit)) ⌝ }
 {

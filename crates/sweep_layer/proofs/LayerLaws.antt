@@ -9,18 +9,19 @@ use native.Mathlib.Omega.{arith}
 use native.Mathlib.Numerals.{add-one}
 use lib.Dec.{T, leb, ltb, eqb, leb→le, le→leb, ltb→lt, lt→ltb}
 use borrow.Author.Tests.{ltb-true, ltb-false, leb-false, eqb-true, eqb-false, lt-ltb, le-ltb, le-leb, lt-leb, eq-eqb, ne-eqb}
+use Rattle.ground.proofs.Conds.{cond-twice}
+use Rattle.ground.proofs.Bools.{is-false, and-intro, and-elim}
+use Rattle.ground.proofs.AnyLaws.{any-to-ext, any-to-none, any-to-cut}
+use Rattle.ground.specs.Numbers.{anyTo}
 use Rattle.lattice.specs.Cells.{below}
-use Rattle.lattice.specs.Boxes.{boxAt, boxCells, anyTo, BoxIn}
-use Rattle.lattice.proofs.BoxLaws.{any-to-ext, any-to-none, any-to-cut, below-boxes}
-use Rattle.lattice.proofs.ShotLaws.{and-elim}
-use Rattle.sweep_image.specs.Images.{Layer, columns, Turned, after, inRect}
-use Rattle.sweep_names.specs.Names.{Tells, Lent}
+use Rattle.lattice.specs.Boxes.{boxAt, boxCells, BoxIn}
+use Rattle.lattice.proofs.BoxLaws.{below-boxes}
+use Rattle.sweep_image.specs.Images.{Layer, Turned, after, inRect}
 use Rattle.sweep_image.specs.declared.Rect.{Rect}
 use Rattle.sweep_image.proofs.ImageLaws.{shows-ext}
-use Rattle.sweep_overlaps.specs.Overlaps.{rectOf, shadeOf, shade, shadeFrom, FirstBoxes}
+use Rattle.sweep_overlaps.specs.Overlaps.{rectOf, shadeOf, shade, shadeFrom}
 use Rattle.sweep_carving.specs.Carving.{replaced, Carved}
 use Rattle.sweep_painting.specs.Painting.{Painted}
-use Rattle.sweep_carving.proofs.CarvingLaws.{cond-twice}
 use Rattle.sweep_layer.specs.Layers.{About, touching, ending, released, Becomes}
 
 -- ---- Bools
@@ -28,10 +29,6 @@ settled : (g s : Bool) → cond g s (s || g) ≡ s
 settled true s = refl
 settled false true = refl
 settled false false = refl
-
-kept : (g s : Bool) → s ≡ true → cond g s (s || g) ≡ true
-kept true s e = e
-kept false s e = ap (λ b. b || false) e
 
 split-either : (a b p q : Bool) → (a || b) ≡ p → (p && q) ≡ ((a && q) || (b && q))
 split-either a b p q e = sym (ap (λ c. c && q) e) ∙ go a b q
@@ -54,22 +51,6 @@ swap-four false true true d = refl
 swap-four false false true d = refl
 swap-four false true false d = refl
 swap-four false false false d = refl
-
-or-here : (a b : Bool) → T a → (a || b) ≡ true
-or-here true b t = refl
-or-here false b t = absurd t
-
-true-is : (a : Bool) → T a → a ≡ true
-true-is true t = refl
-true-is false t = absurd t
-
-false-is : (a : Bool) → (T a → ⊥) → a ≡ false
-false-is true h = absurd (h tt)
-false-is false h = refl
-
-both-true : (a b : Bool) → T a → T b → T (a && b)
-both-true true b s t = t
-both-true false b s t = absurd s
 
 -- ---- ends
 reach-or-end : (x e : ℕ) → (ltb x e || eqb e x) ≡ leb x e
@@ -161,17 +142,17 @@ wholeRect field = record { low = 0; high = field; from = 0; to = field }
 after-in : (a b m p : ℕ) → b ≤ m → T (after a b p) → T (after 0 m p)
 after-in a b m p h t =
     let c = and-elim (ltb a p) (leb p b) t in
-    both-true (ltb 0 p) (leb p m) (lt→ltb 0 p (let k = ltb→lt a p (c .0) in omega arith)) (le→leb p m (let k = leb→le p b (c .1) in omega arith))
+    and-intro (ltb 0 p) (leb p m) (lt→ltb 0 p (let k = ltb→lt a p (c .0) in omega arith)) (le→leb p m (let k = leb→le p b (c .1) in omega arith))
 
 face-in : (field : ℕ) (boxes : List ℕ) (i y z : ℕ) → BoxIn field (boxAt boxes i) → T (inRect (rectOf (boxAt boxes i)) y z) → T (inRect (wholeRect field) y z)
 face-in field boxes i y z b t =
     let r : Rect = rectOf (boxAt boxes i) in
     let c = and-elim (after (r .low) (r .high) y) (after (r .from) (r .to) z) t in
-    both-true (after 0 field y) (after 0 field z) (after-in (r .low) (r .high) field y (b .y-in) (c .0)) (after-in (r .from) (r .to) field z (b .z-in) (c .1))
+    and-intro (after 0 field y) (after 0 field z) (after-in (r .low) (r .high) field y (b .y-in) (c .0)) (after-in (r .from) (r .to) field z (b .z-in) (c .1))
 
 module _ (field : ℕ) (boxes : List ℕ) (x y z : ℕ) {from old n : ℕ} (a : About field boxes x from old n) where
   no-face : inRect (wholeRect field) y z ≡ false → (i : ℕ) → i < n → inRect (rectOf (boxAt boxes i)) y z ≡ false
-  no-face e i l = false-is (inRect (rectOf (boxAt boxes i)) y z) (λ t. subst T e (face-in field boxes i y z (a .known .inside i l) t))
+  no-face e i l = is-false (inRect (rectOf (boxAt boxes i)) y z) (λ t. subst T e (face-in field boxes i y z (a .known .inside i l) t))
 
   pub renew-all : replaced (wholeRect field) (shadeFrom boxes x from n) (touching boxes x old) y z ≡ shade boxes x n y z
   unfolding touching shade

@@ -5,7 +5,8 @@ use mathlib.Core.List.{List}
 use Prim.Native.Nat.{ℕ, _≤_, _<_}
 use lib.Dec.{leb, eqb}
 use lib.ListN.{length}
-use Rattle.lattice.specs.Boxes.{boxAt, anyTo}
+use Rattle.ground.specs.Numbers.{anyTo}
+use Rattle.lattice.specs.Boxes.{boxAt}
 use Rattle.sweep_image.specs.Images.{Layer, Shows, inRect}
 use Rattle.sweep_overlaps.specs.Overlaps.{FirstBoxes, rectOf, shade}
 

@@ -1,2 +1,1 @@
--- columns named, and what is lent
-pub mod NameLaws
+pub mod NameLaws  -- columns named, and what is lent

@@ -12,17 +12,17 @@ use lib.ListN.{length, getD, replicate, length-replicate}
 use borrow.Author.Tests.{ltb-true, ltb-false, leb-true, leb-false, eqb-true, eqb-false, eq-eqb, ne-eqb}
 use Rattle.sweep_words.specs.Words.{bitAt}
 use Rattle.sweep_words.proofs.BitLaws.{bit-or, bit-single, bit-zero}
-use Rattle.sweep_image.specs.Images.{columns, wordAt, Beside, wordsFrom, inWords, RectIn}
+use Rattle.sweep_image.specs.Images.{columns, wordAt, Beside, wordsFrom, inWords, RectIn, rows}
 use Rattle.sweep_image.specs.Changes.{Changed}
 use Rattle.sweep_image.specs.declared.Rect.{Rect}
 use Rattle.sweep_image.proofs.ColumnLaws.{Here, here-or-not}
 use Rattle.sweep_image.proofs.ImageLaws.{zeros-at}
 use Rattle.sweep_image.proofs.WordLaws.{Word, word-not, not-word}
-use Rattle.sweep_names.specs.Names.{Tells, TellsBut, Lent, LentBut, namedIf}
+use Rattle.sweep_names.specs.Names.{nameRows, Tells, TellsBut, Lent, LentBut, namedIf}
 
 -- ---- a column named
 module _ {n : ℕ} (r : Rect) (k : ℕ) (l u : List ℕ) (v : ℕ) (single : v ≡ 2 ^ k) {names names' : List ℕ} (inside : RectIn n r)
-    (column : k < columns n) (d : Changed (namedIf l u (k * 1026) v) (r .low + 1) (r .high + 1) names names') where
+    (column : k < columns n) (d : Changed (namedIf l u (k * rows) v) (r .low + 1) (r .high + 1) names names') where
   column-bit : (j : ℕ) → bitAt v j ≡ eqb j k
   column-bit j = ap (λ (w : ℕ). bitAt w j) single ∙ bit-single k j
 
@@ -87,7 +87,7 @@ module _ {n : ℕ} (r : Rect) (k : ℕ) (l u : List ℕ) (v : ℕ) (single : v �
           go false e =
               record { from = let n : j ≡ k → ⊥ = eqb-false j k e in omega (arith, w .from, n); to = w .to; low = w .low; high = w .high }
 
-      as-before : (j y : ℕ) → j < columns n → y < 1026 → wordsFrom r (k + 1) j y ≡ false → bitAt (getD names' y 0) j ≡ false
+      as-before : (j y : ℕ) → j < columns n → y < rows → wordsFrom r (k + 1) j y ≡ false → bitAt (getD names' y 0) j ≡ false
           → (Here r k j y → ⊥) → wordAt l j y ≡ wordAt u j y
       as-before j y h m out e not-here =
           t .same j y h m (word-not r k j y λ w. not-word r (k + 1) j y out (past-here j y not-here w)) (sym (name-kept j y not-here) ∙ e)
@@ -112,7 +112,7 @@ tells-all r t = record {
 }
 
 -- two images that are the same, and blank names
-pub tells-blank : (n : ℕ) (l names : List ℕ) → length names ≡ 1040 → ((y : ℕ) → getD names y 0 ≡ 0) → Tells n l l names
+pub tells-blank : (n : ℕ) (l names : List ℕ) → length names ≡ nameRows → ((y : ℕ) → getD names y 0 ≡ 0) → Tells n l l names
 tells-blank n l names h z = record {
   size = h;
   same = λ k y i j e. refl;
@@ -120,8 +120,8 @@ tells-blank n l names h z = record {
   few = λ k y e. absurd (false≢true (sym (ap (λ (w : ℕ). bitAt w k) (z y) ∙ bit-zero k) ∙ e));
 }
 
-pub tells-zeros : (n : ℕ) (l : List ℕ) → Tells n l l (replicate 1040 0)
-tells-zeros n l = tells-blank n l (replicate 1040 0) (length-replicate {A = ℕ} 1040 0) (zeros-at 1040)
+pub tells-zeros : (n : ℕ) (l : List ℕ) → Tells n l l (replicate nameRows 0)
+tells-zeros n l = tells-blank n l (replicate nameRows 0) (length-replicate {A = ℕ} nameRows 0) (zeros-at nameRows)
 
 -- ---- what is lent
 -- it stays so where the upper image changes

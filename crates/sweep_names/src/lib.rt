@@ -9,8 +9,9 @@ ghost use lib.ListN.{length};
 ghost use Rattle.sweep_image.specs.Images.{RectIn, Turned, painted, wiped, wordsFrom, inWords};
 ghost use Rattle.sweep_image.specs.Changes.{Changed};
 ghost use Rattle.sweep_names.specs.Names.{Tells, TellsBut, Lent, LentBut, namedIf};
+use sweep_image::ROWS;
 use sweep_image::Rect;
-use sweep_image::fill;
+use sweep_image::fill_rect;
 
 // The word, with one bit more or as it is.
 fn with_unless(same: bool, w: u64, bit: u64) -> u64
@@ -37,7 +38,7 @@ fn name_column(field: u16, k: usize, r: Rect, l: &[u64], u: &[u64], names: &mut 
 {
     let a = r.low as usize + 1;
     let b = r.high as usize + 1;
-    name_rows(l, u, names, k * 1026, a, b, sweep_words::bit(k));
+    name_rows(l, u, names, k * ROWS, a, b, sweep_words::bit(k));
 }
 
 // Names the columns of a rectangle, where the two images differ in them.
@@ -60,7 +61,7 @@ pub fn paint(field: u16, r: Rect, l: &[u64], u: &mut [u64], names: &mut [u64])
     ensures { λ _. ⌜ Turned field (painted r) (now (u .entry)) (now (u .exit)) ⌝ }
     ensures { λ _. ⌜ Tells field (now (l .entry)) (now (u .exit)) (now (names .exit)) ⌝ }
 {
-    fill(field, true, r, u);
+    fill_rect(field, true, r, u);
     name(field, r, l, u, names);
 }
 
@@ -71,6 +72,6 @@ pub fn wipe(field: u16, r: Rect, l: &[u64], u: &mut [u64], names: &mut [u64])
     ensures { λ _. ⌜ Turned field (wiped r) (now (u .entry)) (now (u .exit)) ⌝ }
     ensures { λ _. ⌜ Tells field (now (l .entry)) (now (u .exit)) (now (names .exit)) ⌝ }
 {
-    fill(field, false, r, u);
+    fill_rect(field, false, r, u);
     name(field, r, l, u, names);
 }

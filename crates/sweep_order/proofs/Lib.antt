@@ -1,2 +1,1 @@
--- boxes passed over, and their ends counted
-pub mod OrderLaws
+pub mod OrderLaws  -- boxes passed over, and their ends counted

@@ -6,11 +6,10 @@ use mathlib.Core.List.{List}
 use Prim.Native.Nat.{ℕ, _+_, _<_, _≤_}
 use native.Mathlib.Omega.{arith}
 use lib.Dec.{eqb}
-use lib.ListN.{length, getD, set, replicate, length-replicate, length-set}
+use lib.ListN.{length, getD, set, length-set}
 use lib.Seq.{getD-set-same, getD-set-other}
 use borrow.Author.Tests.{eqb-true, eqb-false}
 use Rattle.lattice.specs.Boxes.{boxAt}
-use Rattle.sweep_image.proofs.ImageLaws.{zeros-at}
 use Rattle.sweep_order.specs.Order.{Given, EndsRow}
 
 -- ---- loops over boxes
@@ -30,13 +29,6 @@ module _ (boxes : List ℕ) (x : ℕ) where
       go false e = f j l (let m : (j ≡ i → ⊥) = eqb-false j i e in omega arith)
 
 -- ---- the ends counted
-pub ends-none : (boxes : List ℕ) → EndsRow boxes 0 (replicate 1026 0)
-ends-none boxes = record {
-  size = length-replicate {A = ℕ} 1026 0;
-  few = λ p. subst (λ k. k ≤ 0) (sym (zeros-at 1026 p)) (omega arith);
-  no-end = λ p e i l. absurd (omega arith);
-}
-
 module _ (field : ℕ) (boxes : List ℕ) (count : ℕ) (g : Given field boxes count) where
   pub ends-asked : (i : ℕ) (row : List ℕ) → i < count → EndsRow boxes i row → (boxAt boxes i .x-end < length row) × (getD row (boxAt boxes i .x-end) 0 ≤ 4096)
   ends-asked i row l r = (omega (arith, r .size, g .boxes-in .inside i l .x-in, g .field-most), omega (arith, r .few (boxAt boxes i .x-end), g .few))

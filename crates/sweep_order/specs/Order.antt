@@ -27,8 +27,12 @@ pub record Passed (boxes : List ℕ) (from old x r : ℕ) : Type 0 where
   pub within : r ≤ old
   pub ended : (i : ℕ) → from ≤ i → i < r → boxAt boxes i .x-end < x
 
+-- how many entries a row has: one for each plane of the largest field, and one more
+abbrev pub rowSize : ℕ
+rowSize = 1026
+
 -- entry p of a row counts the first n boxes that end at p: it is 0 only where none does
 pub record EndsRow (boxes : List ℕ) (n : ℕ) (row : List ℕ) : Type 0 where
-  pub size : length row ≡ 1026
+  pub size : length row ≡ rowSize
   pub few : (p : ℕ) → getD row p 0 ≤ n
   pub no-end : (p : ℕ) → getD row p 0 ≡ 0 → (i : ℕ) → i < n → boxAt boxes i .x-end ≢ p

@@ -6,8 +6,9 @@ use Prim.Native.Nat.{ℕ, _≤_, _<_}
 use native.Mathlib.Omega.{arith}
 use lib.Dec.{ltb}
 use borrow.Author.Tests.{lt-ltb}
-use Rattle.lattice.proofs.BoxLaws.{any-to-false, any-to-none}
-use Rattle.lattice.specs.Boxes.{Box, BoxIn, boxAt, anyTo}
+use Rattle.ground.specs.Numbers.{anyTo}
+use Rattle.ground.proofs.AnyLaws.{any-to-false, any-to-none}
+use Rattle.lattice.specs.Boxes.{Box, BoxIn, boxAt}
 use Rattle.sweep_image.specs.Images.{Layer, RectIn, inRect}
 use Rattle.sweep_image.specs.declared.Rect.{Rect}
 use Rattle.sweep_overlaps.specs.Overlaps.{rectOf, shadeOf, shade, FirstBoxes, meetsRect, sharedRect, partOf}

@@ -1,27 +1,15 @@
 -- The cells of a rectangle, as numbers between bounds: those that it shares with another, and the four parts around these.
 use mathlib.Core.Path.{_≡_, refl, sym, _∙_}
-use mathlib.Core.Bool.{Bool, true, false, _&&_, _||_, true≢false, false≢true}
+use mathlib.Core.Bool.{Bool, true, false, _&&_, true≢false}
 use Prim.Native.Nat.{ℕ, zero, suc, _≤_, _<_, min, max}
 use native.Mathlib.Omega.{arith}
 use lib.Dec.{leb, ltb}
 use borrow.Author.Tests.{le-leb, lt-leb, lt-ltb, leb-true, leb-false, ltb-true, ltb-false}
+use Rattle.ground.proofs.Bools.{and-true, or-false, not-so}
 use Rattle.lattice.specs.Boxes.{Box, BoxIn}
 use Rattle.sweep_image.specs.Images.{RectIn, after, inRect}
 use Rattle.sweep_image.specs.declared.Rect.{Rect}
 use Rattle.sweep_overlaps.specs.Overlaps.{rectOf, emptyRect, overlapsRect, meetsRect, sharedRect, partOf}
-
-pub both : (a b : Bool) → a && b ≡ true → (a ≡ true) × (b ≡ true)
-both true b h = (refl, h)
-both false b h = absurd (false≢true h)
-
-pub neither : (a b : Bool) → a || b ≡ false → (a ≡ false) × (b ≡ false)
-neither true b h = absurd (true≢false h)
-neither false b h = (refl, h)
-
--- a test that does not hold
-pub not-so : (a : Bool) → (a ≡ true → ⊥) → a ≡ false
-not-so true h = absurd (h refl)
-not-so false h = refl
 
 -- ---- a cell of a rectangle
 
@@ -33,9 +21,9 @@ pub record Has (r : Rect) (y z : ℕ) : Type 0 where
 
 pub in-has : (r : Rect) (y z : ℕ) → inRect r y z ≡ true → Has r y z
 in-has r y z h =
-    let yz = both (after (r .low) (r .high) y) (after (r .from) (r .to) z) h in
-    let on-y = both (ltb (r .low) y) (leb y (r .high)) (yz .0) in
-    let on-z = both (ltb (r .from) z) (leb z (r .to)) (yz .1) in
+    let yz = and-true (after (r .low) (r .high) y) (after (r .from) (r .to) z) h in
+    let on-y = and-true (ltb (r .low) y) (leb y (r .high)) (yz .0) in
+    let on-z = and-true (ltb (r .from) z) (leb z (r .to)) (yz .1) in
     record {
       low = ltb-true (r .low) y (on-y .0);
       high = leb-true y (r .high) (on-y .1);
@@ -65,7 +53,7 @@ module _ (r : Rect) where
   -- one with cells, in a field
   pub cells-in : (n : ℕ) → emptyRect r ≡ false → r .high ≤ n → r .to ≤ n → RectIn n r
   cells-in n e y-in z-in =
-      let yz = neither (leb (r .high) (r .low)) (leb (r .to) (r .from)) e in
+      let yz = or-false (leb (r .high) (r .low)) (leb (r .to) (r .from)) e in
       record { y-order = leb-false (r .high) (r .low) (yz .0); y-in = y-in; z-order = leb-false (r .to) (r .from) (yz .1); z-in = z-in }
 
 -- ---- a box that meets a rectangle
@@ -90,10 +78,10 @@ pub record Meets (t : Box) (x : ℕ) (r : Rect) : Type 0 where
 pub met : (t : Box) (x : ℕ) (r : Rect) → meetsRect t x r ≡ true → Meets t x r
 unfolding meetsRect overlapsRect
 met t x r h =
-    let a = both (overlapsRect t r) (ltb x (t .x-end)) h in
-    let b = both (ltb (t .y) (r .high) && ltb (r .low) (t .y-end)) (ltb (t .z) (r .to) && ltb (r .from) (t .z-end)) (a .0) in
-    let c = both (ltb (t .y) (r .high)) (ltb (r .low) (t .y-end)) (b .0) in
-    let d = both (ltb (t .z) (r .to)) (ltb (r .from) (t .z-end)) (b .1) in
+    let a = and-true (overlapsRect t r) (ltb x (t .x-end)) h in
+    let b = and-true (ltb (t .y) (r .high) && ltb (r .low) (t .y-end)) (ltb (t .z) (r .to) && ltb (r .from) (t .z-end)) (a .0) in
+    let c = and-true (ltb (t .y) (r .high)) (ltb (r .low) (t .y-end)) (b .0) in
+    let d = and-true (ltb (t .z) (r .to)) (ltb (r .from) (t .z-end)) (b .1) in
     record {
       past = ltb-true x (t .x-end) (a .1);
       y-low = ltb-true (t .y) (r .high) (c .0);

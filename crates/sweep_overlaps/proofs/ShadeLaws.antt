@@ -6,12 +6,13 @@ use Prim.Native.Nat.{ℕ, _+_, _-_, _≤_, _<_}
 use native.Mathlib.Omega.{arith}
 use lib.Dec.{leb, ltb}
 use borrow.Author.Tests.{le-leb, lt-leb, leb-false, ltb-true}
-use Rattle.lattice.proofs.BoxLaws.{any-to-less, any-to-more, any-to-true, any-to-false, any-to-none, any-to-ext}
+use Rattle.ground.proofs.Bools.{and-true, not-so}
+use Rattle.ground.proofs.AnyLaws.{any-to-less, any-to-more, any-to-true, any-to-false, any-to-none, any-to-ext}
 use Rattle.lattice.specs.Boxes.{boxAt}
 use Rattle.sweep_image.specs.Images.{inRect}
 use Rattle.sweep_image.specs.declared.Rect.{Rect}
 use Rattle.sweep_overlaps.specs.Overlaps.{rectOf, shadeOf, shade, shadeFrom, meetsRect, FirstMeeting, LastMeeting}
-use Rattle.sweep_overlaps.proofs.RectLaws.{both, not-so, in-has, has-meets}
+use Rattle.sweep_overlaps.proofs.RectLaws.{in-has, has-meets}
 
 -- ---- the layer at a cell
 
@@ -54,7 +55,7 @@ module _ (boxes : List ℕ) (x y z : ℕ) where
 pub missed : (boxes : List ℕ) (x : ℕ) (r : Rect) (n : ℕ) → meetsRect (boxAt boxes n) x r ≡ false → (y z : ℕ) → inRect r y z ≡ true
     → shadeOf boxes x n y z ≡ false
 missed boxes x r n miss y z h =
-    not-so (shadeOf boxes x n y z) λ e. true≢false (sym (meeting (both (ltb x (boxAt boxes n .x-end)) (inRect (rectOf (boxAt boxes n)) y z) e)) ∙ miss)
+    not-so (shadeOf boxes x n y z) λ e. true≢false (sym (meeting (and-true (ltb x (boxAt boxes n .x-end)) (inRect (rectOf (boxAt boxes n)) y z) e)) ∙ miss)
   where
     meeting : (ltb x (boxAt boxes n .x-end) ≡ true) × (inRect (rectOf (boxAt boxes n)) y z ≡ true) → meetsRect (boxAt boxes n) x r ≡ true
     meeting e = has-meets (boxAt boxes n) x r y z (in-has r y z h) (ltb-true x (boxAt boxes n .x-end) (e .0)) (in-has (rectOf (boxAt boxes n)) y z (e .1))

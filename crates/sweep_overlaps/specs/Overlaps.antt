@@ -6,7 +6,8 @@ use mathlib.Core.List.{List}
 use Prim.Native.Nat.{ℕ, zero, suc, _+_, _*_, _≤_, _<_, min, max, _-_}
 use lib.Dec.{leb, ltb}
 use lib.ListN.{length}
-use Rattle.lattice.specs.Boxes.{Box, BoxIn, boxAt, anyTo}
+use Rattle.ground.specs.Numbers.{anyTo}
+use Rattle.lattice.specs.Boxes.{Box, BoxIn, boxAt}
 use Rattle.sweep_image.specs.Images.{Layer, inRect}
 use Rattle.sweep_image.specs.declared.Rect.{Rect}
 

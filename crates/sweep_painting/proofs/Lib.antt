@@ -1,2 +1,1 @@
--- a rectangle painted part by part
-pub mod PaintingLaws
+pub mod PaintingLaws  -- a rectangle painted part by part

@@ -4,8 +4,10 @@ use mathlib.Core.Bool.{Bool, true, false, _||_, or-false, or-assoc, true≢false
 use mathlib.Core.List.{List}
 use Prim.Native.Nat.{ℕ, _+_, _<_}
 use native.Mathlib.Omega.{arith}
-use Rattle.lattice.proofs.BoxLaws.{any-to-more}
-use Rattle.lattice.specs.Boxes.{boxAt, anyTo}
+use Rattle.ground.proofs.Bools.{or-true-left}
+use Rattle.ground.specs.Numbers.{anyTo}
+use Rattle.ground.proofs.AnyLaws.{any-to-more}
+use Rattle.lattice.specs.Boxes.{boxAt}
 use Rattle.sweep_image.specs.Images.{Layer, Turned, inRect, painted}
 use Rattle.sweep_image.specs.declared.Rect.{Rect}
 use Rattle.sweep_image.proofs.ImageLaws.{shows-ext}
@@ -14,9 +16,6 @@ use Rattle.sweep_overlaps.proofs.RectLaws.{empty-bare}
 use Rattle.sweep_overlaps.proofs.ShadeLaws.{shade-less}
 use Rattle.sweep_overlaps.proofs.PartLaws.{partsTo, parts-out, parts-rest}
 use Rattle.sweep_painting.specs.Painting.{Painted}
-
-or-on : (a b : Bool) → a ≡ true → a || b ≡ true
-or-on a b e = rw e
 
 module _ (field : ℕ) (boxes : List ℕ) (x to : ℕ) (r : Rect) where
   -- a rectangle without cells
@@ -42,7 +41,7 @@ module _ (field : ℕ) (boxes : List ℕ) (x to : ℕ) (r : Rect) where
     painted-more side u v w p q = record {
       shows = λ f s shown. shows-ext
           (λ y z. or-assoc (f y z) (partsTo r c side y z) (inRect (partOf r c side) y z) ∙ ap (λ (b : Bool). f y z || b) (sym (any-to-more side _)))
-          (q .shows _ (p .shows f s shown) (λ y z h. or-on (f y z) (partsTo r c side y z) (shown y z (shade-less boxes x y z n to (omega (arith, before)) h))));
+          (q .shows _ (p .shows f s shown) (λ y z h. or-true-left (f y z) (partsTo r c side y z) (shown y z (shade-less boxes x y z n to (omega (arith, before)) h))));
       same-size = q .same-size ∙ p .same-size;
     }
 

@@ -1,2 +1,1 @@
--- plane after plane, all corners
-pub mod PlanesLaws
+pub mod PlanesLaws  -- plane after plane, all corners

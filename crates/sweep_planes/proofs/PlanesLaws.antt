@@ -8,13 +8,15 @@ use native.Mathlib.Numerals.{add-one}
 use lib.Dec.{leb, ltb}
 use lib.ListN.{getD}
 use borrow.Author.Tests.{ltb-true, ltb-false, le-ltb}
+use Rattle.ground.proofs.AnyLaws.{any-to-cut}
+use Rattle.ground.proofs.JoinLaws.{join-ext}
+use Rattle.ground.specs.Numbers.{anyTo}
+use Rattle.ground.specs.Sums.{join}
 use Rattle.lattice.specs.Cells.{Cells, below, up, planePoints}
-use Rattle.lattice.specs.Sums.{join}
 use Rattle.lattice.specs.Pattern.{Pattern, around, byte, corner}
 use Rattle.lattice.specs.Listing.{here, corners}
-use Rattle.lattice.specs.Boxes.{boxAt, boxCells, anyTo}
-use Rattle.lattice.proofs.JoinLaws.{join-ext}
-use Rattle.lattice.proofs.BoxLaws.{any-to-cut, below-boxes}
+use Rattle.lattice.specs.Boxes.{boxAt, boxCells}
+use Rattle.lattice.proofs.BoxLaws.{below-boxes}
 use Rattle.lattice_sums.specs.CornerSums.{Room, sumsOf}
 use Rattle.lattice_sums.specs.declared.sums.CornerSums.{CornerSums}
 use Rattle.lattice_sums.proofs.CornerSumLaws.{no-room, room-more}
@@ -23,7 +25,7 @@ use Rattle.sweep_image.proofs.ImageLaws.{shows-ext}
 use Rattle.sweep_overlaps.specs.Overlaps.{rectOf, shade}
 use Rattle.sweep_layer.specs.Layers.{About, touching}
 use Rattle.sweep_tally.specs.Found.{Found, state, found}
-use Rattle.sweep_tally.proofs.Laws.{found-append}
+use Rattle.sweep_tally.proofs.FoundLaws.{found-append}
 use Rattle.sweep_points.specs.Points.{planeAt}
 use Rattle.sweep_plane.specs.Plane.{Both, PlaneOut, EndsOn}
 use Rattle.sweep_order.specs.Order.{Given, FirstPast, Passed, EndsRow}

@@ -2,8 +2,8 @@
 use mathlib.Core.Path.{_≡_}
 use mathlib.Core.List.{List, []}
 use Prim.Native.Nat.{ℕ, _≤_, _<_}
+use Rattle.ground.specs.Sums.{join}
 use Rattle.lattice.specs.Cells.{Cells}
-use Rattle.lattice.specs.Sums.{join}
 use Rattle.lattice.specs.Listing.{Corner, corners}
 use Rattle.lattice.specs.Boxes.{boxAt}
 use Rattle.lattice_sums.specs.CornerSums.{sumsOf}

@@ -9,10 +9,11 @@ use lib.Bits.{bitOr}
 use lib.Dec.{ltb}
 use lib.ListN.{getD}
 use borrow.Author.Tests.{ltb-true, lt-ltb}
+use Rattle.ground.proofs.Bools.{or-false}
 use Rattle.lattice.specs.Axes.{x-axis}
 use Rattle.lattice.specs.Cells.{up}
 use Rattle.lattice.specs.Pattern.{byte, corner}
-use Rattle.lattice.specs.Sums.{join}
+use Rattle.ground.specs.Sums.{join}
 use Rattle.lattice.specs.Listing.{Corner}
 use Rattle.lattice.proofs.PatternLaws.{still-no-corner}
 use Rattle.sweep_words.specs.Words.{bitAt, wordOf, patternOf}
@@ -20,7 +21,7 @@ use Rattle.sweep_words.proofs.BitLaws.{bit-or, bit-zero}
 use Rattle.sweep_image.specs.Images.{columns, wordAt}
 use Rattle.sweep_names.specs.Names.{Tells}
 use Rattle.sweep_tally.specs.Found.{at, Found, meet, found}
-use Rattle.sweep_tally.proofs.Laws.{found-append, found-one}
+use Rattle.sweep_tally.proofs.FoundLaws.{found-append, found-one}
 use Rattle.sweep_points.specs.Points.{cornerAt, columnCorners, columnAt, lineAt, Blank}
 use Rattle.sweep_points.proofs.Joins.{join-quiet}
 use Rattle.sweep_points.proofs.Visits.{Names}
@@ -65,10 +66,6 @@ module _ (x y k l₀ l₁ u₀ u₁ : ℕ) where
       go b true c = ap (λ w. bitAt w (up c b)) (sym f)
 
 -- ---- the columns of a line
-either-false : (a b : Bool) → (a || b) ≡ false → (a ≡ false) × (b ≡ false)
-either-false true b e = absurd (false≢true (sym e))
-either-false false b e = (refl, e)
-
 module _ (n x y : ℕ) {l u names : List ℕ} (t : Tells n l u names) (hy : y ≤ 1024) where
   quiet-column : (k : ℕ) → k < columns n → bitAt (getD names y 0) k ≡ false → bitAt (getD names (y + 1) 0) k ≡ false
       → columnAt x y l u k ≡ []
@@ -81,7 +78,7 @@ module _ (n x y : ℕ) {l u names : List ℕ} (t : Tells n l u names) (hy : y �
   names-columns = record {
     few = λ k e. go k (bitAt (getD names y 0) k) refl (sym (named k) ∙ e);
     quiet = λ k h e.
-        let q = either-false (bitAt (getD names y 0) k) (bitAt (getD names (y + 1) 0) k) (sym (named k) ∙ e) in
+        let q = or-false (bitAt (getD names y 0) k) (bitAt (getD names (y + 1) 0) k) (sym (named k) ∙ e) in
         quiet-column k h (q .0) (q .1);
   }
     where

@@ -8,7 +8,7 @@ use native.Mathlib.Numerals.{add-one}
 use native.Mathlib.Omega.{arith}
 use Rattle.lattice.specs.Cells.{Cells, below, up, linePoints}
 use Rattle.lattice.specs.Pattern.{Pattern, around, byte, corner}
-use Rattle.lattice.specs.Sums.{join}
+use Rattle.ground.specs.Sums.{join}
 use Rattle.lattice.specs.Listing.{here}
 use Rattle.lattice.proofs.Inside.{outside-no-corner}
 use Rattle.lattice.proofs.SameSolid.{here-none}

@@ -5,12 +5,12 @@ use mathlib.Core.List.{List, [], _∷_, _++_}
 use Prim.Native.Nat.{ℕ, zero, suc, _+_, _*_, _<_, _≤_}
 use native.Mathlib.Nat.{suc-mul}
 use native.Mathlib.Omega.{arith}
-use Rattle.lattice.specs.Sums.{join}
+use Rattle.ground.specs.Sums.{join}
 use Rattle.lattice.specs.Listing.{Corner}
 use Rattle.lattice_sums.specs.CornerSums.{Room}
 use Rattle.lattice_sums.proofs.CornerSumLaws.{room-more}
 use Rattle.sweep_tally.specs.Found.{at, Found, found}
-use Rattle.sweep_tally.proofs.Laws.{found-append, found-one, room-meet}
+use Rattle.sweep_tally.proofs.FoundLaws.{found-append, found-one, room-meet}
 
 -- to meet these corners takes room for m
 pub record Takes (m : ℕ) (vs : List Corner) : Type 0 where

@@ -9,10 +9,10 @@ use lib.Dec.{ltb}
 use lib.ListN.{length, getD}
 use Rattle.lattice.specs.Cells.{linePoints, planePoints, fieldPoints}
 use Rattle.lattice.specs.Pattern.{byte, corner}
-use Rattle.lattice.specs.Sums.{join}
+use Rattle.ground.specs.Sums.{join}
 use Rattle.lattice_sums.specs.CornerSums.{Room, RoomFor}
 use Rattle.sweep_words.specs.Words.{bitAt, patternOf, Lowest, WithoutLowest}
-use Rattle.sweep_image.specs.Images.{columns, wordAt}
+use Rattle.sweep_image.specs.Images.{columns, wordAt, rows}
 use Rattle.sweep_names.specs.Names.{Tells}
 use Rattle.sweep_tally.specs.Found.{at, Found, meet, found}
 use Rattle.sweep_points.specs.Points.{Layers, PlaneFound, cornerAt, columnAt, lineAt, Inside}
@@ -58,7 +58,7 @@ module _ (n x y : ℕ) (hn : n ≤ 1024) (hy : y ≤ n) {l u names : List ℕ} (
   pub column-few : j ≤ 16
   column-few = omega (arith, column-in)
 
-  pub column-held : ((j + 1) * 1026 ≤ length l) × ((j + 1) * 1026 ≤ length u)
+  pub column-held : ((j + 1) * rows ≤ length l) × ((j + 1) * rows ≤ length u)
   column-held = (omega (arith, column-in, a .shown .lower .size), omega (arith, column-in, a .shown .upper .size))
 
   pub column-inside : Inside j (wordAt l j y) (wordAt l j (y + 1)) (wordAt u j y) (wordAt u j (y + 1))

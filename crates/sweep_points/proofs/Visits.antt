@@ -5,13 +5,13 @@ use mathlib.Core.List.{List, []}
 use Prim.Native.Nat.{ℕ, suc, _<_, _≤_}
 use native.Mathlib.Decide.{decLe}
 use native.Mathlib.Omega.{arith}
-use Rattle.lattice.specs.Sums.{join}
+use Rattle.ground.specs.Sums.{join}
 use Rattle.lattice.specs.Listing.{Corner}
 use Rattle.sweep_words.specs.Words.{bitAt, Lowest, WithoutLowest}
 use Rattle.sweep_words.proofs.BitLaws.{bit-zero}
 use Rattle.sweep_words.proofs.LowestLaws.{left-under, left-above}
 use Rattle.sweep_tally.specs.Found.{Found, found}
-use Rattle.sweep_tally.proofs.Laws.{found-append}
+use Rattle.sweep_tally.proofs.FoundLaws.{found-append}
 use Rattle.sweep_points.proofs.Joins.{join-quiet}
 
 -- among n places, the bits of a word name all that have a corner

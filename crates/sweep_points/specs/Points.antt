@@ -6,7 +6,7 @@ use Prim.Native.Nat.{ℕ, suc, _+_, _*_, _<_, _≤_}
 use lib.ListN.{getD}
 use Rattle.lattice.specs.Cells.{Cells, Within, below, planePoints}
 use Rattle.lattice.specs.Pattern.{byte, corner}
-use Rattle.lattice.specs.Sums.{join}
+use Rattle.ground.specs.Sums.{join}
 use Rattle.lattice.specs.Listing.{Corner, here}
 use Rattle.lattice_sums.specs.CornerSums.{Room}
 use Rattle.sweep_words.specs.Words.{patternOf}

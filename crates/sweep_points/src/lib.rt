@@ -1,13 +1,17 @@
 // The corners of a plane across x, from the images of the layers below and above it: line after line, the columns that the two rows about a
 // line name, and in each the points where the four words about the line make a corner. Stands on `sweep_words`, `sweep_image` and
 // `sweep_tally`.
+//
+// `l`, `u`, `names` and `k` are as in `sweep_image`: the images of the lower and the upper layer, the columns in which they may differ, a column.
+// `x` is the plane, `y` a line of it, `w` are the packed weights, `t` the corner sums before a function and `s` those so far, `buf` is the lent
+// buffer; `m` has the bits of a word that are still to be looked at.
 ghost use mathlib.Core.Path.{_≡_};
 ghost use Prim.Native.Nat.{_+_, _-_, _*_, _<_, _≤_};
 ghost use lib.ListN.{length};
 ghost use Rattle.lattice.specs.Cells.{linePoints, planePoints};
 ghost use Rattle.lattice_sums.specs.CornerSums.{RoomFor};
 ghost use Rattle.lattice_weights.specs.Packed.{Packed};
-ghost use Rattle.sweep_image.specs.Images.{wordAt};
+ghost use Rattle.sweep_image.specs.Images.{wordAt, rows};
 ghost use Rattle.sweep_names.specs.Names.{Tells};
 ghost use Rattle.sweep_tally.specs.Found.{state, found};
 ghost use Rattle.sweep_points.specs.Points.{Layers, PlaneFound, columnCorners, columnAt, lineAt, Inside, Blank};
@@ -52,12 +56,12 @@ fn column(
     buf: &mut [u8],
 ) -> CornerSums
     requires { ⌜ (x ≤ 1024) × (y ≤ 1024) × (k ≤ 16) × Packed (now w) × RoomFor (linePoints 1024 - 63 * k) t ⌝ }
-    requires { ⌜ ((k + 1) * 1026 ≤ length (now l)) × ((k + 1) * 1026 ≤ length (now u)) ⌝ }
+    requires { ⌜ ((k + 1) * rows ≤ length (now l)) × ((k + 1) * rows ≤ length (now u)) ⌝ }
     requires { ⌜ Inside k (wordAt (now l) k y) (wordAt (now l) k (y + 1)) (wordAt (now u) k y) (wordAt (now u) k (y + 1)) ⌝ }
     ensures { λ r. ⌜
         state r (now (buf .exit)) ≡ found (state t (now (buf .entry))) (columnAt x y (now (l .entry)) (now (u .entry)) k) ⌝ }
 {
-    let i = k * 1026;
+    let i = k * sweep_image::ROWS;
     let j = y as usize;
     let l0 = l[i + j];
     let l1 = l[i + (j + 1)];

@@ -1,2 +1,1 @@
--- words copied from one image to the other
-pub mod SettlingLaws
+pub mod SettlingLaws  -- words copied from one image to the other

@@ -11,7 +11,7 @@ use lib.Seq.{getD-set-same, getD-set-other}
 use borrow.Author.Tests.{eqb-true, eqb-false, ne-eqb, leb-true, leb-false, ltb-true, ltb-false}
 use Rattle.sweep_words.specs.Words.{bitAt, Lowest, WithoutLowest}
 use Rattle.sweep_words.proofs.BitLaws.{bit-zero, bit-some}
-use Rattle.sweep_image.specs.Images.{columns, wordAt}
+use Rattle.sweep_image.specs.Images.{columns, wordAt, rows, imageSize}
 use Rattle.sweep_image.specs.Changes.{Changed}
 use Rattle.sweep_names.specs.Names.{Tells}
 use Rattle.sweep_settling.specs.Settling.{Settled}
@@ -69,33 +69,33 @@ module _ (names : List ℕ) (y : ℕ) {n k m : ℕ} {l u : List ℕ} (low : Lowe
   column-in : k < columns n
   column-in = t .few k y (this-row m k y refl ∙ low .set)
 
-  pub word-in : (img : List ℕ) → n ≤ 1024 → columns n * 1026 ≤ length img → k * 1026 + y < length img
+  pub word-in : (img : List ℕ) → n ≤ 1024 → imageSize n ≤ length img → k * rows + y < length img
   word-in img small room = omega (arith, row-in, column-in)
 
   -- what the names tell once the word is copied
-  module _ {m' : ℕ} (d : WithoutLowest m m') (small : n ≤ 1024) (room : columns n * 1026 ≤ length l) where
+  module _ {m' : ℕ} (d : WithoutLowest m m') (small : n ≤ 1024) (room : imageSize n ≤ length l) where
     other-row : (z : ℕ) → (z ≡ y → ⊥) → getD (set names y m') z 0 ≡ getD (set names y m) z 0
     other-row z other = getD-set-other names y z m' 0 other ∙ sym (getD-set-other names y z m 0 other)
 
-    same-after : (j z : ℕ) → j < columns n → z < 1026 → bitAt (getD (set names y m') z 0) j ≡ false
-        → wordAt (set l (k * 1026 + y) (getD u (k * 1026 + y) 0)) j z ≡ wordAt u j z
+    same-after : (j z : ℕ) → j < columns n → z < rows → bitAt (getD (set names y m') z 0) j ≡ false
+        → wordAt (set l (k * rows + y) (getD u (k * rows + y) 0)) j z ≡ wordAt u j z
     same-after j z h i e = go (eqb z y) (eqb j k) refl refl
       where
-        go : (s q : Bool) → eqb z y ≡ s → eqb j k ≡ q → wordAt (set l (k * 1026 + y) (getD u (k * 1026 + y) 0)) j z ≡ wordAt u j z
+        go : (s q : Bool) → eqb z y ≡ s → eqb j k ≡ q → wordAt (set l (k * rows + y) (getD u (k * rows + y) 0)) j z ≡ wordAt u j z
         go true true f g =
             let same-row : z ≡ y = eqb-true z y f in
             let same-column : j ≡ k = eqb-true j k g in
-            rw (same-row, same-column) (getD-set-same l (k * 1026 + y) (getD u (k * 1026 + y) 0) 0 (word-in l small room))
+            rw (same-row, same-column) (getD-set-same l (k * rows + y) (getD u (k * rows + y) 0) 0 (word-in l small room))
         go true false f g =
             let same-row : z ≡ y = eqb-true z y f in
             let other : (j ≡ k → ⊥) = eqb-false j k g in
-            getD-set-other l (k * 1026 + y) (j * 1026 + z) (getD u (k * 1026 + y) 0) 0 (λ q. other (omega arith))
+            getD-set-other l (k * rows + y) (j * rows + z) (getD u (k * rows + y) 0) 0 (λ q. other (omega arith))
             ∙ t .same j z h i
             (this-row m j z same-row ∙ left-clear m m' k j low d other (sym (this-row m' j z same-row) ∙ e))
         go false q f g =
             let other : (z ≡ y → ⊥) = eqb-false z y f in
             let r : y ≤ n = row-in in
-            getD-set-other l (k * 1026 + y) (j * 1026 + z) (getD u (k * 1026 + y) 0) 0 (λ q. other (omega arith))
+            getD-set-other l (k * rows + y) (j * rows + z) (getD u (k * rows + y) 0) 0 (λ q. other (omega arith))
             ∙ t .same j z h i (ap (λ (w : ℕ). bitAt w j) (sym (other-row z other)) ∙ e)
 
     past-after : (z : ℕ) → n < z → getD (set names y m') z 0 ≡ 0
@@ -110,7 +110,7 @@ module _ (names : List ℕ) (y : ℕ) {n k m : ℕ} {l u : List ℕ} (low : Lowe
             t .few j y (this-row m j y refl ∙ left-set m m' k j low d (sym (this-row m' j z same-row) ∙ e))
         go false f = t .few j z (ap (λ (w : ℕ). bitAt w j) (sym (other-row z (eqb-false z y f))) ∙ e)
 
-    pub copied : Tells n (set l (k * 1026 + y) (getD u (k * 1026 + y) 0)) u (set names y m')
+    pub copied : Tells n (set l (k * rows + y) (getD u (k * rows + y) 0)) u (set names y m')
     copied = record {
       size = length-set names y m' ∙ sym (length-set names y m) ∙ t .size;
       same = same-after;
@@ -125,7 +125,7 @@ blank-changed a b names z = record { same-size = refl; within = z; before = λ i
 
 -- no column is named once the rows of the field are blank
 pub settled : {n y : ℕ} {u l l' names names' : List ℕ} → n < y → Changed (λ i w. 0) 0 y names names' → Tells n l' u names'
-    → length l' ≡ length l → columns n * 1026 ≤ length l → Settled n u l l' names'
+    → length l' ≡ length l → imageSize n ≤ length l → Settled n u l l' names'
 settled {n} {y} {u} {l} {l'} {names} {names'} h c t e room = record {
   shows = λ f s. record {
     size = omega arith;

@@ -6,12 +6,12 @@ ghost use mathlib.Core.Bool.{true};
 ghost use Prim.Native.Nat.{ℕ, _+_, _<_, _≤_};
 ghost use lib.ListN.{length, getD};
 ghost use Rattle.sweep_image.specs.Changes.{Changed};
-ghost use Rattle.sweep_names.specs.Names.{Tells, Lent};
+ghost use Rattle.sweep_names.specs.Names.{nameRows, Tells, Lent};
 ghost use Rattle.sweep_settling.specs.Settling.{Settled};
 
 // Copies the named columns of row y from the upper image to the lower one; then it names none.
 fn settle_row(field: u16, u: &[u64], l: &mut [u64], names: &mut [u64], y: usize)
-    requires { ⌜ y < 1040 ⌝ }
+    requires { ⌜ y < nameRows ⌝ }
     requires { ⌜ Lent field (now l) (now u) (now names) ⌝ }
     ensures { λ _. ⌜ Tells field (now (l .exit)) (now (u .entry)) (now (names .exit)) ⌝ }
     ensures { λ _. ⌜ Changed (λ i w. 0) y (y + 1) (now (names .entry)) (now (names .exit)) ⌝ }
@@ -19,7 +19,7 @@ fn settle_row(field: u16, u: &[u64], l: &mut [u64], names: &mut [u64], y: usize)
 {
     let mut m = names[y];
     while m != 0 {
-        let at = sweep_words::lowest(m) * 1026 + y;
+        let at = sweep_words::lowest(m) * sweep_image::ROWS + y;
         l[at] = u[at];
         m = sweep_words::without_lowest(m);
     }
@@ -40,7 +40,7 @@ fn blank(names: &[u64], y: usize) -> bool
 
 // Settles the eight rows from y on.
 fn settle_eight(field: u16, u: &[u64], l: &mut [u64], names: &mut [u64], y: usize)
-    requires { ⌜ y + 8 ≤ 1040 ⌝ }
+    requires { ⌜ y + 8 ≤ nameRows ⌝ }
     requires { ⌜ Lent field (now l) (now u) (now names) ⌝ }
     ensures { λ _. ⌜ Tells field (now (l .exit)) (now (u .entry)) (now (names .exit)) ⌝ }
     ensures { λ _. ⌜ Changed (λ i w. 0) y (y + 8) (now (names .entry)) (now (names .exit)) ⌝ }

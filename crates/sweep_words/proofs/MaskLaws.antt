@@ -7,7 +7,7 @@ use native.Mathlib.Omega.{arith}
 use lib.Dec.{leb, leb→le, le→leb, lit<}
 use lib.Pow.{shl-exact}
 use borrow.Author.Tests.{lt-ltb, leb-true, leb-false}
-use Rattle.lattice.proofs.Cases.{bool-ext}
+use Rattle.ground.proofs.Bools.{bool-ext}
 use Rattle.sweep_words.specs.Words.{bitAt}
 use Rattle.sweep_words.proofs.BitLaws.{bit-shr, bit-shl-low, bit-shl-high, bit-mod, bit-ones}
 

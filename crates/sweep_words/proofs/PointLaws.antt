@@ -8,9 +8,10 @@ use lib.Bits.{bitAnd, bitOr, bitXor}
 use lib.Dec.{eqb, ltb}
 use lib.Pow.{shr-shr}
 use Rattle.lattice.specs.Axes.{Axis, x-axis, y-axis, z-axis}
-use Rattle.lattice.specs.Cells.{bit}
+use Rattle.ground.specs.Numbers.{bit}
 use Rattle.lattice.specs.Pattern.{Pattern, byte, corner}
-use Rattle.lattice.proofs.Cases.{same, same-at, eachPattern-at}
+use Rattle.ground.proofs.Bools.{same, same-at}
+use Rattle.lattice.proofs.Cases.{eachPattern-at}
 use Rattle.lattice.proofs.PatternLaws.{changes, corner-changes}
 use Rattle.sweep_words.specs.Words.{bitAt, patternOf, twoAt, pairsDiffer, turnsAt}
 use Rattle.sweep_words.proofs.BitLaws.{bit-suc, bit-and, bit-or, bit-xor, bit-ones}

@@ -4,7 +4,8 @@ use mathlib.Core.Path.{_≡_}
 use mathlib.Core.Bool.{Bool, true, false, not, xor, _&&_, _||_}
 use Prim.Native.Nat.{ℕ, suc, _+_, _*_, _/_, _%_, _^_, _<_}
 use lib.Dec.{eqb}
-use Rattle.lattice.specs.Cells.{up, bit}
+use Rattle.ground.specs.Numbers.{bit}
+use Rattle.lattice.specs.Cells.{up}
 use Rattle.lattice.specs.Pattern.{Pattern}
 
 -- bit b of a word

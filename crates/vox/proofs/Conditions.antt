@@ -16,7 +16,8 @@ use Rattle.job.specs.declared.Checked.the-variants.{Accepted, Refused}
 use Rattle.job.specs.Job.{shotCount}
 use Rattle.job.specs.Checking.{Test, firstOf}
 use Rattle.job.specs.Conditions.{Each, Says, First}
-use Rattle.job.proofs.Tests.{ltb-says, leb-says, eqb-says, not-says, or-says, and-says, outside-says}
+use Rattle.ground.proofs.Tests.{ltb-says, leb-says, eqb-says, not-says, or-says, and-says}
+use Rattle.job.proofs.Tests.{outside-says}
 use Rattle.job.proofs.Places.{first-iff, none-each, none-iff}
 use Rattle.shotfile.specs.Calls.{readAnswer}
 use Rattle.shotfile.specs.declared.reader.ReadAnswer.{ReadAnswer}

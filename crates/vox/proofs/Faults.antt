@@ -9,7 +9,7 @@ use native.Mathlib.Omega.{arith}
 use lib.Dec.{ltb, leb, eqb}
 use lib.ListN.{length}
 use borrow.Author.Tests.{ltb-true, lt-ltb, le-ltb, leb-true, leb-false}
-use Rattle.job.proofs.Tests.{leb-says, eqb-says, or-says}
+use Rattle.ground.proofs.Tests.{leb-says, eqb-says, or-says}
 use Rattle.vox_chunks.specs.Chunks.{afterChunk, overruns}
 use Rattle.vox_voxels.specs.Voxels.{sideOn, voxelAt, byteOf, beyond, wrongVoxel, firstWrong}
 use Rattle.vox.specs.Vox.{voxelCount, firstOverrun, overrunFrom}

@@ -11,7 +11,8 @@ use Rattle.job.specs.declared.Checked.{Checked}
 use Rattle.job.specs.declared.Checked.the-variants.{Accepted, Refused}
 use Rattle.job.specs.Job.{shotCount, placeOf}
 use Rattle.job.specs.Checking.{firstOf}
-use Rattle.job.proofs.Tests.{within, or-false}
+use Rattle.ground.proofs.Bools.{or-false}
+use Rattle.job.proofs.Tests.{within}
 use Rattle.job.proofs.Places.{passes, first-passed, first-stopped}
 use Rattle.shotfile.specs.Files.{File, file, settingFields}
 use Rattle.shotfile.specs.Calls.{readAnswer, readNumbers, readValues, readCoords}

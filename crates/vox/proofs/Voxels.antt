@@ -11,7 +11,8 @@ use lib.ListN.{getD}
 use borrow.Author.Tests.{leb-false}
 use Rattle.lattice.specs.Shots.{Shot, spans, covers, cells, InField}
 use Rattle.job.specs.Job.{jobOf, shotsOf, shotCount, shotAt, firstShots, Valid}
-use Rattle.job.proofs.Tests.{or-false, leb-says, ltb-says, and-says}
+use Rattle.ground.proofs.Bools.{or-false}
+use Rattle.ground.proofs.Tests.{leb-says, ltb-says, and-says}
 use Rattle.job.proofs.Shots.{shots-at, stay-all, any-at, at-any}
 use Rattle.grid.proofs.NeedLaws.{one-cell-need}
 use Rattle.shotfile_records.specs.declared.Fields.{Fields}

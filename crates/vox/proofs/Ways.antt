@@ -11,7 +11,7 @@ use Rattle.job.specs.declared.Refusal.the-variants.{TooManyShots, NoPlace, Brok
 use Rattle.job.specs.declared.Checked.{Checked}
 use Rattle.job.specs.declared.Checked.the-variants.{Accepted, Refused}
 use Rattle.job.specs.Checking.{firstOf}
-use Rattle.job.proofs.Tests.{or-first, or-second, or-true-right}
+use Rattle.ground.proofs.Bools.{or-first, or-second, or-true-right}
 use Rattle.job.proofs.Places.{first-here, first-next, first-none}
 use Rattle.text_parts.specs.Text.{text}
 use Rattle.vox_chunks.specs.Chunks.{numberAt, stands, contentAt, childrenAt, afterChunk, missing, overruns, mismatched}

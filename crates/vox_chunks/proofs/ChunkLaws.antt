@@ -8,7 +8,7 @@ use lib.Dec.{eqb}
 use lib.ListN.{length, take, drop}
 use borrow.Author.Tests.{ltb-false, leb-false, eqb-true, not-false, lt-ltb, le-leb, lt-leb, eq-eqb, ne-eqb}
 use Rattle.text_same.specs.Same.{same}
-use Rattle.job.proofs.Tests.{or-first, or-second, or-false}
+use Rattle.ground.proofs.Bools.{or-first, or-second, or-false}
 use Rattle.vox_chunks.specs.Chunks.{stands, contentAt, childrenAt, afterChunk, missing, overruns, mismatched}
 
 -- a comparison of numbers that are known

@@ -6,7 +6,7 @@ use Prim.Native.Nat.{ℕ, zero, suc, _+_, _-_, _≤_, _<_}
 use native.Mathlib.Omega.{arith}
 use lib.Dec.{leb, ltb, eqb}
 use borrow.Author.Tests.{lt-ltb, le-ltb}
-use Rattle.job.proofs.Tests.{or-first, or-second}
+use Rattle.ground.proofs.Bools.{or-first, or-second}
 use Rattle.vox_voxels.specs.Voxels.{sideOn, wrongSide, beyond, byteOf, wrongVoxel, firstWrong}
 
 module _ (s : List ℕ) where

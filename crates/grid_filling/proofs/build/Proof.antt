@@ -3,7 +3,7 @@ use mathlib.Core.Path.{ap, _∙_}
 use native.Mathlib.Omega.{arith}
 use borrow.Author.Needs.{needs}
 use Rattle.job.specs.Job.{jobOf}
-use Rattle.grid.specs.Numbers.{upTo}
+use Rattle.ground.specs.Numbers.{upTo}
 use Rattle.grid.proofs.CellLaws.{cube-most}
 use Rattle.grid_filling.proofs.IndexLaws.{upTo-part, upTo-part-count, need-place, build-ready, build-fits, build-last}
 use Rattle.grid_filling.proofs.build.Statement.{statement}

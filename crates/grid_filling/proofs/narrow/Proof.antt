@@ -6,7 +6,7 @@ use lib.ListN.{length, take, length-set}
 use borrow.Author.Needs.{needs}
 use Rattle.job.specs.Job.{shotCount}
 use Rattle.grid.specs.Grid.{meetsOn}
-use Rattle.grid.proofs.NumberLaws.{below-at}
+use Rattle.ground.proofs.NumberLaws.{below-at}
 use Rattle.grid_filling.specs.Filling.{Front, narrowed}
 use Rattle.grid_filling.proofs.FrontLaws.{kept-none, kept-few, kept-turn, kept-all}
 use Rattle.grid_filling.proofs.narrow.Statement.{statement}

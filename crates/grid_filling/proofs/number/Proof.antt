@@ -5,7 +5,7 @@ use Prim.Native.Nat.{_≤_, _-_}
 use native.Mathlib.Omega.{arith}
 use lib.ListN.{length, drop, length-set}
 use borrow.Author.Needs.{needs}
-use Rattle.grid.specs.Numbers.{upTo}
+use Rattle.ground.specs.Numbers.{upTo}
 use Rattle.grid_filling.proofs.StoreLaws.{numbered-none, numbered-turn, numbered-all}
 use Rattle.grid_filling.proofs.number.Statement.{statement}
 use Rattle.grid_filling.proofs.number.Tie as tie

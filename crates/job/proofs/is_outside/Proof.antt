@@ -1,7 +1,7 @@
 -- The two tests joined by 'or' are what `is_outside` answers. Assumes nothing.
 use mathlib.Core.Path.{refl, _∙_}
 use borrow.Author.Tests.{lt-ltb, le-ltb}
-use Rattle.job.proofs.Tests.{or-first, or-second}
+use Rattle.ground.proofs.Bools.{or-first, or-second}
 use Rattle.job.proofs.is_outside.Statement.{statement}
 use Rattle.job.proofs.is_outside.Tie as tie
 

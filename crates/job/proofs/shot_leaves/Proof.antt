@@ -1,6 +1,6 @@
 -- The three axes' tests, joined by 'or', are what `shot_leaves` answers. Assumes nothing.
 use mathlib.Core.Path.{sym, _∙_}
-use Rattle.job.proofs.Tests.{or-first, or-second}
+use Rattle.ground.proofs.Bools.{or-first, or-second}
 use borrow.Author.Needs.{needs}
 use Rattle.job.proofs.shot_leaves.Statement.{statement}
 use Rattle.job.proofs.shot_leaves.Tie as tie

@@ -7,8 +7,8 @@ use borrow.Author.Needs.{needs}
 use Rattle.buffer.specs.Wrote.{Wrote}
 use Rattle.buffer.proofs.WroteLaws.{wrote-length}
 use Rattle.job.specs.Job.{shotCount}
-use Rattle.grid.specs.Numbers.{those}
-use Rattle.grid.proofs.NumberLaws.{below-at}
+use Rattle.ground.specs.Numbers.{those}
+use Rattle.ground.proofs.NumberLaws.{below-at}
 use Rattle.grid.proofs.PutLaws.{put-those-none, put-those-room, put-those-turn, put-those-all}
 use Rattle.measure_lines.specs.Lines.{reachesLine}
 use Rattle.measure_lines.proofs.LineLaws.{line-room}

@@ -20,8 +20,8 @@ Inv-loop field boxes x from to r l u₀ names i₀ u i =
 abbrev μ-loop : tie.MeasureT-loop
 μ-loop field boxes x from to r l u₀ names i₀ u i = to - i
 
-fill-requires : tie.Need-fill-requires Inv-loop μ-loop
-fill-requires c κs =
+fill-rect-requires : tie.Need-fill-rect-requires Inv-loop μ-loop
+fill-rect-requires c κs =
     let start = c .before .before .before .before .before in
     let lent = start .pre .1 .1 .1 in
     ((start .pre .0, lent .small), lent .upper)
@@ -34,7 +34,7 @@ fill-common-requires c κs =
     let start = c .before .before .before .before .before .before .before .before .before .before .before in
     let lent = start .pre .1 .1 .1 in
     let inv = c .before .before .loop .inv in
-    let same = inv .2 .same-size ∙ c .before .before .before .before .before .fill .ensures .0 .same-size in
+    let same = inv .2 .same-size ∙ c .before .before .before .before .before .fill-rect .ensures .0 .same-size in
     (start .pre .0, (boxes-less _ (omega arith) (start .pre .1 .0), (lent .small, omega (arith, same, lent .upper))))
 
 add-i : tie.Need-add-i Inv-loop μ-loop
@@ -54,7 +54,7 @@ name-requires c κs =
     let start = c .before .before .before .before .before .before .before .before .before .before .before .before in
     let lent = start .pre .1 .1 .1 in
     let inv = c .before .before .before .loop .inv in
-    let cleared = c .before .before .before .before .before .before .fill .ensures in
+    let cleared = c .before .before .before .before .before .before .fill-rect .ensures in
     let same = inv .2 .same-size ∙ cleared .0 .same-size in
     (start .pre .0, lent-beside lent same (beside-then (cleared .1) (inv .3)))
 
@@ -68,7 +68,7 @@ returns : tie.Need-returns Inv-loop μ-loop
 returns c =
     let around = c .before .before .before .before .before .before in
     let at = around .loop in
-    let cleared = around .before .before .before .fill .ensures in
+    let cleared = around .before .before .before .fill-rect .ensures in
     let given = around .before .before .before .before .before .before .before .before .before .args in
     let last : at .i ≡ given .to = omega arith in
     (boxes-all _ _ _ _ _ _ _ _ _ (cleared .0) (rw last at (at .inv .2)), c .before .before .name .ensures)
@@ -79,7 +79,7 @@ again-spec =
     (tie.spec
     Inv-loop
     μ-loop
-    fill-requires
+    fill-rect-requires
     loop-holds
     fill-common-requires
     add-i

@@ -23,8 +23,8 @@ returns c =
 common-requires : tie.Need-common-requires
 common-requires c κs = search needs
 
-fill-requires : tie.Need-fill-requires
-fill-requires c κs =
+fill-rect-requires : tie.Need-fill-rect-requires
+fill-rect-requires c κs =
     let start = c .before .before .before .before .before .before in
     let given = start .args in
     let test = c .before .before .before .meets .ensures in
@@ -43,11 +43,11 @@ returns-2 c =
     let test = c .before .before .before .before .before .before .meets .ensures in
     let met = not-false _ (c .before .before .before .before .before .if1 .left) in
     let core = c .before .before .before .before .common .ensures in
-    let done = c .before .before .fill .ensures in (
+    let done = c .before .before .fill-rect .ensures in (
       box-painted (given .field) (given .boxes .now) (given .x) (given .i) (given .r) test met core _ _ (done .0),
       common-beside (given .field) (given .boxes .now) (given .x) (given .i) (given .r) core (done .1),
     )
 
 pub fill-common-spec : {M : Type 1} → statement M
 fill-common-spec =
-    tie.close (tie.spec meets-requires returns common-requires fill-requires same-length returns-2)
+    tie.close (tie.spec meets-requires returns common-requires fill-rect-requires same-length returns-2)

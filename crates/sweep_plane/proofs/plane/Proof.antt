@@ -1,7 +1,7 @@
 -- Where no box begins or ends on the plane, both layers are the same.
 use mathlib.Core.Path.{_≡_}
 use native.Mathlib.Omega.{arith}
-use Rattle.sweep_plane.proofs.Laws.{bare-found, bare-both}
+use Rattle.sweep_plane.proofs.PlaneLaws.{bare-found, bare-both}
 use borrow.Author.Needs.{needs}
 use Rattle.sweep_plane.proofs.plane.Statement.{statement}
 use Rattle.sweep_plane.proofs.plane.Tie as tie

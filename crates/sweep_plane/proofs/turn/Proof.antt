@@ -1,6 +1,6 @@
 -- The images show the layers of the boxes about the plane, before and after.
 use Rattle.sweep_names.proofs.NameLaws.{lent-still}
-use Rattle.sweep_plane.proofs.Laws.{shown-about, plane-found, settled-both}
+use Rattle.sweep_plane.proofs.PlaneLaws.{shown-about, plane-found, settled-both}
 use borrow.Author.Needs.{needs}
 use Rattle.sweep_plane.proofs.turn.Statement.{statement}
 use Rattle.sweep_plane.proofs.turn.Tie as tie

@@ -3,7 +3,7 @@ use mathlib.Core.Path.{_≡_, refl}
 use Prim.Native.Nat.{_+_, _-_, _≤_}
 use native.Mathlib.Omega.{arith}
 use lib.ListN.{length}
-use Rattle.lattice.specs.Sums.{join}
+use Rattle.ground.specs.Sums.{join}
 use Rattle.sweep_tally.specs.Found.{state, found}
 use Rattle.sweep_points.specs.Points.{lineAt}
 use Rattle.sweep_points.proofs.LineLaws.{lines-none, lines-past, lines-more}

@@ -1,5 +1,4 @@
 -- Every row passed over names no column.
-use mathlib.Core.Path.{_≡_, subst}
 use Prim.Native.Nat.{_+_, _-_, _≤_}
 use native.Mathlib.Omega.{arith}
 use Rattle.sweep_points.specs.Points.{Blank}

@@ -1,6 +1,6 @@
 -- One side after the other.
 use mathlib.Core.Path.{sym, _∙_}
-use Rattle.job.proofs.Tests.{or-first, or-second}
+use Rattle.ground.proofs.Bools.{or-first, or-second}
 use borrow.Author.Needs.{needs}
 use Rattle.vox_voxels.proofs.has_wrong_side.Statement.{statement}
 use Rattle.vox_voxels.proofs.has_wrong_side.Tie as tie

@@ -4,7 +4,7 @@ use Prim.Native.Nat.{_-_, _≤_}
 use native.Mathlib.Omega.{arith}
 use lib.ListN.{length, length-set}
 use borrow.Author.Needs.{needs}
-use Rattle.grid.specs.Numbers.{Quotients}
+use Rattle.grid.specs.Quotients.{Quotients}
 use Rattle.grid.proofs.QuotientLaws.{quotients-none, quotients-turn}
 use Rattle.grid.proofs.intervals.quotients.Statement.{statement}
 use Rattle.grid.proofs.intervals.quotients.Tie as tie

@@ -3,7 +3,7 @@ use mathlib.Core.Path.{_≡_}
 use Prim.Native.Nat.{_+_, _≤_, _-_}
 use native.Mathlib.Omega.{arith}
 use borrow.Author.Needs.{needs}
-use Rattle.lattice.specs.Sums.{total}
+use Rattle.ground.specs.Sums.{total}
 use Rattle.job.specs.Job.{jobOf, shotCount}
 use Rattle.grid.specs.Grid.{pairsOf}
 use Rattle.grid.proofs.NeedLaws.{pairs-none, pairs-next, pairs-few, pairs-all}

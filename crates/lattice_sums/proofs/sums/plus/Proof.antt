@@ -1,7 +1,7 @@
 -- The sum fits by the magnitudes of the two numbers.
 use native.Mathlib.Omega.{arith}
 use mir.Facts.{toZ-ofZ}
-use Rattle.lattice.proofs.Integers.{natAbs-add}
+use Rattle.ground.proofs.Integers.{natAbs-add}
 use Rattle.lattice_weights.proofs.PackedLaws.{fits64}
 use Rattle.lattice_sums.proofs.sums.plus.Statement.{statement}
 use Rattle.lattice_sums.proofs.sums.plus.Tie as tie

@@ -10,7 +10,7 @@ use Rattle.lattice.specs.Listing.{Corner, cornerRecord}
 use Rattle.lattice_sums.specs.CornerSums.{added, Room}
 use Rattle.lattice_sums.specs.declared.sums.CornerSums.{CornerSums}
 use Rattle.lattice_sums.proofs.CornerSumLaws.{added-room}
-use Rattle.sweep_tally.specs.Found.{at, withRecord, stored, Found, state, meet, found}
+use Rattle.sweep_tally.specs.Found.{at, withRecord, storedRecord, Found, state, meet, found}
 
 -- ---- the buffer
 -- seven stores one after the other
@@ -33,16 +33,16 @@ pub record-stored : (l : List ℕ) (i x y z p : ℕ) → i + 7 ≤ length l
 unfolding cornerRecord
 record-stored l i x y z p h = seven l i (x % 256) (x / 256) (y % 256) (y / 256) (z % 256) (z / 256) p h
 
-pub stored-none : (b : List ℕ) (n : ℕ) (r : List ℕ) → length b / 7 ≤ n → b ≡ stored b n r
-unfolding stored
+pub stored-none : (b : List ℕ) (n : ℕ) (r : List ℕ) → length b / 7 ≤ n → b ≡ storedRecord b n r
+unfolding storedRecord
 stored-none b n r h = rw (le-ltb n (length b / 7) h)
 
-pub stored-one : (b : List ℕ) (n : ℕ) (r : List ℕ) {b' : List ℕ} → n < length b / 7 → b' ≡ withRecord b (7 * n) r → b' ≡ stored b n r
-unfolding stored
+pub stored-one : (b : List ℕ) (n : ℕ) (r : List ℕ) {b' : List ℕ} → n < length b / 7 → b' ≡ withRecord b (7 * n) r → b' ≡ storedRecord b n r
+unfolding storedRecord
 stored-one b n r h e = rw (lt-ltb n (length b / 7) h) e
 
 -- ---- one corner
-pub met : (t : CornerSums) (b : List ℕ) (v : Corner) {t' : CornerSums} {b' : List ℕ} → t' ≡ added t v → b' ≡ stored b (t .corners) (cornerRecord v)
+pub met : (t : CornerSums) (b : List ℕ) (v : Corner) {t' : CornerSums} {b' : List ℕ} → t' ≡ added t v → b' ≡ storedRecord b (t .corners) (cornerRecord v)
     → state t' b' ≡ meet (state t b) v
 unfolding meet
 met t b v h k = rw (h, k)

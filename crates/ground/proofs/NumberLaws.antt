@@ -1,17 +1,18 @@
--- Laws of lists made piece by piece: counting up, those that pass a test, joining and membership.
+-- Lists of numbers: counting up, those that pass a test, bounds and membership.
 use mathlib.Core.Path.{_≡_, refl, sym, ap, _∙_}
 use mathlib.Core.Bool.{Bool, true, false, cond, _&&_, _||_, or-assoc, or-true, or-false}
-use mathlib.Core.List.{List, [], _∷_, _++_, append-assoc, append-nil}
-use Prim.Native.Nat.{ℕ, zero, suc, _+_, _-_, _*_, _≤_, _<_}
-use native.Mathlib.Nat.{add-zero, add-suc, le-refl, zero-mul, suc-mul}
+use mathlib.Core.List.{List, [], _∷_, _++_}
+use Prim.Native.Nat.{ℕ, zero, suc, _+_, _-_, _≤_, _<_}
+use native.Mathlib.Nat.{add-zero, add-suc, le-refl}
 use native.Mathlib.Numerals.{add-one}
 use native.Mathlib.Omega.{arith}
 use lib.Dec.{eqb, ltb}
-use lib.ListN.{length, getD, take, drop, length-append, take-append-drop, List·getD-append}
-use lib.Seq.{take-suc, getD-at}
+use lib.ListN.{length, getD, take, drop, length-append, take-append-drop}
+use lib.Seq.{take-suc, take-all, take-append-le}
 use borrow.Author.Tests.{ltb-true, ltb-false, eqb-true, eqb-false, lt-ltb, le-ltb, eq-eqb}
-use Rattle.lattice.specs.Sums.{join}
-use Rattle.grid.specs.Numbers.{upTo, those, AllBelow, has}
+use Rattle.ground.specs.Sums.{total, join}
+use Rattle.ground.specs.Numbers.{bit, upTo, those, AllBelow, has}
+use Rattle.ground.proofs.Bits.{bit-length}
 
 -- ---- counting up
 
@@ -19,6 +20,16 @@ pub upTo-length : (n : ℕ) → length (upTo n) ≡ n
 unfolding upTo
 upTo-length zero = refl
 upTo-length (suc n) = omega (arith, length-append (upTo n) (n ∷ []), upTo-length n)
+
+upTo-more : (n k : ℕ) → take n (upTo (n + k)) ≡ upTo n
+unfolding upTo
+upTo-more n zero = rw (add-zero n) (take-all n (upTo n) (omega (arith, upTo-length n)))
+upTo-more n (suc k) = rw (add-suc n k, take-append-le n (upTo (n + k)) ((n + k) ∷ []) (omega (arith, upTo-length (n + k)))) (upTo-more n k)
+
+pub upTo-front : (n m : ℕ) → n ≤ m → take n (upTo m) ≡ upTo n
+upTo-front n m h =
+    let e : n + (m - n) ≡ m = omega arith in
+    rw e at (upTo-more n (m - n))
 
 -- ---- those that pass a test
 
@@ -64,6 +75,13 @@ module _ (f : ℕ → Bool) where
       one true h = rw h
       one false h = h
 
+-- how many pass a test
+pub those-count : (f : ℕ → Bool) (n : ℕ) → length (those f (upTo n)) ≡ total n (λ i. bit (f i))
+unfolding upTo those total
+those-count f zero = refl
+those-count f (suc n) =
+    omega (arith, ap length (those-append f (upTo n) (n ∷ [])), length-append (those f (upTo n)) (those f (n ∷ [])), those-count f n, bit-length (f n) n)
+
 -- tests that agree below n are passed by the same numbers below n
 pub those-agree : (f g : ℕ → Bool) (n : ℕ) → ((i : ℕ) → i < n → f i ≡ g i) → those f (upTo n) ≡ those g (upTo n)
 unfolding upTo those
@@ -101,50 +119,6 @@ module _ (n : ℕ) where
 
   pub below-upTo : AllBelow n (upTo n)
   below-upTo = below-up n (le-refl n)
-
--- ---- joining
-
-module _ (f : ℕ → List ℕ) where
-  pub join-next : (n : ℕ) → join (n + 1) f ≡ join n f ++ f n
-  unfolding join
-  join-next n = rw (add-one n)
-
-  pub join-add : (n k : ℕ) → join (n + k) f ≡ join n f ++ join k (λ j. f (n + j))
-  unfolding join
-  join-add n zero = rw (add-zero n) (sym (append-nil (join n f)))
-  join-add n (suc k) = rw (add-suc n k, join-add n k) (append-assoc (join n f) (join k (λ j. f (n + j))) (f (n + k)))
-
-  pub join-length-next : (n : ℕ) → length (join (n + 1) f) ≡ length (join n f) + length (f n)
-  join-length-next n = ap length (join-next n) ∙ length-append (join n f) (f n)
-
-  pub join-length-up : (n m : ℕ) → n ≤ m → length (join n f) ≤ length (join m f)
-  join-length-up n m h =
-      let e : n + (m - n) ≡ m = omega arith in
-      omega (arith, ap (λ (k : ℕ). length (join k f)) e, ap length (join-add n (m - n)), length-append (join n f) (join (m - n) (λ j. f (n + j))))
-
-  pub join-length-most : (k : ℕ) → ((i : ℕ) → length (f i) ≤ k) → (n : ℕ) → length (join n f) ≤ n * k
-  unfolding join
-  join-length-most k h zero = omega (arith, zero-mul k)
-  join-length-most k h (suc n) = omega (arith, length-append (join n f) (f n), h n, join-length-most k h n, suc-mul n k)
-
--- single numbers: number g of the series is its g-th list's one element
-module _ (f : ℕ → ℕ) where
-  pub singles-length : (n : ℕ) → length (join n (λ g. f g ∷ [])) ≡ n
-  unfolding join
-  singles-length zero = refl
-  singles-length (suc n) = omega (arith, length-append (join n (λ g. f g ∷ [])) (f n ∷ []), singles-length n)
-
-  pub singles-at : (n g : ℕ) → g < n → getD (join n (λ g. f g ∷ [])) g 0 ≡ f g
-  unfolding join
-  singles-at zero g h = absurd (omega arith)
-  singles-at (suc n) g h = one (ltb g n) refl (singles-at n g)
-    where
-      one : (b : Bool) → ltb g n ≡ b → (g < n → getD (join n (λ g. f g ∷ [])) g 0 ≡ f g) → getD (join n (λ g. f g ∷ []) ++ f n ∷ []) g 0 ≡ f g
-      one true e before =
-          List·getD-append (join n (λ g. f g ∷ [])) (f n ∷ []) 0 g (omega (arith, singles-length n, ltb-true g n e)) ∙ before (ltb-true g n e)
-      one false e before =
-          let last : g ≡ n = omega (arith, ltb-false g n e) in
-          rw last (getD-at (join n (λ g. f g ∷ [])) (f n) [] 0 n (singles-length n))
 
 -- ---- membership
 

@@ -1,14 +1,31 @@
--- Totals over 0, 1, .. n - 1: term by term, in either order of two, by digits, and of products.
-use mathlib.Core.Path.{_≡_, refl, sym, ap, _∙_}
+-- Totals over 0, 1, .. n - 1: term by term, in either order of two, by digits, and of products: laws of `total`.
+use mathlib.Core.Path.{_≡_, refl, sym, ap, _∙_, fun-ext}
 use mathlib.Core.Bool.{Bool, true, false, _&&_}
 use Prim.Native.Nat.{ℕ, zero, suc, _+_, _-_, _*_, _≤_, _<_}
-use native.Mathlib.Nat.{zero-mul, suc-mul, mul-zero, mul-add, mul-assoc, mul-comm, one-mul, add-zero, add-suc}
+use native.Mathlib.Nat.{zero-mul, suc-mul, mul-zero, mul-add, mul-assoc, mul-comm, add-zero, add-suc}
 use native.Mathlib.Omega.{arith}
-use lib.Dec.{leb, ltb}
-use borrow.Author.Tests.{lt-ltb, le-ltb, leb-true, leb-false}
-use Rattle.lattice.specs.Sums.{total}
-use Rattle.lattice.specs.Cells.{bit}
-use Rattle.lattice.proofs.SumLaws.{total-plus}
+use lib.Dec.{leb, ltb, eqb}
+use borrow.Author.Tests.{ltb-true, ltb-false, lt-ltb, le-ltb, leb-true, leb-false, eq-eqb, ne-eqb}
+use Rattle.ground.specs.Sums.{total}
+use Rattle.ground.specs.Numbers.{bit}
+use Rattle.ground.proofs.Bits.{bit-and}
+
+pub total-ext : (n : ℕ) {f g : ℕ → ℕ} → ((i : ℕ) → f i ≡ g i) → total n f ≡ total n g
+total-ext n h = ap (total n) (fun-ext h)
+
+pub total-plus : (n : ℕ) (f g : ℕ → ℕ) → total n (λ i. f i + g i) ≡ total n f + total n g
+unfolding total
+total-plus zero f g = refl
+total-plus (suc n) f g = omega (arith, total-plus n f g)
+
+-- three nested totals
+pub totals-plus : (k m l : ℕ) (f g : ℕ → ℕ → ℕ → ℕ)
+    → (total k λ x. total m λ y. total l λ z. f x y z + g x y z) ≡ (total k λ x. total m λ y. total l λ z. f x y z) + (total k λ x. total m λ y. total l λ z. g x y z)
+totals-plus k m l f g =
+    total-ext k (λ x.
+    total-ext m (λ y. total-plus l (f x y) (g x y))
+    ∙ total-plus m (λ y. total l (f x y)) (λ y. total l (g x y)))
+    ∙ total-plus k (λ x. total m λ y. total l (f x y)) (λ x. total m λ y. total l (g x y))
 
 pub total-agree : (n : ℕ) (f g : ℕ → ℕ) → ((i : ℕ) → i < n → f i ≡ g i) → total n f ≡ total n g
 unfolding total
@@ -30,15 +47,27 @@ unfolding total
 total-same zero k = sym (zero-mul k)
 total-same (suc n) k = omega (arith, total-same n k, suc-mul n k)
 
-total-none : (n : ℕ) → total n (λ i. 0) ≡ 0
+-- nothing but 0
+pub total-none : (n : ℕ) (f : ℕ → ℕ) → ((i : ℕ) → i < n → f i ≡ 0) → total n f ≡ 0
 unfolding total
-total-none zero = refl
-total-none (suc n) = omega (arith, total-none n)
+total-none zero f h = refl
+total-none (suc n) f h = omega (arith, total-none n f (λ i l. h i (omega arith)), h n (omega arith))
+
+pub total-none-at : (n : ℕ) (f : ℕ → ℕ) → total n f ≡ 0 → (i : ℕ) → i < n → f i ≡ 0
+unfolding total
+total-none-at zero f e i h = absurd (omega arith)
+total-none-at (suc n) f e i h = one (ltb i n) refl (total-none-at n f)
+  where
+    one : (b : Bool) → ltb i n ≡ b → (total n f ≡ 0 → (i : ℕ) → i < n → f i ≡ 0) → f i ≡ 0
+    one true l before = before (omega arith) i (ltb-true i n l)
+    one false l before =
+        let last : n ≡ i = omega (arith, ltb-false i n l) in
+        rw (← last) (omega arith)
 
 -- in either order
 pub total-swap : (n m : ℕ) (f : ℕ → ℕ → ℕ) → total n (λ i. total m (λ j. f i j)) ≡ total m (λ j. total n (λ i. f i j))
 unfolding total
-total-swap zero m f = sym (total-none m)
+total-swap zero m f = sym (total-none m (λ j. 0) (λ j l. refl))
 total-swap (suc n) m f = rw (total-swap n m f) (sym (total-plus m (λ j. total n (λ i. f i j)) (λ j. f n j)))
 
 pub total-append : (n k : ℕ) (f : ℕ → ℕ) → total (n + k) f ≡ total n f + total k (λ j. f (n + j))
@@ -48,6 +77,13 @@ total-append n (suc k) f = rw (add-suc n k) (omega (arith, total-append n k f))
 
 pub total-front : (f : ℕ → ℕ) (n k : ℕ) → total n f ≤ total (n + k) f
 total-front f n k = omega (arith, total-append n k f)
+
+-- the numbers from a on and before b, cut at m
+pub total-cut : (f : ℕ → ℕ) (a m b : ℕ) → a ≤ m → m ≤ b → total (b - a) (λ i. f (a + i)) ≡ total (m - a) (λ i. f (a + i)) + total (b - m) (λ i. f (m + i))
+total-cut f a m b h k =
+    let whole : b - a ≡ (m - a) + (b - m) = omega arith in
+    rw whole (total-append (m - a) (b - m) (λ i. f (a + i)))
+    ∙ ap (λ (t : ℕ). total (m - a) (λ i. f (a + i)) + t) (total-agree (b - m) _ _ λ i l. let place : a + (m - a + i) ≡ m + i = omega arith in ap f place)
 
 -- by two digits
 pub total-digits : (n m : ℕ) (f : ℕ → ℕ) → total (n * m) f ≡ total n (λ i. total m (λ j. f (i * m + j)))
@@ -63,10 +99,6 @@ total-scale (suc n) c f = rw (total-scale n c f) (sym (mul-add c (total n f) (f 
 total-scale-right : (n c : ℕ) (f : ℕ → ℕ) → total n (λ i. f i * c) ≡ total n f * c
 total-scale-right n c f = total-agree n _ _ (λ i l. mul-comm (f i) c) ∙ (total-scale n c f ∙ mul-comm c (total n f))
 
-bit-and : (a b : Bool) → bit (a && b) ≡ bit a * bit b
-bit-and true b = sym (one-mul (bit b))
-bit-and false b = sym (zero-mul (bit b))
-
 -- the triples that pass three tests, one on each
 pub total-triples : (n : ℕ) (p q r : ℕ → Bool) → total n (λ x. total n (λ y. total n (λ z. bit (p x && (q y && r z))))) ≡ total n (λ x. bit (p x)) * total n (λ y. bit (q y)) * total n (λ z. bit (r z))
 total-triples n p q r =
@@ -78,6 +110,18 @@ total-triples n p q r =
     pairs =
         total-agree n _ _ (λ y l. total-agree n _ _ (λ z l. bit-and (q y) (r z)) ∙ total-scale n (bit (q y)) (λ z. bit (r z)))
         ∙ total-scale-right n (total n (λ z. bit (r z))) (λ y. bit (q y))
+
+-- of n numbers, one is t
+pub count-one : (t n : ℕ) → t < n → total n (λ s. bit (eqb t s)) ≡ 1
+unfolding total
+count-one t zero h = absurd (omega arith)
+count-one t (suc n) h = one (ltb t n) refl (count-one t n)
+  where
+    one : (b : Bool) → ltb t n ≡ b → (t < n → total n (λ s. bit (eqb t s)) ≡ 1) → total n (λ s. bit (eqb t s)) + bit (eqb t n) ≡ 1
+    one true e before = rw (before (ltb-true t n e), ne-eqb t n (λ same. omega (arith, same, ltb-true t n e)))
+    one false e before =
+        let last : t ≡ n = omega (arith, ltb-false t n e) in
+        rw (total-none n (λ s. bit (eqb t s)) (λ s l. ap bit (ne-eqb t s (λ same. omega (arith, same, l, last)))), eq-eqb t n last)
 
 -- the numbers from a on and before b
 module _ (a b : ℕ) where

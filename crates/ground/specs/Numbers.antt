@@ -1,10 +1,18 @@
--- Lists of numbers made piece by piece: the words of the grid's definitions.
-use mathlib.Core.Path.{_≡_}
-use mathlib.Core.Bool.{Bool, cond, _||_, false}
+-- Tests and lists of numbers: how many, whether any, and which of 0, 1, .. n - 1 pass a test.
+use mathlib.Core.Bool.{Bool, true, false, cond, _||_}
 use mathlib.Core.List.{List, [], _∷_, _++_}
-use Prim.Native.Nat.{ℕ, zero, suc, _/_, _≤_, _<_}
+use Prim.Native.Nat.{ℕ, zero, suc, _<_}
 use lib.Dec.{eqb}
-use lib.ListN.{length, getD}
+
+-- a test as a number, to count what passes
+abbrev pub bit : Bool → ℕ
+bit true = 1
+bit false = 0
+
+-- some number below n passes a test
+unfoldable pub anyTo : ℕ → (ℕ → Bool) → Bool
+anyTo zero f = false
+anyTo (suc n) f = anyTo n f || f n
 
 -- 0, 1, .. n - 1
 unfoldable pub upTo : ℕ → List ℕ
@@ -25,8 +33,3 @@ AllBelow n (a ∷ l) = (a < n) × AllBelow n l
 unfoldable pub has : List ℕ → ℕ → Bool
 has [] a = false
 has (b ∷ l) a = eqb a b || has l a
-
--- a list that begins with the quotients of 0, 1, .. n - 1 by s, and then has anything
-pub record Quotients (s n : ℕ) (table : List ℕ) : Type 0 where
-  pub long : n ≤ length table
-  pub at : (a : ℕ) → a < n → getD table a 0 ≡ a / s

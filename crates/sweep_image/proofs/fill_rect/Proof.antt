@@ -6,8 +6,8 @@ use Rattle.sweep_image.specs.Images.{Beside}
 use Rattle.sweep_image.proofs.ImageLaws.{FilledTo, filled-first, filled-on, filled-all}
 use Rattle.sweep_image.proofs.WordLaws.{beside-none, beside-then}
 use borrow.Author.Needs.{needs}
-use Rattle.sweep_image.proofs.fill.Statement.{statement}
-use Rattle.sweep_image.proofs.fill.Tie as tie
+use Rattle.sweep_image.proofs.fill_rect.Statement.{statement}
+use Rattle.sweep_image.proofs.fill_rect.Tie as tie
 
 abbrev Inv-loop : tie.InvT-loop
 Inv-loop field fill r u₀ first end k₀ u k =
@@ -65,8 +65,8 @@ returns c =
     let last : at .k ≡ given .r .to / 63 + 1 = omega arith in
     (filled-all (given .fill) (given .field) (rw last at (at .inv .3)), at .inv .4)
 
-pub fill-spec : {M : Type 1} → statement M
-fill-spec =
+pub fill-rect-spec : {M : Type 1} → statement M
+fill-rect-spec =
     tie.close
     (tie.spec
     Inv-loop

@@ -3,19 +3,19 @@ use mathlib.Core.Path.{_≡_, sym, _∙_, ap, subst}
 use mathlib.Core.Logic.{_≢_}
 use mathlib.Core.Bool.{false}
 use mathlib.Core.List.{List, []}
-use Prim.Native.Nat.{ℕ, suc, _*_, _<_, _≤_}
+use Prim.Native.Nat.{ℕ, suc, _<_, _≤_}
 use native.Mathlib.Omega.{arith}
 use Rattle.lattice.specs.Cells.{up}
 use Rattle.lattice.specs.Pattern.{around, corner}
 use Rattle.lattice.specs.Axes.{x-axis}
 use Rattle.lattice.specs.Boxes.{boxAt, boxCells}
 use Rattle.lattice.proofs.PatternLaws.{still-no-corner}
-use Rattle.lattice.proofs.JoinLaws.{join-nil}
+use Rattle.ground.proofs.JoinLaws.{join-nil}
 use Rattle.lattice.proofs.SameSolid.{here-none}
 use Rattle.lattice.proofs.BoxLaws.{boxes-within}
 use Rattle.lattice_sums.specs.CornerSums.{Room}
 use Rattle.lattice_sums.specs.declared.sums.CornerSums.{CornerSums}
-use Rattle.sweep_image.specs.Images.{Layer, columns, Shows}
+use Rattle.sweep_image.specs.Images.{Layer, Shows, imageSize}
 use Rattle.sweep_settling.specs.Settling.{Settled}
 use Rattle.sweep_names.specs.Names.{Lent}
 use Rattle.sweep_overlaps.specs.Overlaps.{shade}
@@ -61,7 +61,7 @@ module _ (field : ℕ) (boxes : List ℕ) (x : ℕ) {from old n : ℕ} (a : Abou
 -- ---- the lower image brought up to date
 pub settled-both : {field : ℕ} {f g : Layer} {l u u₀ names l' names' : List ℕ} → Lent field l u names → Becomes field f g u₀ u → Shows field f u₀ → Settled field u l l' names' → Both field g l' u names'
 settled-both {field} {f} {g} a b s t = record {
-  lent = record { small = a .small; lower = subst (λ k. columns field * 1026 ≤ k) (sym (t .same-size)) (a .lower); upper = a .upper; tells = t .tells };
+  lent = record { small = a .small; lower = subst (λ k. imageSize field ≤ k) (sym (t .same-size)) (a .lower); upper = a .upper; tells = t .tells };
   lower = t .shows g (b .shows s);
   upper = b .shows s;
 }
