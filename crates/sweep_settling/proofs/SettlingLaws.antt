@@ -4,22 +4,19 @@ use mathlib.Core.Bool.{Bool, true, false, not, _&&_, and-true, false≢true}
 use mathlib.Core.List.{List}
 use Prim.Native.Nat.{ℕ, _+_, _*_, _≤_, _<_}
 use native.Mathlib.Omega.{arith}
-use lib.Bits.{bitOr, or-add-and, and-le-l, and-le-r}
+use lib.Bits.{bitOr}
 use lib.Dec.{eqb, leb, ltb}
 use lib.ListN.{length, getD, set, length-set}
 use lib.Seq.{getD-set-same, getD-set-other}
 use borrow.Author.Tests.{eqb-true, eqb-false, ne-eqb, leb-true, leb-false, ltb-true, ltb-false}
 use Rattle.sweep_words.specs.Words.{bitAt, Lowest, WithoutLowest}
-use Rattle.sweep_words.proofs.BitLaws.{bit-zero, bit-some}
+use Rattle.sweep_words.proofs.BitLaws.{bit-zero, bit-some, or-none}
 use Rattle.sweep_image.specs.Images.{columns, wordAt, rows, imageSize}
 use Rattle.sweep_image.specs.Changes.{Changed}
 use Rattle.sweep_names.specs.Names.{Tells}
 use Rattle.sweep_settling.specs.Settling.{Settled}
 
--- ---- words that are 0
-pub or-none : (v w : ℕ) → bitOr v w ≡ 0 → (v ≡ 0) × (w ≡ 0)
-or-none v w e = (omega (arith, or-add-and v w, and-le-r v w), omega (arith, or-add-and v w, and-le-l v w))
-
+-- ---- rows that are 0
 -- eight rows, one after the other
 pub blank-next : (names : List ℕ) (y i w : ℕ) → (w ≡ 0 → (j : ℕ) → y ≤ j → j < y + i → getD names j 0 ≡ 0)
     → bitOr w (getD names (y + i) 0) ≡ 0 → (j : ℕ) → y ≤ j → j < y + (i + 1) → getD names j 0 ≡ 0

@@ -4,12 +4,10 @@ use mathlib.Core.List.{List}
 use Prim.Native.Nat.{ℕ, suc, _+_, _<_, _≤_}
 use native.Mathlib.Decide.{decLe}
 use native.Mathlib.Omega.{arith}
-use lib.Bits.{bitOr, or-add-and, and-le-l, and-le-r}
+use lib.Bits.{bitOr}
 use lib.ListN.{getD}
-use Rattle.sweep_points.specs.Points.{Blank}
-
-or-none : (a b : ℕ) → bitOr a b ≡ 0 → (a ≡ 0) × (b ≡ 0)
-or-none a b e = (omega (arith, or-add-and a b, and-le-r a b), omega (arith, or-add-and a b, and-le-l a b))
+use Rattle.sweep_words.proofs.BitLaws.{or-none}
+use Rattle.sweep_blanks.specs.Blanks.{Blank}
 
 pub blank-none : (names : List ℕ) (y : ℕ) → Blank names y y
 blank-none names y = record { at = λ i a b. absurd (omega arith) }

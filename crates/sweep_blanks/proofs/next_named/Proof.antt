@@ -1,11 +1,11 @@
 -- Every row passed over names no column.
 use Prim.Native.Nat.{_+_, _-_, _≤_}
 use native.Mathlib.Omega.{arith}
-use Rattle.sweep_points.specs.Points.{Blank}
-use Rattle.sweep_points.proofs.BlankLaws.{blank-none, blank-more, blank-less}
+use Rattle.sweep_blanks.specs.Blanks.{Blank}
+use Rattle.sweep_blanks.proofs.BlankLaws.{blank-none, blank-more, blank-less}
 use borrow.Author.Needs.{needs}
-use Rattle.sweep_points.proofs.next_named.Statement.{statement}
-use Rattle.sweep_points.proofs.next_named.Tie as tie
+use Rattle.sweep_blanks.proofs.next_named.Statement.{statement}
+use Rattle.sweep_blanks.proofs.next_named.Tie as tie
 
 abbrev Inv-loop : tie.InvT-loop
 Inv-loop names y end i₀ i = (y ≤ i) × (i ≤ end + 8) × Blank names y i

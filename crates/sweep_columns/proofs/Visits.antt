@@ -12,7 +12,7 @@ use Rattle.sweep_words.proofs.BitLaws.{bit-zero}
 use Rattle.sweep_words.proofs.LowestLaws.{left-under, left-above}
 use Rattle.sweep_tally.specs.Found.{Found, found}
 use Rattle.sweep_tally.proofs.FoundLaws.{found-append}
-use Rattle.sweep_points.proofs.Joins.{join-quiet}
+use Rattle.sweep_columns.proofs.Joins.{join-quiet}
 
 -- among n places, the bits of a word name all that have a corner
 pub record Names (n all : ℕ) (f : ℕ → List Corner) : Type 0 where

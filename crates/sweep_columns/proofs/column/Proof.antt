@@ -1,8 +1,8 @@
 -- The four words about the line.
-use Rattle.sweep_points.specs.Points.{columnAt}
+use Rattle.sweep_columns.specs.Columns.{columnAt}
 use borrow.Author.Needs.{needs}
-use Rattle.sweep_points.proofs.column.Statement.{statement}
-use Rattle.sweep_points.proofs.column.Tie as tie
+use Rattle.sweep_columns.proofs.column.Statement.{statement}
+use Rattle.sweep_columns.proofs.column.Tie as tie
 
 mul-i : tie.Need-mul-i
 mul-i c = search needs

@@ -1,9 +1,9 @@
 -- Entries whose bits together are none are 0.
 use native.Mathlib.Omega.{arith}
-use Rattle.sweep_points.proofs.BlankLaws.{blank-one, blank-eight}
+use Rattle.sweep_blanks.proofs.BlankLaws.{blank-one, blank-eight}
 use borrow.Author.Needs.{needs}
-use Rattle.sweep_points.proofs.blank_rows.Statement.{statement}
-use Rattle.sweep_points.proofs.blank_rows.Tie as tie
+use Rattle.sweep_blanks.proofs.blank_rows.Statement.{statement}
+use Rattle.sweep_blanks.proofs.blank_rows.Tie as tie
 
 mul-two : tie.Need-mul-two
 mul-two c = search needs

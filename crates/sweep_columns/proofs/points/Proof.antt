@@ -3,13 +3,13 @@ use mathlib.Core.Path.{_≡_, refl}
 use lib.ListN.{length}
 use native.Mathlib.Omega.{arith}
 use Rattle.sweep_tally.specs.Found.{state}
-use Rattle.sweep_points.specs.Points.{cornerAt, columnCorners}
-use Rattle.sweep_points.proofs.Visits.{Visited, visit-none, visit-all}
-use Rattle.sweep_points.proofs.LineLaws.{names-corners}
-use Rattle.sweep_points.proofs.Turns.{point-in, point-top, point-room, point-next}
+use Rattle.sweep_columns.specs.Columns.{cornerAt, columnCorners}
+use Rattle.sweep_columns.proofs.Visits.{Visited, visit-none, visit-all}
+use Rattle.sweep_columns.proofs.CornerLaws.{names-corners}
+use Rattle.sweep_columns.proofs.CornerLaws.{point-in, point-top, point-room, point-next}
 use borrow.Author.Needs.{needs}
-use Rattle.sweep_points.proofs.points.Statement.{statement}
-use Rattle.sweep_points.proofs.points.Tie as tie
+use Rattle.sweep_columns.proofs.points.Statement.{statement}
+use Rattle.sweep_columns.proofs.points.Tie as tie
 
 abbrev Inv-loop : tie.InvT-loop
 Inv-loop l0 l1 u0 u1 k x y w buf₀ s₀ m₀ buf s m =
