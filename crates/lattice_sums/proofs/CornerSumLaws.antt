@@ -21,7 +21,7 @@ use Rattle.ground.proofs.Integers.{natAbs-add}
 use Rattle.lattice.proofs.TermBounds.{scaled-small, term-small}
 use Rattle.lattice.proofs.ListingLaws.{over-append}
 use Rattle.lattice.proofs.Agreement.{corner-sums, count-is}
-use Rattle.lattice_weights.proofs.TableLaws.{fits64}
+use Rattle.lattice_weights.proofs.PackedLaws.{fits64}
 
 -- ---- a result that went through a place of memory
 pub told8 : {z v : ℤ} → mag z < 128 → z ≡ v → toZ w8 (ofZ w8 z) ≡ v

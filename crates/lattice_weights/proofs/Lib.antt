@@ -1,2 +1,1 @@
-pub mod TableLaws
-pub mod PackedLaws
+pub mod PackedLaws  -- the packed table as it is filled

@@ -10,16 +10,11 @@ use Rattle.lattice.specs.Pattern.{Pattern, ofByte, weights}
 abbrev pub weight : ℕ → Pattern → ℤ
 weight j p = getD (weights p) j (pos 0)
 
--- a table of one weight: its value at each of the 256 patterns
-pub record Weighs (f : Pattern → ℤ) (t : List ℤ) : Type 0 where
-  pub long : length t ≡ 256
-  pub entry : (p : ℕ) → p < 256 → getD t p (pos 0) ≡ f (ofByte p)
-
 -- a table of the first n weights: sixteen places a pattern, and weight j at place j of them
-pub record Holds (n : ℕ) (t : List ℤ) : Type 0 where
+pub record FirstWeights (n : ℕ) (t : List ℤ) : Type 0 where
   pub long : length t ≡ 4096
   pub entry : (p j : ℕ) → p < 256 → j < n → getD t (16 * p + j) (pos 0) ≡ weight j (ofByte p)
 
 -- a table of all ten
 abbrev pub Packed : List ℤ → Type 0
-Packed = Holds 10
+Packed = FirstWeights 10

@@ -1,27 +1,28 @@
 // The ten weights of every pattern in one local table, sixteen places a pattern, which a caller makes once and lends: the compiler puts a
-// constant table together on the stack at every read.
-mod tables;
-
+// constant table together on the stack at every read. Stands on `lattice_tables` and `lattice`.
+//
+// `t` is the lent table, `p` or `q` a pattern's byte, and `j` one of the ten weights.
 ghost use mathlib.Core.Path.{_≡_};
 ghost use Prim.Native.Nat.{_+_, _<_};
 ghost use lib.ListN.{length};
 ghost use Rattle.lattice.specs.Pattern.{ofByte};
-ghost use Rattle.lattice_weights.specs.Packed.{weight, Weighs, Holds, Packed};
-use crate::tables::table_ax;
-use crate::tables::table_ay;
-use crate::tables::table_az;
-use crate::tables::table_ex;
-use crate::tables::table_ey;
-use crate::tables::table_ez;
-use crate::tables::table_ix;
-use crate::tables::table_iy;
-use crate::tables::table_iz;
-use crate::tables::table_w;
+ghost use Rattle.lattice_tables.specs.Tables.{Weighs};
+ghost use Rattle.lattice_weights.specs.Packed.{weight, FirstWeights, Packed};
+use lattice_tables::table_ax;
+use lattice_tables::table_ay;
+use lattice_tables::table_az;
+use lattice_tables::table_ex;
+use lattice_tables::table_ey;
+use lattice_tables::table_ez;
+use lattice_tables::table_ix;
+use lattice_tables::table_iy;
+use lattice_tables::table_iz;
+use lattice_tables::table_w;
 
 // Puts the table of weight j beside those of the weights before it.
 fn copy_in(t: &mut [i8], j: usize, table: &[i8])
-    requires { ⌜ (j < 10) × Holds j (now t) × Weighs (weight j) (now table) ⌝ }
-    ensures { λ _. ⌜ Holds (j + 1) (now (t .exit)) ⌝ }
+    requires { ⌜ (j < 10) × FirstWeights j (now t) × Weighs (weight j) (now table) ⌝ }
+    ensures { λ _. ⌜ FirstWeights (j + 1) (now (t .exit)) ⌝ }
 {
     let mut q = 0;
     while q < 256 {
@@ -32,8 +33,8 @@ fn copy_in(t: &mut [i8], j: usize, table: &[i8])
 
 // The weights of the area, after that of the volume.
 fn put_area(t: &mut [i8])
-    requires { ⌜ Holds 1 (now t) ⌝ }
-    ensures { λ _. ⌜ Holds 4 (now (t .exit)) ⌝ }
+    requires { ⌜ FirstWeights 1 (now t) ⌝ }
+    ensures { λ _. ⌜ FirstWeights 4 (now (t .exit)) ⌝ }
 {
     copy_in(t, 1, &table_ax());
     copy_in(t, 2, &table_ay());
@@ -42,8 +43,8 @@ fn put_area(t: &mut [i8])
 
 // The weights of the edge length, after those.
 fn put_edge(t: &mut [i8])
-    requires { ⌜ Holds 4 (now t) ⌝ }
-    ensures { λ _. ⌜ Holds 7 (now (t .exit)) ⌝ }
+    requires { ⌜ FirstWeights 4 (now t) ⌝ }
+    ensures { λ _. ⌜ FirstWeights 7 (now (t .exit)) ⌝ }
 {
     copy_in(t, 4, &table_ex());
     copy_in(t, 5, &table_ey());
@@ -52,8 +53,8 @@ fn put_edge(t: &mut [i8])
 
 // The weights of the inner length, after those.
 fn put_inner(t: &mut [i8])
-    requires { ⌜ Holds 7 (now t) ⌝ }
-    ensures { λ _. ⌜ Holds 10 (now (t .exit)) ⌝ }
+    requires { ⌜ FirstWeights 7 (now t) ⌝ }
+    ensures { λ _. ⌜ FirstWeights 10 (now (t .exit)) ⌝ }
 {
     copy_in(t, 7, &table_ix());
     copy_in(t, 8, &table_iy());

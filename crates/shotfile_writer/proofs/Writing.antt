@@ -14,10 +14,9 @@ use Rattle.job.specs.Checking.{tests, checked}
 use Rattle.refusals.proofs.FirstOf.{first-stopped}
 use Rattle.refusals.specs.Deciding.{Decides}
 use Rattle.refusals.proofs.OneMore.{too-short}
-use Rattle.job.proofs.Conditions.{job-decides}
+use Rattle.job.proofs.Conditions.{job-decides, accepted-valid}
 use Rattle.refusals.proofs.Deciding.{decides-more}
 use Rattle.job.proofs.Shots.{shots-count, shots-from, shots-end}
-use Rattle.job.proofs.Conditions.{accepted-valid}
 use Rattle.shotfile_records.specs.declared.Fields.{Fields}
 use Rattle.shotfile_writer.specs.declared.WriteAnswer.the-variants.{Written, Refused as Unwritten}
 use Rattle.shotfile_writer.specs.Calls.{longFile, writeTests, writtenNumbers, writeAnswer, writeValues, writeBytes, WriteCall}

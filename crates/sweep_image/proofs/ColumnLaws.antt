@@ -1,20 +1,18 @@
--- The words of a column in the rows of a rectangle, changed; and the column named in those rows where the two images differ.
+-- The words of a column in the rows of a rectangle, changed.
 use mathlib.Core.Path.{_≡_, refl, sym, _∙_, ap}
-use mathlib.Core.Bool.{Bool, true, false, not, cond, _&&_, _||_, and-true, and-false, or-false, or-true, false≢true}
+use mathlib.Core.Bool.{Bool, true, false, not, _&&_, _||_, and-true, and-false, or-false}
 use mathlib.Core.List.{List}
-use mathlib.Core.Logic.{_⊎_, inl, inr, ⊎-elim}
+use mathlib.Core.Logic.{_⊎_, inl, inr}
 use Prim.Native.Nat.{ℕ, _+_, _-_, _*_, _/_, _^_, _≤_, _<_}
 use native.Mathlib.Omega.{arith}
-use lib.Bits.{bitOr}
 use lib.Dec.{eqb, ltb, leb}
-use lib.ListN.{getD}
-use borrow.Author.Tests.{ltb-true, ltb-false, leb-true, leb-false, eqb-true, eqb-false, lt-ltb, le-ltb, le-leb, lt-leb, eq-eqb, ne-eqb}
+use borrow.Author.Tests.{ltb-true, ltb-false, leb-true, leb-false, eqb-true, eqb-false, lt-ltb, le-ltb, le-leb, lt-leb}
 use Rattle.sweep_words.specs.Words.{bitAt}
-use Rattle.sweep_words.proofs.BitLaws.{bit-and, bit-or, bit-not, bit-single}
-use Rattle.sweep_image.specs.Images.{columns, wordAt, TellsBut, Beside, after, inRect, wordsFrom, RectIn, filling}
-use Rattle.sweep_image.specs.Changes.{Changed, namedIf, masked, ColumnFilled}
+use Rattle.sweep_words.proofs.BitLaws.{bit-and, bit-or, bit-not}
+use Rattle.sweep_image.specs.Images.{wordAt, Beside, after, inRect, filling, rows}
+use Rattle.sweep_image.specs.Changes.{Changed, masked, ColumnFilled}
 use Rattle.sweep_image.specs.declared.Rect.{Rect}
-use Rattle.sweep_image.proofs.WordLaws.{Word, word-not, not-word}
+use Rattle.sweep_image.proofs.WordLaws.{not-word}
 
 -- ---- the cells of a rectangle
 module _ (r : Rect) (y z : ℕ) where
@@ -53,10 +51,10 @@ module _ (k a b v : ℕ) (fits : v < 2 ^ 64) (mask : (i : ℕ) → i < 64 → bi
 
 -- ---- a column filled or emptied
 -- the rows of the rectangle in column k
-abbrev Here : Rect → ℕ → ℕ → ℕ → Type 0
+abbrev pub Here : Rect → ℕ → ℕ → ℕ → Type 0
 Here r k j y = (j ≡ k) × (r .low < y) × (y ≤ r .high)
 
-here-or-not : (r : Rect) (k j y : ℕ) → Here r k j y ⊎ (Here r k j y → ⊥)
+pub here-or-not : (r : Rect) (k j y : ℕ) → Here r k j y ⊎ (Here r k j y → ⊥)
 here-or-not r k j y = go (eqb j k) (ltb (r .low) y) (leb y (r .high)) refl refl refl
   where
     go : (s t u : Bool) → eqb j k ≡ s → ltb (r .low) y ≡ t → leb y (r .high) ≡ u → Here r k j y ⊎ (Here r k j y → ⊥)
@@ -66,19 +64,19 @@ here-or-not r k j y = go (eqb j k) (ltb (r .low) y) (leb y (r .high)) refl refl 
     go true true false e f g = inr (λ h. let l : r .high < y = leb-false y (r .high) g in let m : y ≤ r .high = h .2 in omega arith)
 
 module _ {g : ℕ → ℕ → ℕ} (r : Rect) (k : ℕ) {u u' : List ℕ} (small : r .high ≤ 1024)
-    (c : Changed g (k * 1026 + (r .low + 1)) (k * 1026 + (r .high + 1)) u u') where
+    (c : Changed g (k * rows + (r .low + 1)) (k * rows + (r .high + 1)) u u') where
   -- the words elsewhere stay
-  word-kept : (j y : ℕ) → y < 1026 → (Here r k j y → ⊥) → wordAt u' j y ≡ wordAt u j y
+  word-kept : (j y : ℕ) → y < rows → (Here r k j y → ⊥) → wordAt u' j y ≡ wordAt u j y
   word-kept j y h not-here =
-      go (ltb (j * 1026 + y) (k * 1026 + (r .low + 1))) (ltb (j * 1026 + y) (k * 1026 + (r .high + 1))) refl refl
+      go (ltb (j * rows + y) (k * rows + (r .low + 1))) (ltb (j * rows + y) (k * rows + (r .high + 1))) refl refl
     where
-      go : (s t : Bool) → ltb (j * 1026 + y) (k * 1026 + (r .low + 1)) ≡ s → ltb (j * 1026 + y) (k * 1026 + (r .high + 1)) ≡ t
+      go : (s t : Bool) → ltb (j * rows + y) (k * rows + (r .low + 1)) ≡ s → ltb (j * rows + y) (k * rows + (r .high + 1)) ≡ t
           → wordAt u' j y ≡ wordAt u j y
-      go true t e f = c .before (j * 1026 + y) (ltb-true (j * 1026 + y) (k * 1026 + (r .low + 1)) e)
-      go false false e f = c .past (j * 1026 + y) (ltb-false (j * 1026 + y) (k * 1026 + (r .high + 1)) f)
+      go true t e f = c .before (j * rows + y) (ltb-true (j * rows + y) (k * rows + (r .low + 1)) e)
+      go false false e f = c .past (j * rows + y) (ltb-false (j * rows + y) (k * rows + (r .high + 1)) f)
       go false true e f =
-          let l : k * 1026 + (r .low + 1) ≤ j * 1026 + y = ltb-false (j * 1026 + y) (k * 1026 + (r .low + 1)) e in
-          let m : j * 1026 + y < k * 1026 + (r .high + 1) = ltb-true (j * 1026 + y) (k * 1026 + (r .high + 1)) f in
+          let l : k * rows + (r .low + 1) ≤ j * rows + y = ltb-false (j * rows + y) (k * rows + (r .low + 1)) e in
+          let m : j * rows + y < k * rows + (r .high + 1) = ltb-true (j * rows + y) (k * rows + (r .high + 1)) f in
           let same : j ≡ k = omega arith in
           absurd (not-here (same, omega arith, omega arith))
 
@@ -91,12 +89,12 @@ module _ {g : ℕ → ℕ → ℕ} (r : Rect) (k : ℕ) {u u' : List ℕ} (small
     other = λ j y n h. word-kept j y h (λ e. n (e .0));
   }
     where
-      kept : (y b : ℕ) → y < 1026 → (Here r k k y → ⊥) → inRect r y (63 * k + b) ≡ false
+      kept : (y b : ℕ) → y < rows → (Here r k k y → ⊥) → inRect r y (63 * k + b) ≡ false
           → bitAt (wordAt u' k y) b ≡ filling fill (bitAt (wordAt u k y) b) (inRect r y (63 * k + b))
       kept y b h n e =
           ap (λ (w : ℕ). bitAt w b) (word-kept k y h n) ∙ filling-kept fill (bitAt (wordAt u k y) b) e
 
-      inside : (y b : ℕ) → y < 1026 → b < 64 → (s t : Bool) → ltb (r .low) y ≡ s → leb y (r .high) ≡ t
+      inside : (y b : ℕ) → y < rows → b < 64 → (s t : Bool) → ltb (r .low) y ≡ s → leb y (r .high) ≡ t
           → bitAt (wordAt u' k y) b ≡ filling fill (bitAt (wordAt u k y) b) (inRect r y (63 * k + b))
       inside y b h l false t e f =
           let m : y ≤ r .low = ltb-false (r .low) y e in
@@ -107,8 +105,8 @@ module _ {g : ℕ → ℕ → ℕ} (r : Rect) (k : ℕ) {u u' : List ℕ} (small
       inside y b h l true true e f =
           let m : r .low < y = ltb-true (r .low) y e in
           let q : y ≤ r .high = leb-true y (r .high) f in
-          ap (λ (w : ℕ). bitAt w b) (c .within (k * 1026 + y) (omega arith) (omega arith))
-          ∙ bits (k * 1026 + y) (wordAt u k y) b l
+          ap (λ (w : ℕ). bitAt w b) (c .within (k * rows + y) (omega arith) (omega arith))
+          ∙ bits (k * rows + y) (wordAt u k y) b l
           ∙ ap (filling fill (bitAt (wordAt u k y) b)) (sym (in-rows r y (63 * k + b) m q))
 
   -- all of them are words of the rectangle
@@ -121,75 +119,3 @@ module _ {g : ℕ → ℕ → ℕ} (r : Rect) (k : ℕ) {u u' : List ℕ} (small
       high = here .2;
     });
   }
-
--- ---- a column named
-module _ {n : ℕ} (r : Rect) (k : ℕ) (l u : List ℕ) (v : ℕ) (single : v ≡ 2 ^ k) {names names' : List ℕ} (inside : RectIn n r)
-    (column : k < columns n) (d : Changed (namedIf l u (k * 1026) v) (r .low + 1) (r .high + 1) names names') where
-  column-bit : (j : ℕ) → bitAt v j ≡ eqb j k
-  column-bit j = ap (λ (w : ℕ). bitAt w j) single ∙ bit-single k j
-
-  -- the other columns are named as before, and so is this one in the other rows
-  name-kept : (j y : ℕ) → (Here r k j y → ⊥) → bitAt (getD names' y 0) j ≡ bitAt (getD names y 0) j
-  name-kept j y not-here = go (ltb (r .low) y) (leb y (r .high)) refl refl
-    where
-      stays : (t : Bool) (w : ℕ) → (j ≡ k → ⊥) → bitAt (cond t w (bitOr w v)) j ≡ bitAt w j
-      stays true w n = refl
-      stays false w n =
-          bit-or w v j ∙ ap (λ (t : Bool). bitAt w j || t) (column-bit j ∙ ne-eqb j k n) ∙ or-false (bitAt w j)
-
-      go : (s t : Bool) → ltb (r .low) y ≡ s → leb y (r .high) ≡ t → bitAt (getD names' y 0) j ≡ bitAt (getD names y 0) j
-      go false t e f =
-          let m : y ≤ r .low = ltb-false (r .low) y e in
-          ap (λ (w : ℕ). bitAt w j) (d .before y (omega arith))
-      go true false e f =
-          let m : r .high < y = leb-false y (r .high) f in
-          ap (λ (w : ℕ). bitAt w j) (d .past y (omega arith))
-      go true true e f =
-          let m : r .low < y = ltb-true (r .low) y e in
-          let q : y ≤ r .high = leb-true y (r .high) f in
-          ap (λ (w : ℕ). bitAt w j) (d .within y (omega arith) (omega arith))
-          ∙ stays (eqb (wordAt l k y) (wordAt u k y)) (getD names y 0) (λ same. not-here (same, m, q))
-
-  -- where this column is not named, the images are the same
-  same-here : (y : ℕ) → r .low < y → y ≤ r .high → bitAt (getD names' y 0) k ≡ false → wordAt l k y ≡ wordAt u k y
-  same-here y m q e = go (eqb (wordAt l k y) (wordAt u k y)) refl
-    where
-      go : (t : Bool) → eqb (wordAt l k y) (wordAt u k y) ≡ t → wordAt l k y ≡ wordAt u k y
-      go true f = eqb-true (wordAt l k y) (wordAt u k y) f
-      go false f =
-          let more : getD names' y 0 ≡ bitOr (getD names y 0) v
-          = d .within y (omega arith) (omega arith) ∙ ap (λ (t : Bool). cond t (getD names y 0) (bitOr (getD names y 0) v)) f in
-          absurd
-          (false≢true
-          (sym e ∙ ap (λ (w : ℕ). bitAt w k) more ∙ bit-or (getD names y 0) v k
-          ∙ ap (λ (t : Bool). bitAt (getD names y 0) k || t) (column-bit k ∙ eq-eqb k k refl) ∙ or-true (bitAt (getD names y 0) k)))
-
-  pub column-tells : TellsBut n (wordsFrom r k) l u names → TellsBut n (wordsFrom r (k + 1)) l u names'
-  column-tells t = record {
-    size = d .same-size ∙ t .size;
-    same = λ j y h m out e. ⊎-elim (λ here. at-once j y here e) (λ not-here. as-before j y h m out e not-here) (here-or-not r k j y);
-    past = λ y h. d .past y (omega (arith, inside .y-in)) ∙ t .past y h;
-    few = λ j y e. ⊎-elim (λ here. few-here j (here .0)) (λ not-here. t .few j y (sym (name-kept j y not-here) ∙ e))
-        (here-or-not r k j y);
-  }
-    where
-      few-here : (j : ℕ) → j ≡ k → j < columns n
-      few-here j same = rw same column
-
-      at-once : (j y : ℕ) → Here r k j y → bitAt (getD names' y 0) j ≡ false → wordAt l j y ≡ wordAt u j y
-      at-once j y here e =
-          let same : j ≡ k = here .0 in
-          rw same (same-here y (here .1) (here .2) (rw same at e))
-
-      past-here : (j y : ℕ) → (Here r k j y → ⊥) → Word r k j y → Word r (k + 1) j y
-      past-here j y not-here w = go (eqb j k) refl
-        where
-          go : (t : Bool) → eqb j k ≡ t → Word r (k + 1) j y
-          go true e = absurd (not-here (eqb-true j k e, w .low, w .high))
-          go false e =
-              record { from = let n : j ≡ k → ⊥ = eqb-false j k e in omega (arith, w .from, n); to = w .to; low = w .low; high = w .high }
-
-      as-before : (j y : ℕ) → j < columns n → y < 1026 → wordsFrom r (k + 1) j y ≡ false → bitAt (getD names' y 0) j ≡ false
-          → (Here r k j y → ⊥) → wordAt l j y ≡ wordAt u j y
-      as-before j y h m out e not-here =
-          t .same j y h m (word-not r k j y λ w. not-word r (k + 1) j y out (past-here j y not-here w)) (sym (name-kept j y not-here) ∙ e)

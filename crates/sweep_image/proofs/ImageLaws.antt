@@ -1,7 +1,7 @@
 -- Images column by column: a rectangle filled or emptied in the columns before that of a loop, which at the end changes what the image
 -- shows; layers that are the same cell by cell, and blank images.
-use mathlib.Core.Path.{_≡_, refl, sym, _∙_, ap}
-use mathlib.Core.Bool.{Bool, true, false, false≢true}
+use mathlib.Core.Path.{_≡_, refl, _∙_, ap}
+use mathlib.Core.Bool.{Bool, true, false}
 use mathlib.Core.List.{List}
 use Prim.Native.Nat.{ℕ, zero, suc, _+_, _*_, _/_, _≤_, _<_}
 use native.Mathlib.Omega.{arith}
@@ -10,7 +10,7 @@ use lib.ListN.{length, getD, replicate, length-replicate}
 use borrow.Author.Tests.{ltb-true, ltb-false}
 use Rattle.sweep_words.specs.Words.{bitAt}
 use Rattle.sweep_words.proofs.BitLaws.{bit-zero}
-use Rattle.sweep_image.specs.Images.{Layer, columns, wordAt, Shows, Tells, inRect, Turned, filling, filled}
+use Rattle.sweep_image.specs.Images.{Layer, wordAt, Shows, inRect, Turned, filling, filled, rows, imageSize}
 use Rattle.sweep_image.specs.Changes.{ColumnFilled}
 use Rattle.sweep_image.specs.declared.Rect.{Rect}
 use Rattle.sweep_image.proofs.ColumnLaws.{left-of, right-of, filling-kept}
@@ -19,9 +19,9 @@ use Rattle.sweep_image.proofs.ColumnLaws.{left-of, right-of, filling-ke
 -- the columns before j are filled or emptied
 pub record FilledTo (fill : Bool) (r : Rect) (j : ℕ) (u u' : List ℕ) : Type 0 where
   pub same-size : length u' ≡ length u
-  pub done : (k y b : ℕ) → k < j → y < 1026 → b < 64
+  pub done : (k y b : ℕ) → k < j → y < rows → b < 64
       → bitAt (wordAt u' k y) b ≡ filling fill (bitAt (wordAt u k y) b) (inRect r y (63 * k + b))
-  pub rest : (k y : ℕ) → j ≤ k → y < 1026 → wordAt u' k y ≡ wordAt u k y
+  pub rest : (k y : ℕ) → j ≤ k → y < rows → wordAt u' k y ≡ wordAt u k y
 
 module _ (fill : Bool) where
   -- where no cell of a column lies in the rectangle, the column stays as it is
@@ -40,7 +40,7 @@ module _ (fill : Bool) where
     rest = λ k y h m. c .other k y (λ e. omega arith) m ∙ d .rest k y (omega arith) m;
   }
     where
-      upto : (k y b : ℕ) → k < j + 1 → y < 1026 → b < 64 → (t : Bool) → ltb k j ≡ t
+      upto : (k y b : ℕ) → k < j + 1 → y < rows → b < 64 → (t : Bool) → ltb k j ≡ t
           → bitAt (wordAt u'' k y) b ≡ filling fill (bitAt (wordAt u k y) b) (inRect r y (63 * k + b))
       upto k y b h m l true e =
           let before : k < j = ltb-true k j e in
@@ -54,7 +54,7 @@ module _ (fill : Bool) where
   pub filled-all : {r : Rect} {u u' : List ℕ} (n : ℕ) → FilledTo fill r (r .to / 63 + 1) u u' → Turned n (filled fill r) u u'
   filled-all {r} {u} {u'} n d = record { shows = shows; same-size = d .same-size }
     where
-      bits : (k y b : ℕ) → y < 1026 → b < 64 → (t : Bool) → ltb k (r .to / 63 + 1) ≡ t
+      bits : (k y b : ℕ) → y < rows → b < 64 → (t : Bool) → ltb k (r .to / 63 + 1) ≡ t
           → bitAt (wordAt u' k y) b ≡ filling fill (bitAt (wordAt u k y) b) (inRect r y (63 * k + b))
       bits k y b m l true e = d .done k y b (ltb-true k (r .to / 63 + 1) e) m l
       bits k y b m l false e =
@@ -75,17 +75,8 @@ pub shows-ext : {n : ℕ} {f g : Layer} {img : List ℕ} → ((y z : ℕ) → f 
 shows-ext e s = record { size = s .size; at = λ k y b h m l. s .at k y b h m l ∙ e y (63 * k + b) }
 
 -- an image of zeros shows the empty layer
-pub shows-none : (n : ℕ) (img : List ℕ) → columns n * 1026 ≤ length img → ((i : ℕ) → getD img i 0 ≡ 0) → Shows n (λ y z. false) img
-shows-none n img h z = record { size = h; at = λ k y b i j l. ap (λ (w : ℕ). bitAt w b) (z (k * 1026 + y)) ∙ bit-zero b }
-
--- two images that are the same, and blank names
-pub tells-blank : (n : ℕ) (l names : List ℕ) → length names ≡ 1040 → ((y : ℕ) → getD names y 0 ≡ 0) → Tells n l l names
-tells-blank n l names h z = record {
-  size = h;
-  same = λ k y i j e. refl;
-  past = λ y i. z y;
-  few = λ k y e. absurd (false≢true (sym (ap (λ (w : ℕ). bitAt w k) (z y) ∙ bit-zero k) ∙ e));
-}
+pub shows-none : (n : ℕ) (img : List ℕ) → imageSize n ≤ length img → ((i : ℕ) → getD img i 0 ≡ 0) → Shows n (λ y z. false) img
+shows-none n img h z = record { size = h; at = λ k y b i j l. ap (λ (w : ℕ). bitAt w b) (z (k * rows + y)) ∙ bit-zero b }
 
 -- every word of an array of zeros is 0
 pub zeros-at : (m i : ℕ) → _≡_ {A = ℕ} (getD (replicate m 0) i 0) 0
@@ -93,9 +84,6 @@ zeros-at zero i = refl
 zeros-at (suc m) zero = refl
 zeros-at (suc m) (suc i) = zeros-at m i
 
--- an image as it is first lent, and the names
-pub shows-zeros : (n m : ℕ) → columns n * 1026 ≤ m → Shows n (λ y z. false) (replicate m 0)
+-- an image as it is first lent
+pub shows-zeros : (n m : ℕ) → imageSize n ≤ m → Shows n (λ y z. false) (replicate m 0)
 shows-zeros n m h = shows-none n (replicate m 0) (rw (length-replicate {A = ℕ} m 0) h) (zeros-at m)
-
-pub tells-zeros : (n : ℕ) (l : List ℕ) → Tells n l l (replicate 1040 0)
-tells-zeros n l = tells-blank n l (replicate 1040 0) (length-replicate {A = ℕ} 1040 0) (zeros-at 1040)

@@ -1,21 +1,14 @@
--- The words of a rectangle: an image changed in them only, rectangle after rectangle; and the names that tell of the other words.
+-- The words of a rectangle: an image changed in them only, rectangle after rectangle.
 use mathlib.Core.Path.{_≡_, refl, sym, _∙_}
-use mathlib.Core.Bool.{Bool, true, false, _&&_, true≢false, false≢true}
+use mathlib.Core.Bool.{true, false, _&&_, true≢false}
 use mathlib.Core.List.{List}
-use Prim.Native.Nat.{ℕ, _+_, _/_, _≤_, _<_}
+use Prim.Native.Nat.{ℕ, _/_, _≤_, _<_}
 use native.Mathlib.Omega.{arith}
 use lib.Dec.{ltb, leb}
 use borrow.Author.Tests.{ltb-true, leb-true, lt-ltb, le-leb}
-use Rattle.sweep_image.specs.Images.{Tells, TellsBut, Beside, after, wordsFrom, inWords}
+use Rattle.ground.proofs.Bools.{and-true, not-so}
+use Rattle.sweep_image.specs.Images.{Beside, after, wordsFrom}
 use Rattle.sweep_image.specs.declared.Rect.{Rect}
-
-both : (a b : Bool) → a && b ≡ true → (a ≡ true) × (b ≡ true)
-both true b h = (refl, h)
-both false b h = absurd (false≢true h)
-
-not-so : (a : Bool) → (a ≡ true → ⊥) → a ≡ false
-not-so true h = absurd (h refl)
-not-so false h = refl
 
 -- ---- a word of a rectangle
 -- the word of row y in column k, in one of the columns from j on
@@ -28,9 +21,9 @@ pub record Word (r : Rect) (j k y : ℕ) : Type 0 where
 module _ (r : Rect) (j k y : ℕ) where
   pub in-word : wordsFrom r j k y ≡ true → Word r j k y
   in-word e =
-      let kz = both (leb j k && leb k (r .to / 63)) (after (r .low) (r .high) y) e in
-      let on-z = both (leb j k) (leb k (r .to / 63)) (kz .0) in
-      let on-y = both (ltb (r .low) y) (leb y (r .high)) (kz .1) in
+      let kz = and-true (leb j k && leb k (r .to / 63)) (after (r .low) (r .high) y) e in
+      let on-z = and-true (leb j k) (leb k (r .to / 63)) (kz .0) in
+      let on-y = and-true (ltb (r .low) y) (leb y (r .high)) (kz .1) in
       record {
         from = leb-true j k (on-z .0);
         to = leb-true k (r .to / 63) (on-z .1);
@@ -66,23 +59,4 @@ beside-less r s low high from to b = record {
         low = omega (arith, low, w .low);
         high = omega (arith, high, w .high);
       }));
-}
-
--- ---- the names
--- they tell of the words that are as before
-pub tells-beside : {n : ℕ} {r : Rect} {l u v names : List ℕ} → Tells n l u names → Beside r u v → TellsBut n (inWords r) l v names
-tells-beside t b = record {
-  size = t .size;
-  same = λ k y h m out e. t .same k y h m e ∙ sym (b .kept k y m out);
-  past = t .past;
-  few = t .few;
-}
-
--- past the last column there are no words of the rectangle left
-pub tells-all : {n : ℕ} (r : Rect) {l u names : List ℕ} → TellsBut n (wordsFrom r (r .to / 63 + 1)) l u names → Tells n l u names
-tells-all r t = record {
-  size = t .size;
-  same = λ k y h m e. t .same k y h m (word-not r (r .to / 63 + 1) k y λ w. omega (arith, w .from, w .to)) e;
-  past = t .past;
-  few = t .few;
 }

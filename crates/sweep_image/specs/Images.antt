@@ -1,5 +1,5 @@
--- Bit images of a layer of cells, two of which lie about a plane. A cell is numbered by the points where it ends on y and z; word
--- k * 1026 + y of an image has the cells of row y from place 63k to place 63k + 63.
+-- Bit images of a layer of cells about a plane. A cell is numbered by the points where it ends on y and z; word k * rows + y of an image has
+-- the cells of row y from place 63k to place 63k + 63.
 use mathlib.Core.Path.{_≡_}
 use mathlib.Core.Bool.{Bool, true, false, not, _&&_, _||_}
 use mathlib.Core.List.{List}
@@ -17,21 +17,22 @@ Layer = ℕ → ℕ → Bool
 abbrev pub columns : ℕ → ℕ
 columns n = n / 63 + 1
 
+-- how many rows a column has: one for each point of the largest field, and one more
+abbrev pub rows : ℕ
+rows = 1026
+
+-- how many words the image of a field of side n has
+abbrev pub imageSize : ℕ → ℕ
+imageSize n = columns n * rows
+
 -- the word of row y in column k
 abbrev pub wordAt : List ℕ → ℕ → ℕ → ℕ
-wordAt img k y = getD img (k * 1026 + y) 0
+wordAt img k y = getD img (k * rows + y) 0
 
 -- an image shows a layer of a field of side n
 pub record Shows (n : ℕ) (f : Layer) (img : List ℕ) : Type 0 where
-  pub size : columns n * 1026 ≤ length img
-  pub at : (k y b : ℕ) → k < columns n → y < 1026 → b < 64 → bitAt (wordAt img k y) b ≡ f y (63 * k + b)
-
--- bit k of entry y names column k in row y: where a column is not named, two images are the same; none is named past the field
-pub record Tells (n : ℕ) (l u names : List ℕ) : Type 0 where
-  pub size : length names ≡ 1040
-  pub same : (k y : ℕ) → k < columns n → y < 1026 → bitAt (getD names y 0) k ≡ false → wordAt l k y ≡ wordAt u k y
-  pub past : (y : ℕ) → n < y → getD names y 0 ≡ 0
-  pub few : (k y : ℕ) → bitAt (getD names y 0) k ≡ true → k < columns n
+  pub size : imageSize n ≤ length img
+  pub at : (k y b : ℕ) → k < columns n → y < rows → b < 64 → bitAt (wordAt img k y) b ≡ f y (63 * k + b)
 
 -- the place p lies after a and up to b: the unit interval that ends there lies between a and b
 abbrev pub after : ℕ → ℕ → ℕ → Bool
@@ -58,14 +59,7 @@ inWords r k y = wordsFrom r (r .from / 63) k y
 
 -- u' is u but for the words of a rectangle
 pub record Beside (r : Rect) (u u' : List ℕ) : Type 0 where
-  pub kept : (k y : ℕ) → y < 1026 → inWords r k y ≡ false → wordAt u' k y ≡ wordAt u k y
-
--- columns are named, but not yet for some words: `Tells` holds of the other words
-pub record TellsBut (n : ℕ) (but : ℕ → ℕ → Bool) (l u names : List ℕ) : Type 0 where
-  pub size : length names ≡ 1040
-  pub same : (k y : ℕ) → k < columns n → y < 1026 → but k y ≡ false → bitAt (getD names y 0) k ≡ false → wordAt l k y ≡ wordAt u k y
-  pub past : (y : ℕ) → n < y → getD names y 0 ≡ 0
-  pub few : (k y : ℕ) → bitAt (getD names y 0) k ≡ true → k < columns n
+  pub kept : (k y : ℕ) → y < rows → inWords r k y ≡ false → wordAt u' k y ≡ wordAt u k y
 
 -- u' shows what u shows, changed
 pub record Turned (n : ℕ) (change : Layer → Layer) (u u' : List ℕ) : Type 0 where
@@ -88,10 +82,3 @@ painted r f y z = f y z || inRect r y z
 -- a layer without the cells of a rectangle
 abbrev pub wiped : Rect → Layer → Layer
 wiped r f y z = f y z && not (inRect r y z)
-
--- l' shows what u shows, and no column is named
-pub record Settled (n : ℕ) (u l l' names' : List ℕ) : Type 0 where
-  pub shows : (f : Layer) → Shows n f u → Shows n f l'
-  pub same-size : length l' ≡ length l
-  pub blank : (y : ℕ) → getD names' y 0 ≡ 0
-  pub tells : Tells n l' u names'

@@ -8,11 +8,11 @@ use lib.ListN.{length}
 use Rattle.ground.specs.Numbers.{anyTo}
 use Rattle.lattice.specs.Boxes.{boxAt}
 use Rattle.sweep_image.specs.Images.{Layer, Shows, inRect}
-use Rattle.sweep_faces.specs.Faces.{Known, rectOf, shade}
+use Rattle.sweep_overlaps.specs.Overlaps.{FirstBoxes, rectOf, shade}
 
 -- the boxes about the plane x: those before `from` end before it, those before `old` begin before it, those from `old` up to n on it
 pub record About (field : ℕ) (boxes : List ℕ) (x from old n : ℕ) : Type 0 where
-  pub known : Known field boxes n
+  pub known : FirstBoxes field boxes n
   pub from-old : from ≤ old
   pub old-n : old ≤ n
   pub passed : (i : ℕ) → i < from → boxAt boxes i .x-end < x

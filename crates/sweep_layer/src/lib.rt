@@ -1,12 +1,15 @@
 // The layer above a plane across x, from the layer below it: the faces of the boxes that end on the plane are taken away, those of the
 // boxes that begin on it put in, each as far as no other box hides it; or, where many end, all boxes are shown anew. Stands on
-// `sweep_faces`.
+// `sweep_carving` and `sweep_painting`.
+//
+// `boxes`, `x`, `r`, `l`, `u` and `names` are as in `sweep_overlaps` and `sweep_image`. *About* the plane x, of the first `n` boxes those before
+// number `from` end before it, those before `old` begin before it, the others on it; `q` is one of them.
 ghost use mathlib.Core.Path.{_≡_};
 ghost use Prim.Native.Nat.{_+_, _*_, _<_, _≤_};
 ghost use lib.ListN.{length};
 ghost use Rattle.lattice.specs.Boxes.{boxAt};
-ghost use Rattle.sweep_image.specs.Images.{Tells};
-ghost use Rattle.sweep_faces.specs.Faces.{Lent, rectOf, shade};
+ghost use Rattle.sweep_names.specs.Names.{Tells, Lent};
+ghost use Rattle.sweep_overlaps.specs.Overlaps.{rectOf, shade};
 ghost use Rattle.sweep_layer.specs.Layers.{About, touching, released, Becomes};
 use sweep_image::Rect;
 
@@ -73,7 +76,7 @@ fn release_face(
 {
     if boxes[6 * q + 1] == x {
         let r = rect(boxes, q);
-        sweep_faces::carve(
+        sweep_carving::carve(
             field,
             boxes,
             x,
@@ -111,7 +114,7 @@ fn release(
 }
 
 // The fuel for the face of a box that begins: small faces are put in whole.
-fn fuel_to_cover(r: Rect) -> usize
+fn fuel_to_paint(r: Rect) -> usize
     requires { ⌜ (r .high ≤ 1024) × (r .to ≤ 1024) ⌝ }
 {
     let cells = size(r);
@@ -122,7 +125,7 @@ fn fuel_to_cover(r: Rect) -> usize
 }
 
 // Puts the face of box q in, which begins on the plane.
-fn cover_face(
+fn paint_face(
     field: u16,
     boxes: &[u16],
     x: u16,
@@ -140,11 +143,11 @@ fn cover_face(
     ensures { λ _. ⌜ Tells field (now (l .entry)) (now (u .exit)) (now (names .exit)) ⌝ }
 {
     let r = rect(boxes, q);
-    sweep_faces::cover(field, boxes, x, from, q, r, l, u, names, fuel_to_cover(r));
+    sweep_painting::paint_parts(field, boxes, x, from, q, r, l, u, names, fuel_to_paint(r));
 }
 
 // Puts the faces of the boxes in that begin on the plane.
-fn cover(
+fn paint_faces(
     field: u16,
     boxes: &[u16],
     x: u16,
@@ -161,7 +164,7 @@ fn cover(
     ensures { λ _. ⌜ Tells field (now (l .entry)) (now (u .exit)) (now (names .exit)) ⌝ }
 {
     for q in old..n {
-        cover_face(field, boxes, x, from, old, n, q, l, u, names);
+        paint_face(field, boxes, x, from, old, n, q, l, u, names);
     }
 }
 
@@ -188,7 +191,7 @@ fn renew_all(
         from: 0,
         to: field,
     };
-    sweep_faces::again(field, boxes, x, from, n, whole, l, u, names);
+    sweep_carving::again(field, boxes, x, from, n, whole, l, u, names);
 }
 
 // The same, face by face.
@@ -209,7 +212,7 @@ fn renew_faces(
     ensures { λ _. ⌜ Tells field (now (l .entry)) (now (u .exit)) (now (names .exit)) ⌝ }
 {
     release(field, boxes, x, from, old, n, l, u, names);
-    cover(field, boxes, x, from, old, n, l, u, names);
+    paint_faces(field, boxes, x, from, old, n, l, u, names);
 }
 
 // Whether it pays to show all boxes anew: many boxes end, and each of their faces would be asked of all boxes.

@@ -7,7 +7,7 @@ use Rattle.lattice.specs.Cells.{planePoints}
 use Rattle.lattice.specs.Boxes.{boxAt, boxCells}
 use Rattle.lattice_sums.specs.CornerSums.{Room}
 use Rattle.sweep_image.specs.Images.{Layer, Shows}
-use Rattle.sweep_faces.specs.Faces.{Lent}
+use Rattle.sweep_names.specs.Names.{Lent}
 use Rattle.sweep_tally.specs.Found.{Found, found}
 use Rattle.sweep_points.specs.Points.{planeAt}
 

@@ -1,10 +1,13 @@
 // The corners of a plane across x, of boxes that begin on it or before it, and from the images of the layer below it to those of the
-// layer above. Stands on `sweep_layer`, `sweep_points` and `sweep_image`.
+// layer above. Stands on `sweep_layer`, `sweep_points` and `sweep_settling`.
+//
+// `l`, `u` and `names` are as in `sweep_image`; `from`, `old` and `n` as in `sweep_layer`; `t` are the corner sums so far, and `buf` is the
+// lent buffer with their records. A *turn* is what is done at a plane on which boxes begin or end.
 ghost use Prim.Native.Nat.{_<_, _≤_};
 ghost use Rattle.lattice.specs.Cells.{planePoints};
 ghost use Rattle.lattice_sums.specs.CornerSums.{RoomFor};
 ghost use Rattle.lattice_weights.specs.Packed.{Packed};
-ghost use Rattle.sweep_faces.specs.Faces.{shade};
+ghost use Rattle.sweep_overlaps.specs.Overlaps.{shade};
 ghost use Rattle.sweep_layer.specs.Layers.{About, touching};
 ghost use Rattle.sweep_tally.specs.Found.{state};
 ghost use Rattle.sweep_plane.specs.Plane.{Both, PlaneOut, EndsOn};
@@ -33,7 +36,7 @@ fn turn(
 {
     sweep_layer::renew(field, boxes, x, from, old, n, ends, l, u, names);
     let s = sweep_points::lines(field, x, l, u, names, weights, t, buf);
-    sweep_image::settle(field, u, l, names);
+    sweep_settling::settle(field, u, l, names);
     s
 }
 

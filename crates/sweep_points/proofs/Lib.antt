@@ -1,7 +1,3 @@
-pub mod Joins
-pub mod Visits
-pub mod Takes
-pub mod PlaneLaws
-pub mod LineLaws
-pub mod BlankLaws
-pub mod Turns
+pub mod PlaneLaws  -- the corners of words are those of the solid
+pub mod Turns  -- one turn of each loop: a column of a line, a line of a plane
+pub mod LineLaws  -- the bits that name the columns of a line, and lines without any

@@ -1,73 +1,29 @@
--- The bits that name the corners of a column and the columns of a line, and lines without any.
+-- The bits that name the columns of a line, and lines without any.
 use mathlib.Core.Path.{_≡_, refl, sym, _∙_, ap}
-use mathlib.Core.Bool.{Bool, true, false, cond, _&&_, _||_, false≢true}
-use mathlib.Core.List.{List, [], _∷_}
-use Prim.Native.Nat.{ℕ, _+_, _*_, _<_, _≤_}
+use mathlib.Core.Bool.{Bool, true, false, _||_}
+use mathlib.Core.List.{List, []}
+use Prim.Native.Nat.{ℕ, _+_, _<_, _≤_}
 use native.Mathlib.Numerals.{add-one}
 use native.Mathlib.Omega.{arith}
 use lib.Bits.{bitOr}
-use lib.Dec.{ltb}
 use lib.ListN.{getD}
-use borrow.Author.Tests.{ltb-true, lt-ltb}
-use Rattle.lattice.specs.Axes.{x-axis}
-use Rattle.lattice.specs.Cells.{up}
-use Rattle.lattice.specs.Pattern.{byte, corner}
+use Rattle.ground.proofs.Bools.{or-false}
 use Rattle.ground.specs.Sums.{join}
 use Rattle.lattice.specs.Listing.{Corner}
-use Rattle.lattice.proofs.PatternLaws.{still-no-corner}
-use Rattle.sweep_words.specs.Words.{bitAt, wordOf, patternOf}
+use Rattle.sweep_words.specs.Words.{bitAt}
 use Rattle.sweep_words.proofs.BitLaws.{bit-or, bit-zero}
-use Rattle.sweep_image.specs.Images.{Tells, columns, wordAt}
-use Rattle.sweep_tally.specs.Found.{at, Found, meet, found}
-use Rattle.sweep_tally.proofs.Laws.{found-append, found-one}
-use Rattle.sweep_points.specs.Points.{cornerAt, columnCorners, columnAt, lineAt, Blank}
-use Rattle.sweep_points.proofs.Joins.{join-quiet}
-use Rattle.sweep_points.proofs.Visits.{Names}
-
--- ---- the corners of a column
-module _ (x y k l₀ l₁ u₀ u₁ : ℕ) where
-  corner-none : (b : ℕ) → corner (patternOf l₀ l₁ u₀ u₁ b) ≡ false → cornerAt x y k l₀ l₁ u₀ u₁ b ≡ []
-  unfolding cornerAt
-  corner-none b e = ap (λ (t : Bool). cond t (at x y (63 * k + b) (byte (patternOf l₀ l₁ u₀ u₁ b)) ∷ []) []) e
-
-  -- the corner at a place, as it is met
-  pub corner-met : (b : ℕ) {p : ℕ} (g : Found) {h : Found} → corner (patternOf l₀ l₁ u₀ u₁ b) ≡ true → p ≡ byte (patternOf l₀ l₁ u₀ u₁ b)
-      → h ≡ meet g (at x y (63 * k + b) p) → h ≡ found g (cornerAt x y k l₀ l₁ u₀ u₁ b)
-  unfolding cornerAt
-  corner-met b {p} g {h} c q e =
-      e ∙ ap (λ (i : ℕ). meet g (at x y (63 * k + b) i)) q ∙ sym (found-one g (at x y (63 * k + b) (byte (patternOf l₀ l₁ u₀ u₁ b))))
-      ∙ ap (λ (t : Bool). found g (cond t (at x y (63 * k + b) (byte (patternOf l₀ l₁ u₀ u₁ b)) ∷ []) [])) (sym c)
-
-  module _ (m : ℕ) (w : (b : ℕ) → bitAt m b ≡ (ltb b 63 && corner (patternOf l₀ l₁ u₀ u₁ b))) where
-    pub named-corner : (b : ℕ) → bitAt m b ≡ true → (b < 63) × (corner (patternOf l₀ l₁ u₀ u₁ b) ≡ true)
-    named-corner b e = go (ltb b 63) refl (sym (w b) ∙ e)
-      where
-        go : (t : Bool) → ltb b 63 ≡ t → (t && corner (patternOf l₀ l₁ u₀ u₁ b)) ≡ true
-            → (b < 63) × (corner (patternOf l₀ l₁ u₀ u₁ b) ≡ true)
-        go true f g = (ltb-true b 63 f, g)
-        go false f g = absurd (false≢true g)
-
-    pub names-corners : Names 63 m (cornerAt x y k l₀ l₁ u₀ u₁)
-    names-corners = record {
-      few = λ b e. named-corner b e .0;
-      quiet = λ b h e. corner-none b (ap (λ (t : Bool). t && corner (patternOf l₀ l₁ u₀ u₁ b)) (sym (lt-ltb b 63 h)) ∙ sym (w b) ∙ e);
-    }
-
-  -- where the layers are the same there is none
-  quiet-words : l₀ ≡ u₀ → l₁ ≡ u₁ → columnCorners x y k l₀ l₁ u₀ u₁ ≡ []
-  unfolding columnCorners join
-  quiet-words e f = join-quiet 0 63 (cornerAt x y k l₀ l₁ u₀ u₁) (omega arith)
-      (λ b a c. corner-none b (still-no-corner x-axis (patternOf l₀ l₁ u₀ u₁ b) (λ r c. go b r c)))
-    where
-      go : (b : ℕ) (r c : Bool) → bitAt (wordOf l₀ l₁ u₀ u₁ true r) (up c b) ≡ bitAt (wordOf l₀ l₁ u₀ u₁ false r) (up c b)
-      go b false c = ap (λ w. bitAt w (up c b)) (sym e)
-      go b true c = ap (λ w. bitAt w (up c b)) (sym f)
+use Rattle.sweep_image.specs.Images.{columns, wordAt}
+use Rattle.sweep_names.specs.Names.{Tells}
+use Rattle.sweep_tally.specs.Found.{at, Found, found}
+use Rattle.sweep_tally.proofs.FoundLaws.{found-append}
+use Rattle.sweep_blanks.specs.Blanks.{Blank}
+use Rattle.sweep_columns.specs.Columns.{columnAt}
+use Rattle.sweep_columns.proofs.CornerLaws.{quiet-words}
+use Rattle.sweep_columns.proofs.Joins.{join-quiet}
+use Rattle.sweep_columns.proofs.Visits.{Names}
+use Rattle.sweep_points.specs.Points.{lineAt}
 
 -- ---- the columns of a line
-either-false : (a b : Bool) → (a || b) ≡ false → (a ≡ false) × (b ≡ false)
-either-false true b e = absurd (false≢true (sym e))
-either-false false b e = (refl, e)
-
 module _ (n x y : ℕ) {l u names : List ℕ} (t : Tells n l u names) (hy : y ≤ 1024) where
   quiet-column : (k : ℕ) → k < columns n → bitAt (getD names y 0) k ≡ false → bitAt (getD names (y + 1) 0) k ≡ false
       → columnAt x y l u k ≡ []
@@ -80,7 +36,7 @@ module _ (n x y : ℕ) {l u names : List ℕ} (t : Tells n l u names) (hy : y �
   names-columns = record {
     few = λ k e. go k (bitAt (getD names y 0) k) refl (sym (named k) ∙ e);
     quiet = λ k h e.
-        let q = either-false (bitAt (getD names y 0) k) (bitAt (getD names (y + 1) 0) k) (sym (named k) ∙ e) in
+        let q = or-false (bitAt (getD names y 0) k) (bitAt (getD names (y + 1) 0) k) (sym (named k) ∙ e) in
         quiet-column k h (q .0) (q .1);
   }
     where

@@ -15,9 +15,11 @@ use Rattle.lattice.proofs.SameSolid.{here-none}
 use Rattle.sweep_words.specs.Words.{bitAt, wordOf, patternOf}
 use Rattle.sweep_image.specs.Images.{columns, wordAt}
 use Rattle.sweep_tally.specs.Found.{at}
-use Rattle.sweep_points.specs.Points.{planeAt, Shown, Layers, cornerAt, columnCorners, columnAt, lineAt, Inside}
-use Rattle.sweep_points.proofs.Joins.{join-below, join-blocks, join-quiet}
-use Rattle.sweep_points.proofs.Takes.{Takes, takes-more, takes-join, takes-point}
+use Rattle.sweep_columns.specs.Columns.{cornerAt, columnCorners, columnAt, Inside}
+use Rattle.sweep_columns.proofs.CornerLaws.{takes-points}
+use Rattle.sweep_columns.proofs.Joins.{join-below, join-blocks, join-quiet}
+use Rattle.sweep_columns.proofs.Takes.{Takes, takes-more, takes-join, takes-point}
+use Rattle.sweep_points.specs.Points.{planeAt, Shown, Layers, lineAt}
 
 -- the pattern of point b of column k of line y, from two images
 abbrev imagePattern : List ℕ → List ℕ → ℕ → ℕ → ℕ → Pattern
@@ -80,13 +82,6 @@ module _ (n x : ℕ) (hn : n ≤ 1024) (hx : x ≤ 1024) {l u : List ℕ} (a : L
 
   pub takes-lines : (k : ℕ) → k ≤ n + 1 → Takes (k * linePoints 1024) (join k (lineAt n x l u))
   takes-lines k h = takes-join (linePoints 1024) k (lineAt n x l u) (λ y m. takes-line y (omega arith))
-
--- the points of a column take room for one each
-module _ (x y k l₀ l₁ u₀ u₁ : ℕ) (hx : x ≤ 1024) (hy : y ≤ 1024) (i : Inside k l₀ l₁ u₀ u₁) where
-  pub takes-points : (j : ℕ) → j ≤ 63 → Takes (j * 1) (join j (cornerAt x y k l₀ l₁ u₀ u₁))
-  unfolding cornerAt
-  takes-points j h = takes-join 1 j (cornerAt x y k l₀ l₁ u₀ u₁)
-      λ b m. takes-point (corner (patternOf l₀ l₁ u₀ u₁ b)) x y (63 * k + b) (byte (patternOf l₀ l₁ u₀ u₁ b)) hx hy (i .top b (omega arith))
 
 pub takes-columns : (n x : ℕ) → n ≤ 1024 → x ≤ 1024 → {l u : List ℕ} → Layers n x l u → (y : ℕ) → y ≤ n → (k : ℕ) → k ≤ columns n
     → Takes (k * 63) (join k (columnAt x y l u))

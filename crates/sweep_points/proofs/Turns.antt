@@ -1,49 +1,23 @@
--- One turn of each loop: a corner of a column, a column of a line, a line of a plane.
+-- One turn of each loop: a column of a line, a line of a plane.
 use mathlib.Core.Path.{_≡_, _∙_, ap}
-use mathlib.Core.Bool.{true, _&&_}
 use mathlib.Core.List.{List}
 use Prim.Native.Nat.{ℕ, _+_, _-_, _*_, _<_, _≤_}
 use native.Mathlib.Omega.{arith}
 use lib.Bits.{bitOr}
-use lib.Dec.{ltb}
 use lib.ListN.{length, getD}
 use Rattle.lattice.specs.Cells.{linePoints, planePoints, fieldPoints}
-use Rattle.lattice.specs.Pattern.{byte, corner}
 use Rattle.ground.specs.Sums.{join}
 use Rattle.lattice_sums.specs.CornerSums.{Room, RoomFor}
-use Rattle.sweep_words.specs.Words.{bitAt, patternOf, Lowest, WithoutLowest}
-use Rattle.sweep_image.specs.Images.{Tells, columns, wordAt}
-use Rattle.sweep_tally.specs.Found.{at, Found, meet, found}
-use Rattle.sweep_points.specs.Points.{Layers, PlaneFound, cornerAt, columnAt, lineAt, Inside}
-use Rattle.sweep_points.proofs.Visits.{Names, Visited, next-set, next-in, visit-to, visit-next}
-use Rattle.sweep_points.proofs.Takes.{room-left}
-use Rattle.sweep_points.proofs.PlaneLaws.{inside, plane-is, takes-points, takes-columns, takes-lines}
-use Rattle.sweep_points.proofs.LineLaws.{corner-met, named-corner, names-corners, names-columns}
-
--- ---- a corner
-module _ (x y k l₀ l₁ u₀ u₁ all : ℕ) (w : (b : ℕ) → bitAt all b ≡ (ltb b 63 && corner (patternOf l₀ l₁ u₀ u₁ b))) {m j : ℕ} {f g : Found}
-    (d : Visited 63 all (cornerAt x y k l₀ l₁ u₀ u₁) m f g) (l : Lowest m j) where
-  named : Names 63 all (cornerAt x y k l₀ l₁ u₀ u₁)
-  named = names-corners x y k l₀ l₁ u₀ u₁ all w
-
-  is-corner : corner (patternOf l₀ l₁ u₀ u₁ j) ≡ true
-  is-corner = named-corner x y k l₀ l₁ u₀ u₁ all w j (next-set named d l) .1
-
-  pub point-in : j < 63
-  point-in = next-in named d l
-
-  module _ (i : Inside k l₀ l₁ u₀ u₁) where
-    pub point-top : 63 * k + j ≤ 1024
-    point-top = i .top j point-in is-corner
-
-    pub point-room : x ≤ 1024 → y ≤ 1024 → k ≤ 16 → RoomFor (linePoints 1024 - 63 * k) (f .sums) → RoomFor 1 (g .sums)
-    point-room hx hy hk r =
-        room-left f (join j (cornerAt x y k l₀ l₁ u₀ u₁)) (fieldPoints 1024 - 1) (visit-to named d l)
-        (takes-points x y k l₀ l₁ u₀ u₁ hx hy i j (omega (arith, point-in))) r (omega (arith, point-top))
-
-  pub point-next : {r p : ℕ} {h : Found} → WithoutLowest m r → p ≡ byte (patternOf l₀ l₁ u₀ u₁ j) → h ≡ meet g (at x y (63 * k + j) p)
-      → Visited 63 all (cornerAt x y k l₀ l₁ u₀ u₁) r f h
-  point-next v q e = visit-next named d l v (corner-met x y k l₀ l₁ u₀ u₁ j g is-corner q e)
+use Rattle.sweep_words.specs.Words.{Lowest, WithoutLowest}
+use Rattle.sweep_image.specs.Images.{columns, wordAt, rows}
+use Rattle.sweep_names.specs.Names.{Tells}
+use Rattle.sweep_tally.specs.Found.{Found, found}
+use Rattle.sweep_columns.specs.Columns.{columnAt, Inside}
+use Rattle.sweep_columns.proofs.Takes.{room-left}
+use Rattle.sweep_columns.proofs.Visits.{Names, Visited, next-in, visit-to, visit-next}
+use Rattle.sweep_points.specs.Points.{Layers, PlaneFound, lineAt}
+use Rattle.sweep_points.proofs.PlaneLaws.{inside, plane-is, takes-columns, takes-lines}
+use Rattle.sweep_points.proofs.LineLaws.{names-columns}
 
 -- ---- a column
 module _ (n x y : ℕ) (hn : n ≤ 1024) (hy : y ≤ n) {l u names : List ℕ} (a : Layers n x l u) (t : Tells n l u names) {m j : ℕ} {f g : Found}
@@ -57,7 +31,7 @@ module _ (n x y : ℕ) (hn : n ≤ 1024) (hy : y ≤ n) {l u names : List ℕ} (
   pub column-few : j ≤ 16
   column-few = omega (arith, column-in)
 
-  pub column-held : ((j + 1) * 1026 ≤ length l) × ((j + 1) * 1026 ≤ length u)
+  pub column-held : ((j + 1) * rows ≤ length l) × ((j + 1) * rows ≤ length u)
   column-held = (omega (arith, column-in, a .shown .lower .size), omega (arith, column-in, a .shown .upper .size))
 
   pub column-inside : Inside j (wordAt l j y) (wordAt l j (y + 1)) (wordAt u j y) (wordAt u j (y + 1))

@@ -1,69 +1,20 @@
-// The corners of a plane across x, from the images of the layers below and above it: line after line, the columns that the two rows about a
-// line name, and in each the points where the four words about the line make a corner. Stands on `sweep_words`, `sweep_image` and
-// `sweep_tally`.
+// The corners of a plane across x, from the images of the layers below and above it: line after line, and in each line the columns that the
+// two rows about it name. Stands on `sweep_columns`, `sweep_blanks`, `sweep_names` and `sweep_tally`.
+//
+// `l` and `u` are the images of the lower and the upper layer, `names` the columns in which they may differ, row by row, and `k` is a column.
+// `x` is the plane, `y` a line of it, `w` are the packed weights, `t` the corner sums before a function and `s` those so far, `buf` is the lent
+// buffer; `m` has the bits of a word that are still to be looked at.
 ghost use mathlib.Core.Path.{_≡_};
-ghost use Prim.Native.Nat.{_+_, _-_, _*_, _<_, _≤_};
-ghost use lib.ListN.{length};
+ghost use Prim.Native.Nat.{_+_, _<_, _≤_};
 ghost use Rattle.lattice.specs.Cells.{linePoints, planePoints};
 ghost use Rattle.lattice_sums.specs.CornerSums.{RoomFor};
 ghost use Rattle.lattice_weights.specs.Packed.{Packed};
-ghost use Rattle.sweep_image.specs.Images.{Tells, wordAt};
+ghost use Rattle.sweep_names.specs.Names.{Tells};
 ghost use Rattle.sweep_tally.specs.Found.{state, found};
-ghost use Rattle.sweep_points.specs.Points.{Layers, PlaneFound, columnCorners, columnAt, lineAt, Inside, Blank};
+ghost use Rattle.sweep_points.specs.Points.{Layers, PlaneFound, lineAt};
 use lattice_sums::sums::CornerSums;
-
-// The corners among the points of column k, by the four words about the line.
-fn points(
-    l0: u64,
-    l1: u64,
-    u0: u64,
-    u1: u64,
-    k: usize,
-    x: u16,
-    y: u16,
-    w: &[i8],
-    t: CornerSums,
-    buf: &mut [u8],
-) -> CornerSums
-    requires { ⌜ (x ≤ 1024) × (y ≤ 1024) × (k ≤ 16) × Packed (now w) × RoomFor (linePoints 1024 - 63 * k) t × Inside k l0 l1 u0 u1 ⌝ }
-    ensures { λ r. ⌜ state r (now (buf .exit)) ≡ found (state t (now (buf .entry))) (columnCorners x y k l0 l1 u0 u1) ⌝ }
-{
-    let mut s = t;
-    let mut m = sweep_words::corner_places(l0, l1, u0, u1);
-    while m != 0 {
-        let b = sweep_words::lowest(m);
-        let p = sweep_words::pattern(l0, l1, u0, u1, b);
-        s = sweep_tally::meet(s, w, buf, x, y, (63 * k + b) as u16, p);
-        m = sweep_words::without_lowest(m);
-    }
-    s
-}
-
-// The corners of column k of the line y.
-fn column(
-    l: &[u64],
-    u: &[u64],
-    k: usize,
-    x: u16,
-    y: u16,
-    w: &[i8],
-    t: CornerSums,
-    buf: &mut [u8],
-) -> CornerSums
-    requires { ⌜ (x ≤ 1024) × (y ≤ 1024) × (k ≤ 16) × Packed (now w) × RoomFor (linePoints 1024 - 63 * k) t ⌝ }
-    requires { ⌜ ((k + 1) * 1026 ≤ length (now l)) × ((k + 1) * 1026 ≤ length (now u)) ⌝ }
-    requires { ⌜ Inside k (wordAt (now l) k y) (wordAt (now l) k (y + 1)) (wordAt (now u) k y) (wordAt (now u) k (y + 1)) ⌝ }
-    ensures { λ r. ⌜
-        state r (now (buf .exit)) ≡ found (state t (now (buf .entry))) (columnAt x y (now (l .entry)) (now (u .entry)) k) ⌝ }
-{
-    let i = k * 1026;
-    let j = y as usize;
-    let l0 = l[i + j];
-    let l1 = l[i + (j + 1)];
-    let u0 = u[i + j];
-    let u1 = u[i + (j + 1)];
-    points(l0, l1, u0, u1, k, x, y, w, t, buf)
-}
+use sweep_blanks::next_named;
+use sweep_columns::column;
 
 // The corners of the line y of a field: a column that neither of its rows names is the same in both layers, so it has none.
 fn line(
@@ -91,40 +42,6 @@ fn line(
         m = sweep_words::without_lowest(m);
     }
     s
-}
-
-// How many rows from y on can be passed over: none where the row or the one above it names a column, else eight or one.
-fn blank_rows(names: &[u64], y: usize) -> usize
-    requires { ⌜ y + 8 < length (now names) ⌝ }
-    ensures { λ r. ⌜ Blank (now (names .entry)) y (y + r) × (r ≤ 8) ⌝ }
-{
-    let two = names[y] | names[y + 1];
-    if two != 0 {
-        return 0;
-    }
-    let four = (names[y + 2] | names[y + 3]) | (names[y + 4] | names[y + 5]);
-    let three = (names[y + 6] | names[y + 7]) | names[y + 8];
-    let seven = four | three;
-    if seven != 0 {
-        return 1;
-    }
-    8
-}
-
-// The next row to look at from y on, or `end`: no row that is passed over names a column, nor does the row above it.
-fn next_named(names: &[u64], y: usize, end: usize) -> usize
-    requires { ⌜ (y ≤ end) × (end ≤ 1025) × (length (now names) ≡ 1040) ⌝ }
-    ensures { λ r. ⌜ Blank (now (names .entry)) y r × (y ≤ r) × (r ≤ end) ⌝ }
-{
-    let mut i = y;
-    while i < end {
-        let n = blank_rows(names, i);
-        if n == 0 {
-            return i;
-        }
-        i += n;
-    }
-    end
 }
 
 // The corners of the plane x of the solid whose layers below and above it the images l and u show; `names` names the columns where they

@@ -1,4 +1,2 @@
-pub mod BoxLaws
-pub mod ChainLaws
-pub mod OrderLaws
-pub mod SlabLaws
+pub mod SlabLaws  -- the run of a slab, and slab after slab all planes
+pub mod OrderLaws  -- the shots by where they begin are the slots that are promised

@@ -11,14 +11,14 @@ use Rattle.lattice.specs.Listing.{Corner, cornerRecord, bytes}
 use Rattle.lattice_sums.specs.CornerSums.{sumsOf, added}
 use Rattle.lattice_sums.specs.declared.sums.CornerSums.{CornerSums}
 use Rattle.lattice_sums.proofs.CornerSumLaws.{sums-more}
-use Rattle.sweep_tally.specs.Found.{stored, state, meet, found}
+use Rattle.sweep_tally.specs.Found.{storedRecord, state, meet, found}
 
 -- ---- the sums
 found-more : (ms vs : List Corner) (b : List ℕ) → found (state (sumsOf ms) b) vs .sums ≡ sumsOf (ms ++ vs)
 unfolding found meet
 found-more ms [] b = ap sumsOf (sym (append-nil ms))
 found-more ms (v ∷ vs) b =
-    let b' : List ℕ = stored b (sumsOf ms .corners) (cornerRecord v) in
+    let b' : List ℕ = storedRecord b (sumsOf ms .corners) (cornerRecord v) in
     ap (λ (t : CornerSums). found (state t b') vs .sums) (sums-more ms v)
     ∙ found-more (ms ++ (v ∷ [])) vs b' ∙ ap sumsOf (append-assoc ms (v ∷ []) vs)
 
@@ -33,8 +33,8 @@ block d w r n k e =
     let u : drop (n + k) (d ++ drop n w) ≡ drop (n + k) w = rw (← e) (drop-append-add d (drop (length d) w) k ∙ drop-drop k (length d) w) in
     rw (t, u) (sym (append-assoc d r (drop (n + k) w)))
 
-stored-next : (d b r : List ℕ) (k : ℕ) → length d ≡ 7 * k → length r ≡ 7 → 7 * (k + 1) ≤ length b → stored (d ++ drop (7 * k) b) k r ≡ (d ++ r) ++ drop (7 * (k + 1)) b
-unfolding stored
+stored-next : (d b r : List ℕ) (k : ℕ) → length d ≡ 7 * k → length r ≡ 7 → 7 * (k + 1) ≤ length b → storedRecord (d ++ drop (7 * k) b) k r ≡ (d ++ r) ++ drop (7 * (k + 1)) b
+unfolding storedRecord
 stored-next d b r k h l m =
     let n : length (d ++ drop (7 * k) b) ≡ length b = omega (arith, length-append d (drop (7 * k) b), length-drop (7 * k) b) in
     let q : 7 * (k + 1) ≡ 7 * k + 7 = omega arith in

@@ -16,8 +16,8 @@ abbrev pub withRecord : List ℕ → ℕ → List ℕ → List ℕ
 withRecord b at r = take at b ++ (r ++ drop (at + 7) b)
 
 -- the buffer with record n, where there is room for it
-unfoldable pub stored : List ℕ → ℕ → List ℕ → List ℕ
-stored b n r = cond (ltb n (length b / 7)) (withRecord b (7 * n) r) b
+unfoldable pub storedRecord : List ℕ → ℕ → List ℕ → List ℕ
+storedRecord b n r = cond (ltb n (length b / 7)) (withRecord b (7 * n) r) b
 
 pub record Found : Type 0 where
   pub sums : CornerSums
@@ -28,7 +28,7 @@ state t b = record { sums = t; bytes = b }
 
 -- one corner more
 unfoldable pub meet : Found → Corner → Found
-meet f v = state (added (f .sums) v) (stored (f .bytes) (f .sums .corners) (cornerRecord v))
+meet f v = state (added (f .sums) v) (storedRecord (f .bytes) (f .sums .corners) (cornerRecord v))
 
 -- corner after corner
 unfoldable pub found : Found → List Corner → Found

@@ -1,12 +1,14 @@
 // Corners met one after the other: their sums, and their records in a lent buffer as far as it has room. Stands on `lattice_sums`, and on
 // the packed weights of `lattice_weights`.
+//
+// `t` are the corner sums so far, `buf` is the lent buffer, `n` the number of a record, and `p` a pattern's byte.
 ghost use mathlib.Core.Path.{_≡_};
 ghost use Prim.Native.Nat.{_+_, _≤_};
 ghost use lib.ListN.{length};
 ghost use Rattle.lattice.specs.Listing.{cornerRecord};
 ghost use Rattle.lattice_sums.specs.CornerSums.{RoomFor};
 ghost use Rattle.lattice_weights.specs.Packed.{Packed};
-ghost use Rattle.sweep_tally.specs.Found.{at, withRecord, stored, state, meet};
+ghost use Rattle.sweep_tally.specs.Found.{at, withRecord, storedRecord, state, meet};
 use lattice_sums::sums::CornerSums;
 
 // Writes a record at a place of the buffer.
@@ -25,7 +27,7 @@ fn put_record(buf: &mut [u8], start: usize, x: u16, y: u16, z: u16, p: u8)
 
 // Writes record n, if the buffer has room for it.
 fn put(buf: &mut [u8], n: usize, x: u16, y: u16, z: u16, p: u8)
-    ensures { λ _. ⌜ now (buf .exit) ≡ stored (now (buf .entry)) n (cornerRecord (at x y z p)) ⌝ }
+    ensures { λ _. ⌜ now (buf .exit) ≡ storedRecord (now (buf .entry)) n (cornerRecord (at x y z p)) ⌝ }
 {
     if buf.len() / 7 <= n {
         return;

@@ -7,7 +7,7 @@ use native.Mathlib.Nat.{add-comm, div-eq-of-lt, zero-div, div-one, lt-of-lt-of-l
 use native.Mathlib.Numerals.{add-one}
 use native.Mathlib.Omega.{arith}
 use lib.Arith.{lt-one}
-use lib.Bits.{bitAnd, bitOr, bitXor, and-shr, or-shr, xor-shr, and-mod, or-mod, xor-mod, shifted-half, shifted-even}
+use lib.Bits.{bitAnd, bitOr, bitXor, or-add-and, and-le-l, and-le-r, and-shr, or-shr, xor-shr, and-mod, or-mod, xor-mod, shifted-half, shifted-even}
 use lib.Dec.{eqb, ltb, eqb·zero-suc, eqb·suc-zero, eqb·suc-suc, leb·zero, leb·suc-zero, leb·suc-suc}
 use lib.Pow.{pow-mono, shr-shr, shl-shr, field, mod-mod-pow, pow-pos}
 use borrow.Author.Tests.{eqb-true}
@@ -149,3 +149,7 @@ bits-none w h f = bit-ext w 0 h (omega arith) (λ b l. f b l ∙ sym (bit-zero b
 pub bit-some : (w b : ℕ) → bitAt w b ≡ true → 0 < w
 bit-some zero b e = absurd (false≢true (sym (bit-zero b) ∙ e))
 bit-some (suc w) b e = omega arith
+
+-- where two words have no bit together, neither has one
+pub or-none : (v w : ℕ) → bitOr v w ≡ 0 → (v ≡ 0) × (w ≡ 0)
+or-none v w e = (omega (arith, or-add-and v w, and-le-r v w), omega (arith, or-add-and v w, and-le-l v w))

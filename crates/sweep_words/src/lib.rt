@@ -1,5 +1,8 @@
 // Words of 64 cells of a row along z: the places between two bounds as bits of a word, the bits of a word one after the other, and
 // the corner points and the patterns of four words about a line. Stands on `lattice`.
+//
+// `k` is a column of 63 places, of which a word has one more; `l0` and `l1` are the words of rows y and y + 1 of the lower layer, `u0` and `u1`
+// those of the upper; `m` is a word of bits that are still to be looked at, and a word *turns* where its two cells at a point differ.
 ghost use mathlib.Core.Path.{_≡_};
 ghost use mathlib.Core.Bool.{_&&_, _||_};
 ghost use Prim.Native.Nat.{ℕ, suc, _+_, _*_, _^_, _<_, _≤_};

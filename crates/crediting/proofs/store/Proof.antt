@@ -17,7 +17,9 @@ slice-aggregate-credit-shots : tie.Need-slice-aggregate-credit-shots
 slice-aggregate-credit-shots c = sym (length-take-le _ _ (omega (arith, c .before .count .ensures, c .before .before .before .before .before .pre .1)))
 
 credit-shots-requires : tie.Need-credit-shots-requires
-credit-shots-requires c κs = (c .before .before .before .before .before .pre .0, omega (arith, c .before .count .ensures, length-take-le (c .before .count .result) (c .before .before .before .before .before .args .credits .now) (omega (arith, c .before .count .ensures, c .before .before .before .before .before .pre .1))))
+credit-shots-requires c κs =
+    let start = c .before .before .before .before .before in
+    (start .pre .0, omega (arith, c .before .count .ensures, length-take-le (c .before .count .result) (start .args .credits .now) (omega (arith, c .before .count .ensures, start .pre .1))))
 
 same-length : tie.Need-same-length
 same-length c = length-front (c .before .before .before .before .before .before .before .before .args .credits .now) (c .before .before .credit-shots .last .1 .1 .1 .1 .1 .0) (c .before .before .before .before .count .result) (c .before .before .credit-shots .kept .1 .1 .1 .1 .1 .0)

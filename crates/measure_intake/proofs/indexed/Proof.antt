@@ -37,7 +37,9 @@ same-length : tie.Need-same-length
 same-length c = search needs
 
 returns-3 : tie.Need-returns-3
-returns-3 c = let s = c .before .before .before .before .before .before .before .before .before .before .before in long-intake _ (s .args .work .now) (accepted (c .before .before .before .before .before .before)) (c .before .before .before .before .before .need .ensures) (c .before .before .before .before .if1 .left) (c .before .before .build .ensures)
+returns-3 c =
+    let s = c .before .before .before .before .before .before .before .before .before .before .before in
+    long-intake _ (s .args .work .now) (accepted (c .before .before .before .before .before .before)) (c .before .before .before .before .before .need .ensures) (c .before .before .before .before .if1 .left) (c .before .before .build .ensures)
 
 pub indexed-spec : {M : Type 1} → statement M
 indexed-spec =

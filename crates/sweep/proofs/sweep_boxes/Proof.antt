@@ -1,5 +1,5 @@
 -- The row of ends is blank at first.
-use Rattle.sweep.proofs.Laws.{ends-none}
+use Rattle.sweep.proofs.SweepLaws.{ends-none}
 use borrow.Author.Needs.{needs}
 use Rattle.sweep.proofs.sweep_boxes.Statement.{statement}
 use Rattle.sweep.proofs.sweep_boxes.Tie as tie

@@ -1,5 +1,5 @@
 -- Seventeen columns hold every field.
-use Rattle.sweep.proofs.Laws.{large-blank}
+use Rattle.sweep.proofs.SweepLaws.{large-blank}
 use borrow.Author.Needs.{needs}
 use Rattle.sweep.proofs.sweep_large.Statement.{statement}
 use Rattle.sweep.proofs.sweep_large.Tie as tie

@@ -1,6 +1,6 @@
 -- Two columns hold a field of at most 125.
 use native.Mathlib.Omega.{arith}
-use Rattle.sweep.proofs.Laws.{small-blank}
+use Rattle.sweep.proofs.SweepLaws.{small-blank}
 use borrow.Author.Needs.{needs}
 use Rattle.sweep.proofs.sweep_small.Statement.{statement}
 use Rattle.sweep.proofs.sweep_small.Tie as tie

@@ -3,8 +3,9 @@ use mathlib.Core.Path.{_≡_}
 use Prim.Native.Nat.{_-_, _≤_}
 use native.Mathlib.Omega.{arith}
 use Rattle.sweep_layer.specs.Layers.{released, Becomes}
-use Rattle.sweep_image.specs.Images.{Tells}
-use Rattle.sweep_layer.proofs.Laws.{becomes-none, becomes-more, lent-on, released-all}
+use Rattle.sweep_names.specs.Names.{Tells}
+use Rattle.sweep_names.proofs.NameLaws.{lent-still}
+use Rattle.sweep_layer.proofs.LayerLaws.{becomes-none, becomes-more, released-all}
 use borrow.Author.Needs.{needs}
 use Rattle.sweep_layer.proofs.release.Statement.{statement}
 use Rattle.sweep_layer.proofs.release.Tie as tie
@@ -19,7 +20,10 @@ loop-holds : tie.Need-loop-holds Inv-loop μ-loop
 loop-holds c = (omega arith, c .before .before .before .before .pre .0 .from-old, becomes-none, c .before .before .before .before .pre .1 .tells)
 
 release-face-requires : tie.Need-release-face-requires Inv-loop μ-loop
-release-face-requires c κs = let p = c .before .before .before .before .before .before .before .before .pre in (p .0, omega arith, lent-on (p .1) (c .before .before .before .loop .inv .2) (c .before .before .before .loop .inv .3))
+release-face-requires c κs =
+    let p = c .before .before .before .before .before .before .before .before .pre in
+    let inv = c .before .before .before .loop .inv in
+    (p .0, omega arith, lent-still (p .1) (inv .2 .same-size) (inv .3))
 
 add-q : tie.Need-add-q Inv-loop μ-loop
 add-q c = search needs
@@ -28,7 +32,10 @@ loop-less : tie.Need-loop-less Inv-loop μ-loop
 loop-less c = search needs
 
 loop-again : tie.Need-loop-again Inv-loop μ-loop
-loop-again c = (omega arith, omega arith, becomes-more (c .before .before .before .before .before .before .before .before .loop .inv .2) (c .before .before .before .before .release-face .ensures .0), c .before .before .before .before .release-face .ensures .1)
+loop-again c =
+    let inv = c .before .before .before .before .before .before .before .before .loop .inv in
+    let face = c .before .before .before .before .release-face .ensures in
+    (omega arith, omega arith, becomes-more (inv .2) (face .0), face .1)
 
 same-length : tie.Need-same-length Inv-loop μ-loop
 same-length c = search needs

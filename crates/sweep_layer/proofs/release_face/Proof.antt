@@ -1,7 +1,7 @@
 -- A face that ends on the plane is carved from the boxes that reach past it; any other stays.
 use native.Mathlib.Omega.{arith}
-use Rattle.sweep_faces.proofs.FaceLaws.{known-less}
-use Rattle.sweep_layer.proofs.Laws.{rect-in, rect-small, released-face, released-same}
+use Rattle.sweep_overlaps.proofs.PartLaws.{boxes-less}
+use Rattle.sweep_layer.proofs.LayerLaws.{rect-in, rect-small, released-face, released-same}
 use borrow.Author.Needs.{needs}
 use Rattle.sweep_layer.proofs.release_face.Statement.{statement}
 use Rattle.sweep_layer.proofs.release_face.Tie as tie
@@ -22,10 +22,15 @@ rect-requires : tie.Need-rect-requires
 rect-requires c κs = search needs
 
 fuel-to-release-requires : tie.Need-fuel-to-release-requires
-fuel-to-release-requires c κs = rect-small _ _ _ _ _ _ (c .before .before .before .before .before .before .before .before .before .pre .0) _ _ (omega (arith, c .before .before .before .before .before .before .before .before .before .pre .1, c .before .before .before .before .before .before .before .before .before .pre .0 .old-n)) (c .before .before .before .before .before .before .before .before .before .pre .2 .small) (c .before .before .rect .ensures)
+fuel-to-release-requires c κs =
+    let asked = c .before .before .before .before .before .before .before .before .before .pre in
+    rect-small _ _ _ _ _ _ (asked .0) _ _ (omega (arith, asked .1, asked .0 .old-n)) (asked .2 .small) (c .before .before .rect .ensures)
 
 carve-requires : tie.Need-carve-requires
-carve-requires c κs = let p = c .before .before .before .before .before .before .before .before .before .before .pre in let r = rect-in _ _ _ _ _ _ (p .0) _ _ (omega (arith, p .1, p .0 .old-n)) (c .before .before .before .rect .ensures) in (r .0, (r .1, (known-less _ (p .0 .old-n) (p .0 .known), (p .0 .from-old, p .2))))
+carve-requires c κs =
+    let asked = c .before .before .before .before .before .before .before .before .before .before .pre in
+    let fits = rect-in _ _ _ _ _ _ (asked .0) _ _ (omega (arith, asked .1, asked .0 .old-n)) (c .before .before .before .rect .ensures) in
+    (fits .0, (fits .1, (boxes-less _ (asked .0 .old-n) (asked .0 .known), (asked .0 .from-old, asked .2))))
 
 same-length : tie.Need-same-length
 same-length c = search needs
@@ -34,7 +39,11 @@ same-length-2 : tie.Need-same-length-2
 same-length-2 c = search needs
 
 returns : tie.Need-returns
-returns c = (released-face _ _ _ _ _ _ (c .before .before .before .before .before .before .before .before .before .before .before .before .before .before .before .pre .0) _ _ (c .before .before .before .before .before .before .before .before .rect .ensures) (c .before .before .before .before .before .before .before .before .before .if1 .taken) (c .before .before .before .before .carve .ensures .0), c .before .before .before .before .carve .ensures .1)
+returns c =
+    let carved = c .before .before .before .before in
+    let face = carved .before .before .before .before in
+    let start = face .before .before .before .before .before .before .before in
+    (released-face _ _ _ _ _ _ (start .pre .0) _ _ (face .rect .ensures) (face .before .if1 .taken) (carved .carve .ensures .0), carved .carve .ensures .1)
 
 returns-2 : tie.Need-returns-2
 returns-2 c = (released-same _ _ _ _ _ _ (c .before .before .before .before .before .before .pre .0) _ (c .if1 .left), c .before .before .before .before .before .before .pre .2 .tells)

@@ -1,6 +1,6 @@
 -- The rectangle of the whole field holds every box.
 use native.Mathlib.Omega.{arith}
-use Rattle.sweep_layer.proofs.Laws.{all-anew}
+use Rattle.sweep_layer.proofs.LayerLaws.{all-anew}
 use borrow.Author.Needs.{needs}
 use Rattle.sweep_layer.proofs.renew_all.Statement.{statement}
 use Rattle.sweep_layer.proofs.renew_all.Tie as tie

@@ -4,8 +4,9 @@ use native.Mathlib.Omega.{arith}
 use lib.ListN.{length}
 use Rattle.sweep_image.specs.Images.{columns}
 use Rattle.sweep_tally.specs.Found.{state}
-use Rattle.sweep_points.specs.Points.{columnAt, lineAt}
-use Rattle.sweep_points.proofs.Visits.{Visited, visit-none, visit-all}
+use Rattle.sweep_columns.specs.Columns.{columnAt}
+use Rattle.sweep_columns.proofs.Visits.{Visited, visit-none, visit-all}
+use Rattle.sweep_points.specs.Points.{lineAt}
 use Rattle.sweep_points.proofs.LineLaws.{names-columns}
 use Rattle.sweep_points.proofs.Turns.{column-few, column-held, column-inside, column-room, column-next}
 use borrow.Author.Needs.{needs}

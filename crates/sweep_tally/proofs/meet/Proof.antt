@@ -1,6 +1,6 @@
 -- The corner is stored and added.
 use Rattle.sweep_tally.specs.Found.{at}
-use Rattle.sweep_tally.proofs.Laws.{met}
+use Rattle.sweep_tally.proofs.FoundLaws.{met}
 use borrow.Author.Needs.{needs}
 use Rattle.sweep_tally.proofs.meet.Statement.{statement}
 use Rattle.sweep_tally.proofs.meet.Tie as tie

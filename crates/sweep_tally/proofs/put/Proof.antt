@@ -1,6 +1,6 @@
 -- Room for the record, or not.
 use native.Mathlib.Omega.{arith}
-use Rattle.sweep_tally.proofs.Laws.{stored-none, stored-one}
+use Rattle.sweep_tally.proofs.FoundLaws.{stored-none, stored-one}
 use borrow.Author.Needs.{needs}
 use Rattle.sweep_tally.proofs.put.Statement.{statement}
 use Rattle.sweep_tally.proofs.put.Tie as tie

@@ -1,7 +1,7 @@
 -- Seven stores one after the other.
 use native.Mathlib.Omega.{arith}
 use lib.ListN.{length-set}
-use Rattle.sweep_tally.proofs.Laws.{record-stored}
+use Rattle.sweep_tally.proofs.FoundLaws.{record-stored}
 use borrow.Author.Needs.{needs}
 use Rattle.sweep_tally.proofs.put_record.Statement.{statement}
 use Rattle.sweep_tally.proofs.put_record.Tie as tie

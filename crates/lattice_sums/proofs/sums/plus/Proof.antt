@@ -2,7 +2,7 @@
 use native.Mathlib.Omega.{arith}
 use mir.Facts.{toZ-ofZ}
 use Rattle.ground.proofs.Integers.{natAbs-add}
-use Rattle.lattice_weights.proofs.TableLaws.{fits64}
+use Rattle.lattice_weights.proofs.PackedLaws.{fits64}
 use Rattle.lattice_sums.proofs.sums.plus.Statement.{statement}
 use Rattle.lattice_sums.proofs.sums.plus.Tie as tie
 

@@ -1,0 +1,1 @@
+pub mod TableLaws  -- a table computed once gives the weight at each entry

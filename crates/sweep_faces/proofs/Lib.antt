@@ -1,4 +1,0 @@
-pub mod RectLaws
-pub mod ShadeLaws
-pub mod FaceLaws
-pub mod FourLaws

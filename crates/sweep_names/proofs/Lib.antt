@@ -1,0 +1,1 @@
+pub mod NameLaws  -- columns named, and what is lent

@@ -1,0 +1,1 @@
+pub mod OrderLaws  -- boxes passed over, and their ends counted

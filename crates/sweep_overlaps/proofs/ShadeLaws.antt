@@ -1,0 +1,86 @@
+-- The layer from the boxes: more boxes, the boxes from one on, and the first box or the last that meets a rectangle.
+use mathlib.Core.Path.{_≡_, refl, sym, _∙_}
+use mathlib.Core.Bool.{Bool, true, false, _&&_, _||_, true≢false}
+use mathlib.Core.List.{List}
+use Prim.Native.Nat.{ℕ, _+_, _-_, _≤_, _<_}
+use native.Mathlib.Omega.{arith}
+use lib.Dec.{leb, ltb}
+use borrow.Author.Tests.{le-leb, lt-leb, leb-false, ltb-true}
+use Rattle.ground.proofs.Bools.{and-true, not-so}
+use Rattle.ground.proofs.AnyLaws.{any-to-less, any-to-more, any-to-true, any-to-false, any-to-none, any-to-ext}
+use Rattle.lattice.specs.Boxes.{boxAt}
+use Rattle.sweep_image.specs.Images.{inRect}
+use Rattle.sweep_image.specs.declared.Rect.{Rect}
+use Rattle.sweep_overlaps.specs.Overlaps.{rectOf, shadeOf, shade, shadeFrom, meetsRect, FirstMeeting, LastMeeting}
+use Rattle.sweep_overlaps.proofs.RectLaws.{in-has, has-meets}
+
+-- ---- the layer at a cell
+
+module _ (boxes : List ℕ) (x y z : ℕ) where
+  pub from-none : (from : ℕ) → shadeFrom boxes x from from y z ≡ false
+  unfolding shadeFrom
+  from-none from = any-to-none from λ i l. rw (lt-leb from i l)
+
+  pub from-more : (from n : ℕ) → from ≤ n → shadeFrom boxes x from (n + 1) y z ≡ shadeFrom boxes x from n y z || shadeOf boxes x n y z
+  unfolding shadeFrom
+  from-more from n h = any-to-more n _ ∙ rw (le-leb from n h)
+
+  -- where no box before `from` has the cell, those from there on decide
+  pub shade-from : (from to : ℕ) → shade boxes x from y z ≡ false → shade boxes x to y z ≡ shadeFrom boxes x from to y z
+  unfolding shade shadeFrom
+  shade-from from to bare = any-to-ext to λ i l. one i (leb from i) refl
+    where
+      one : (i : ℕ) (b : Bool) → leb from i ≡ b → shadeOf boxes x i y z ≡ b && shadeOf boxes x i y z
+      one i true e = refl
+      one i false e = any-to-false from (λ i. shadeOf boxes x i y z) bare i (leb-false from i e)
+
+  -- nor one before n, nor n
+  pub shade-past : (from n : ℕ) → shade boxes x from y z ≡ false → shadeFrom boxes x from n y z ≡ false → shadeOf boxes x n y z ≡ false
+      → shade boxes x (n + 1) y z ≡ false
+  unfolding shade
+  shade-past from n bare none e = any-to-more n _ ∙ rw (shade-from from n bare ∙ none, e)
+
+  pub shade-some : (to n : ℕ) → n < to → shadeOf boxes x n y z ≡ true → shade boxes x to y z ≡ true
+  unfolding shade
+  shade-some to n h e = any-to-true to _ n h e
+
+  -- what some boxes have, more boxes have
+  pub shade-less : (n to : ℕ) → n ≤ to → shade boxes x n y z ≡ true → shade boxes x to y z ≡ true
+  unfolding shade
+  shade-less n to h e = any-to-less n to _ h e
+
+-- ---- the first box that meets a rectangle, and the last
+
+-- a box that does not meet it has no cell of it
+pub missed : (boxes : List ℕ) (x : ℕ) (r : Rect) (n : ℕ) → meetsRect (boxAt boxes n) x r ≡ false → (y z : ℕ) → inRect r y z ≡ true
+    → shadeOf boxes x n y z ≡ false
+missed boxes x r n miss y z h =
+    not-so (shadeOf boxes x n y z) λ e. true≢false (sym (meeting (and-true (ltb x (boxAt boxes n .x-end)) (inRect (rectOf (boxAt boxes n)) y z) e)) ∙ miss)
+  where
+    meeting : (ltb x (boxAt boxes n .x-end) ≡ true) × (inRect (rectOf (boxAt boxes n)) y z ≡ true) → meetsRect (boxAt boxes n) x r ≡ true
+    meeting e = has-meets (boxAt boxes n) x r y z (in-has r y z h) (ltb-true x (boxAt boxes n .x-end) (e .0)) (in-has (rectOf (boxAt boxes n)) y z (e .1))
+
+module _ (boxes : List ℕ) (x from : ℕ) (r : Rect) where
+  -- no box before number n has a cell of the rectangle
+  abbrev pub BareTo : ℕ → Type 0
+  BareTo n = (y z : ℕ) → inRect r y z ≡ true → shadeFrom boxes x from n y z ≡ false
+
+  pub bare-none : BareTo from
+  bare-none y z h = from-none boxes x y z from
+
+  pub bare-more : (n : ℕ) → from ≤ n → {t : Bool} → t ≡ meetsRect (boxAt boxes n) x r → t ≡ false → BareTo n → BareTo (n + 1)
+  bare-more n l is miss bare y z h = from-more boxes x y z from n l ∙ rw (bare y z h, missed boxes x r n (sym is ∙ miss) y z h)
+
+  module _ (to n : ℕ) (l : from ≤ n) where
+    pub none-meets : n ≡ to → BareTo n → FirstMeeting boxes x from to r n
+    none-meets e bare = record { onward = l; within = omega arith; bare = bare; found = λ h. absurd (omega (arith, e, h)) }
+
+    pub box-found : n ≤ to → BareTo n → {t : Bool} → t ≡ meetsRect (boxAt boxes n) x r → t ≡ true → FirstMeeting boxes x from to r n
+    box-found k bare is e = record { onward = l; within = k; bare = bare; found = λ h. sym is ∙ e }
+
+module _ (boxes : List ℕ) (x from to : ℕ) (r : Rect) (n : ℕ) (k : n ≤ to) where
+  pub none-down : n ≡ from → LastMeeting boxes x from to r n
+  none-down e = record { onward = omega arith; within = k; found = λ h. absurd (omega (arith, e, h)) }
+
+  pub found-down : from ≤ n → {t : Bool} → t ≡ meetsRect (boxAt boxes (n - 1)) x r → t ≡ true → LastMeeting boxes x from to r n
+  found-down l is e = record { onward = l; within = k; found = λ h. sym is ∙ e }

@@ -1,0 +1,1 @@
+pub mod PaintingLaws  -- a rectangle painted part by part

@@ -1,0 +1,1 @@
+pub mod PlanesLaws  -- plane after plane, all corners

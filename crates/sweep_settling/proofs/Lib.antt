@@ -1,0 +1,1 @@
+pub mod SettlingLaws  -- words copied from one image to the other
