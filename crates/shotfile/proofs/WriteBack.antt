@@ -1,7 +1,7 @@
 -- What the records of a file say, taken apart: a record is never shorter than the shortest one that says the same, and a record with
 -- no needless field is that one, byte for byte. Assumes nothing.
 use mathlib.Core.Path.{_≡_, refl, sym, ap, ap₂, _∙_}
-use mathlib.Core.Bool.{Bool, true, false, not, false≢true}
+use mathlib.Core.Bool.{Bool, true, false, not, _&&_, false≢true}
 use mathlib.Core.List.{List, _∷_, _++_, append-assoc}
 use Prim.Native.Nat.{ℕ, suc, _+_, _*_, _/_, _%_, _≤_, _<_}
 use native.Mathlib.Numerals.{add-one}
@@ -10,7 +10,7 @@ use lib.Dec.{T, eqb}
 use lib.ListN.{length, getD, drop}
 use lib.Seq.{drop-cons}
 use borrow.Author.Tests.{eqb-true, eqb-false, eq-eqb, ne-eqb}
-use Rattle.ground.proofs.Bools.{and-left, and-right}
+use Rattle.ground.proofs.Bools.{not-off, and-left, and-right}
 use Rattle.shotfile_records.specs.declared.Fields.{Fields}
 use Rattle.shotfile_records.specs.Records.{fieldNumber, fieldAt, secondAt, thirdAt, endAt, fieldsAt, bitOf, fieldOf, mapOf, recordOf, needless, tight}
 use Rattle.shotfile_records.proofs.Parts.{Parts}
@@ -109,25 +109,24 @@ module _ (s : List ℕ) (at : ℕ) (absent f : Fields) (end : ℕ) (p : Parts s 
       m : ℕ
       m = getD s at 0
 
-      off : (b : Bool) → T (not b) → b ≡ false
-      off true h = absurd h
-      off false h = refl
+      later : T (not (needless s (secondAt m at) (m / 2 % 2) (absent .second)) && not (needless s (thirdAt m at) (m / 4) (absent .third)))
+      later = and-right (not (needless s (at + 1) (m % 2) (absent .first))) _ t
 
       first : (m % 2 ≡ bitOf (absent .first) (fieldAt s (at + 1) (m % 2) (absent .first))) × (drop (at + 1) s ≡ fieldOf (absent .first) (fieldAt s (at + 1) (m % 2) (absent .first)) ++ drop (secondAt m at) s)
       first =
-          let n = off (needless s (at + 1) (m % 2) (absent .first)) (and-left (not (needless s (at + 1) (m % 2) (absent .first))) _ t) in
+          let n = not-off (needless s (at + 1) (m % 2) (absent .first)) (and-left (not (needless s (at + 1) (m % 2) (absent .first))) _ t) in
           let r : at + 1 + 2 * (m % 2) ≤ length s = omega (arith, p .end-is, p .room) in
           (bit-same s (at + 1) (m % 2) (absent .first) (bits .0) bytes r n, field-same s (at + 1) (m % 2) (absent .first) (bits .0) bytes r n)
 
       second : (m / 2 % 2 ≡ bitOf (absent .second) (fieldAt s (secondAt m at) (m / 2 % 2) (absent .second))) × (drop (secondAt m at) s ≡ fieldOf (absent .second) (fieldAt s (secondAt m at) (m / 2 % 2) (absent .second)) ++ drop (thirdAt m at) s)
       second =
-          let n = off (needless s (secondAt m at) (m / 2 % 2) (absent .second)) (and-left (not (needless s (secondAt m at) (m / 2 % 2) (absent .second))) _ (and-right (not (needless s (at + 1) (m % 2) (absent .first))) _ t)) in
+          let n = not-off (needless s (secondAt m at) (m / 2 % 2) (absent .second)) (and-left (not (needless s (secondAt m at) (m / 2 % 2) (absent .second))) _ later) in
           let r : secondAt m at + 2 * (m / 2 % 2) ≤ length s = omega (arith, p .end-is, p .room) in
           (bit-same s (secondAt m at) (m / 2 % 2) (absent .second) (bits .1) bytes r n, field-same s (secondAt m at) (m / 2 % 2) (absent .second) (bits .1) bytes r n)
 
       third : (m / 4 ≡ bitOf (absent .third) (fieldAt s (thirdAt m at) (m / 4) (absent .third))) × (drop (thirdAt m at) s ≡ fieldOf (absent .third) (fieldAt s (thirdAt m at) (m / 4) (absent .third)) ++ drop (endAt m at) s)
       third =
-          let n = off (needless s (thirdAt m at) (m / 4) (absent .third)) (and-right (not (needless s (secondAt m at) (m / 2 % 2) (absent .second))) _ (and-right (not (needless s (at + 1) (m % 2) (absent .first))) _ t)) in
+          let n = not-off (needless s (thirdAt m at) (m / 4) (absent .third)) (and-right (not (needless s (secondAt m at) (m / 2 % 2) (absent .second))) _ later) in
           let r : thirdAt m at + 2 * (m / 4) ≤ length s = omega (arith, p .end-is, p .room) in
           (bit-same s (thirdAt m at) (m / 4) (absent .third) (bits .2) bytes r n, field-same s (thirdAt m at) (m / 4) (absent .third) (bits .2) bytes r n)
 
