@@ -1,1 +1,1 @@
-pub mod Fits
+pub mod Fits  -- what is written fits its buffer
