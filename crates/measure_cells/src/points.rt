@@ -12,7 +12,7 @@ ghost use Rattle.job.specs.Job.{jobOf, shotsOf};
 ghost use Rattle.grid.specs.Grid.{Holds};
 ghost use Rattle.grid_cover.specs.Cover.{runCovers};
 ghost use Rattle.measure_tallies.specs.Tallies.{plus, AtMost};
-ghost use Rattle.measure_cells.specs.Points.{lineFrom, lineTo, planeTo, planesTo, quad, InInterval, Between};
+ghost use Rattle.measure_cells.specs.Points.{lineFrom, lineTo, planeTo, planesTo, quad, InInterval, PointsInInterval, beforePoints, beforeLine, beforePlane};
 use grid::intervals::cells_of;
 use grid_cover::Covering;
 use grid_cover::first_covering;
@@ -72,7 +72,7 @@ fn count_points(
     requires { ⌜ x ≤ 1024 ⌝ }
     requires { ⌜ y ≤ 1024 ⌝ }
     requires { ⌜ from + points ≤ 1025 ⌝ }
-    requires { ⌜ AtMost 2305843009213693952 t ⌝ }
+    requires { ⌜ AtMost beforePoints t ⌝ }
     ensures { λ r. ⌜ r ≡ plus t (lineFrom (runCovers edge (now (coords .entry)) (now (run .entry))) x y from points) ⌝ }
 {
     let mut sums = t;
@@ -118,9 +118,9 @@ fn count_interval(
     requires { ⌜ Holds (jobOf field edge grid (now coords)) (now work) ⌝ }
     requires { ⌜ x ≤ field ⌝ }
     requires { ⌜ y ≤ field ⌝ }
-    requires { ⌜ Between (field / grid) grid gz from points ⌝ }
+    requires { ⌜ PointsInInterval (field / grid) grid gz from points ⌝ }
     requires { ⌜ length (now few) ≡ 4096 ⌝ }
-    requires { ⌜ AtMost 2305843009213693952 t ⌝ }
+    requires { ⌜ AtMost beforePoints t ⌝ }
     ensures { λ r. ⌜ r ≡ plus t (lineFrom (cells (shotsOf edge (now (coords .entry)))) x y from points) ⌝ }
 {
     let gx = interval_at(field, grid, x) as usize;
@@ -148,7 +148,7 @@ fn count_intervals(
     requires { ⌜ x ≤ field ⌝ }
     requires { ⌜ y ≤ field ⌝ }
     requires { ⌜ length (now few) ≡ 4096 ⌝ }
-    requires { ⌜ AtMost 1152921504606846976 t ⌝ }
+    requires { ⌜ AtMost beforeLine t ⌝ }
     ensures { λ r. ⌜ r ≡ plus t (lineTo (cells (shotsOf edge (now (coords .entry)))) field x y) ⌝ }
 {
     let width = field / grid;
@@ -188,7 +188,7 @@ fn count_line(
     requires { ⌜ x ≤ field ⌝ }
     requires { ⌜ y ≤ field ⌝ }
     requires { ⌜ length (now few) ≡ 4096 ⌝ }
-    requires { ⌜ AtMost 1152921504606846976 t ⌝ }
+    requires { ⌜ AtMost beforeLine t ⌝ }
     ensures { λ r. ⌜ r ≡ plus t (lineTo (cells (shotsOf edge (now (coords .entry)))) (field + 1) x y) ⌝ }
 {
     let sums = count_intervals(field, edge, grid, coords, work, x, y, few, t);
@@ -222,7 +222,7 @@ fn count_plane(
     requires { ⌜ Holds (jobOf field edge grid (now coords)) (now work) ⌝ }
     requires { ⌜ x ≤ field ⌝ }
     requires { ⌜ length (now few) ≡ 4096 ⌝ }
-    requires { ⌜ AtMost 576460752303423488 t ⌝ }
+    requires { ⌜ AtMost beforePlane t ⌝ }
     ensures { λ r. ⌜ r ≡ plus t (planeTo (cells (shotsOf edge (now (coords .entry)))) (field + 1) (field + 1) x) ⌝ }
 {
     let mut sums = t;

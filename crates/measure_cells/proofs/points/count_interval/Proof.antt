@@ -3,7 +3,7 @@ use native.Mathlib.Omega.{arith}
 use borrow.Author.Needs.{needs}
 use Rattle.buffer.proofs.WroteLaws.{front-part, front-count}
 use Rattle.grid.proofs.ShotLaws.{width-least, width-times}
-use Rattle.measure_cells.proofs.PointLaws.{cell-small, cell-starts, run-asked, points-are, between-most}
+use Rattle.measure_cells.proofs.PointLaws.{cell-small, cell-starts, run-asked, points-are, interval-points-most}
 use Rattle.measure_cells.proofs.points.count_interval.Statement.{statement}
 use Rattle.measure_cells.proofs.points.count_interval.Tie as tie
 
@@ -47,7 +47,7 @@ slice-aggregate-count-points : tie.Need-slice-aggregate-count-points
 slice-aggregate-count-points c = front-count (c .before .before .before .narrow-to-line .ensures)
 
 count-points-requires : tie.Need-count-points-requires
-count-points-requires c κs = let a = c .before .before .before .before .before .before .before .before .before .before .before .before in (omega (arith, a .pre .1 .0, a .pre .0 .valid .field-most), (omega (arith, a .pre .1 .1 .0, a .pre .0 .valid .field-most), (between-most (a .pre .0 .valid) (a .args .gz) (a .args .from) (a .args .points) (a .pre .1 .1 .1 .0), a .pre .1 .1 .1 .1 .1)))
+count-points-requires c κs = let a = c .before .before .before .before .before .before .before .before .before .before .before .before in (omega (arith, a .pre .1 .0, a .pre .0 .valid .field-most), (omega (arith, a .pre .1 .1 .0, a .pre .0 .valid .field-most), (interval-points-most (a .pre .0 .valid) (a .args .gz) (a .args .from) (a .args .points) (a .pre .1 .1 .1 .0), a .pre .1 .1 .1 .1 .1)))
 
 same-length : tie.Need-same-length
 same-length c = search needs

@@ -9,9 +9,9 @@ use Rattle.lattice.specs.Shots.{cells}
 use Rattle.job.specs.Job.{shotsOf}
 use Rattle.grid.proofs.ShotLaws.{width-times}
 use Rattle.measure_tallies.specs.Tallies.{plus}
-use Rattle.measure_cells.specs.Points.{lineTo}
+use Rattle.measure_cells.specs.Points.{lineTo, beforePoints, beforeLine}
 use Rattle.measure_cells.proofs.SumLaws.{points-low}
-use Rattle.measure_cells.proofs.PointLaws.{interval-fits, interval-between, intervals-none, intervals-turn}
+use Rattle.measure_cells.proofs.PointLaws.{interval-fits, interval-points, intervals-none, intervals-turn}
 use Rattle.measure_cells.proofs.points.count_intervals.Statement.{statement}
 use Rattle.measure_cells.proofs.points.count_intervals.Tie as tie
 
@@ -31,7 +31,7 @@ mul-count-interval : tie.Need-mul-count-interval Inv-loop μ-loop
 mul-count-interval c = let a = c .before .before .before .before .before in omega (arith, interval-fits (a .pre .0 .valid) (c .before .loop .gz) (c .loop-test .taken))
 
 count-interval-requires : tie.Need-count-interval-requires Inv-loop μ-loop
-count-interval-requires c κs = let a = c .before .before .before .before .before .before in (a .pre .0, (a .pre .1 .0, (a .pre .1 .1 .0, (interval-between (a .pre .0 .valid) (c .before .before .loop .gz) (c .before .loop-test .taken), (c .before .before .loop .inv .1, points-low (λ (z : ℕ). around (cells (shotsOf (a .args .edge) (a .args .coords .now))) (a .args .x) (a .args .y) z) (c .before .before .loop .gz * (a .args .field / a .args .grid)) (omega (arith, interval-fits (a .pre .0 .valid) (c .before .before .loop .gz) (c .before .loop-test .taken))) 1152921504606846976 2305843009213693952 (omega arith) (a .args .t) (a .pre .1 .1 .1 .1) (c .before .before .loop .inv .2))))))
+count-interval-requires c κs = let a = c .before .before .before .before .before .before in (a .pre .0, (a .pre .1 .0, (a .pre .1 .1 .0, (interval-points (a .pre .0 .valid) (c .before .before .loop .gz) (c .before .loop-test .taken), (c .before .before .loop .inv .1, points-low (λ (z : ℕ). around (cells (shotsOf (a .args .edge) (a .args .coords .now))) (a .args .x) (a .args .y) z) (c .before .before .loop .gz * (a .args .field / a .args .grid)) (omega (arith, interval-fits (a .pre .0 .valid) (c .before .before .loop .gz) (c .before .loop-test .taken))) beforeLine beforePoints (omega arith) (a .args .t) (a .pre .1 .1 .1 .1) (c .before .before .loop .inv .2))))))
 
 add-gz : tie.Need-add-gz Inv-loop μ-loop
 add-gz c = search needs

@@ -7,7 +7,7 @@ ghost use Rattle.ground.specs.Numbers.{bit};
 ghost use Rattle.buffer.specs.Wrote.{Wrote};
 
 // Puts a number at a place if it is wanted, and gives the place after it.
-pub fn put_if(wanted: bool, shot: u32, to: &mut [u32], at: usize) -> usize
+pub(crate) fn put_if(wanted: bool, shot: u32, to: &mut [u32], at: usize) -> usize
     requires { ⌜ at + bit wanted ≤ length (now to) ⌝ }
     ensures { λ r. ⌜ Wrote (now (to .entry)) (now (to .exit)) at r (cond wanted (shot ∷ []) []) ⌝ }
 {

@@ -1,8 +1,8 @@
 -- A wanted number is written; another changes nothing.
 use borrow.Author.Needs.{needs}
 use Rattle.grid.proofs.PutLaws.{put-room, put-yes, put-no}
-use Rattle.grid.proofs.put.put_if.Statement.{statement}
-use Rattle.grid.proofs.put.put_if.Tie as tie
+use Rattle.measure_lines.proofs.put.put_if.Statement.{statement}
+use Rattle.measure_lines.proofs.put.put_if.Tie as tie
 
 mul-to : tie.Need-mul-to
 mul-to c = search needs
