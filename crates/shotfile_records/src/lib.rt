@@ -1,5 +1,6 @@
 // One record of a shot file: a map byte, then the 16-bit fields whose bits stand in it, least byte first. docs/SCOPE.md, 'Shot file'.
-// specs/Records.antt says how a record is read and what its shortest form is. Stands on `buffer` and on `job`, whose refusals it gives.
+// specs/Records.antt says how a record is read and what its shortest form is, specs/Numbers.antt which numbers say a job's settings and a
+// shot. Stands on `buffer`, on `refusals`, whose refusals it gives, and on `job` and `lattice`.
 use refusals::Refusal;
 ghost use mathlib.Core.Path.{_≡_};
 ghost use mathlib.Core.List.{[], _∷_};

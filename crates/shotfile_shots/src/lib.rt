@@ -1,6 +1,6 @@
 // The lines of a shot file's shots with their numbers and places, put into a lent slice one after another, up to the first faulty record.
-// specs/ShotLines.antt. Stands on `shotfile_lines`, which has the single lines, on `shotfile_reader`, whose cursor it follows, on `job` and
-// `buffer`.
+// specs/ShotLines.antt. Stands on `shotfile_lines`, which has the single lines, on `shotfile_reader`, whose cursor it follows, on
+// `shotfile_records`, `refusals` and `buffer`.
 use refusals::Refusal;
 use shotfile_lines::put_refused;
 use shotfile_lines::put_shot;

@@ -1,7 +1,7 @@
 // A shot file as plain text, one record a line, put into a lent slice: what the program `shots` prints. The settings, the shots with their
 // numbers and places, and, at the end, why the file or its list is refused, if it is. specs/Text.antt says what the text is.
 // Stands on `shotfile_lines`, `shotfile_shots` and `shotfile_verdict`, which have the lines, on `shotfile_reader` and `shotfile_records`, on
-// `job` and `buffer`.
+// `job`, `refusals` and `buffer`.
 use shotfile_lines::put_refused;
 use shotfile_lines::put_settings;
 use shotfile_reader::Cursor;

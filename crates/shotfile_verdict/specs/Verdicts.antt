@@ -1,5 +1,6 @@
 -- Why the list of a file that reads well is refused, as a line. docs/SCOPE.md, 'When a job is refused'.
 use mathlib.Core.List.{List, []}
+use Prim.Native.Nat.{ℕ}
 use Rattle.job.specs.Job.{shotCount}
 use Rattle.job.specs.Checking.{checked}
 use Rattle.refusals.specs.declared.Checked.{Checked}
@@ -7,7 +8,6 @@ use Rattle.refusals.specs.declared.Checked.the-variants.{Accepted, Refused as T
 use Rattle.shotfile_reader.specs.Files.{File, file, refused, fileIn}
 use Rattle.shotfile_reader.specs.Calls.{readCoords}
 use Rattle.shotfile_lines.specs.Lines.{refusedLine}
-use Prim.Native.Nat.{ℕ}
 
 -- why the list of a file that reads well is refused, if it is
 abbrev pub listVerdict : Checked → List ℕ

@@ -1,5 +1,5 @@
 // Why the list of a shot file that reads well is refused, as a line of the file's text. specs/Verdicts.antt. Stands on `shotfile_lines`,
-// which has the line, on `shotfile_reader` and `job`, which read and check the list, and on `buffer`.
+// which has the line, on `shotfile_reader` and `job`, which read and check the list, on `refusals` and `buffer`.
 use refusals::Checked;
 use shotfile_lines::put_refused;
 use shotfile_reader::ReadAnswer;

@@ -1,4 +1,4 @@
--- A shot file as it is written: of all files of a list the shortest. docs/SCOPE.md, 'Shot file'.
+-- A shot file as it is written: the header's record and then a record a shot, each in its shortest form. docs/SCOPE.md, 'Shot file'.
 use mathlib.Core.List.{List, [], _∷_, _++_}
 use Prim.Native.Nat.{ℕ}
 use Rattle.lattice.specs.Shots.{Shot}
@@ -16,5 +16,6 @@ shotRecords last (t ∷ ts) = recordOf last (shotFields t) ++ shotRecords (shotF
 abbrev pub coordsAt : List ℕ → ℕ → Fields
 coordsAt coords i = record { first = xAt coords i; second = yAt coords i; third = zAt coords i }
 
+-- the file of a job
 unfoldable pub fileOf : Job → List ℕ
 fileOf job = recordOf headerAbsent (settingFields job) ++ shotRecords firstAbsent (shots job)

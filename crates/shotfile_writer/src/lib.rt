@@ -1,7 +1,7 @@
 // Writing a shot file in its shortest form. docs/SCOPE.md, 'Shot file' and 'When a job is refused'. specs/Files.antt says what the file of
 // a list is, specs/Calls.antt what `write` promises, specs/Conditions.antt when it refuses; proofs/Conditions.antt that each refusal is
-// given exactly where it should be. Stands on `shotfile_records`, on `job`, whose checks and door to a shot it uses, on `lattice` and
-// `buffer`.
+// given exactly where it should be. Stands on `shotfile_records`, on `refusals` and `job`, whose refusals, checks and door to a shot it uses,
+// on `lattice` and `buffer`.
 use refusals::Checked;
 use refusals::Refusal;
 use shotfile_records::Fields;

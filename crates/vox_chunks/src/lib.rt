@@ -1,5 +1,5 @@
 // The bytes of a VOX file at a place: 32-bit numbers, names of four bytes, chunks. docs/SCOPE.md, 'VOX file'. specs/Chunks.antt says
-// what they are. Stands on `text_same`, and on `job`, whose laws about tests it uses.
+// what they are. Stands on `text_same`, and on `ground`, whose laws about tests it uses.
 use text_same::same_bytes;
 ghost use mathlib.Core.Path.{_≡_};
 ghost use Prim.Native.Nat.{_+_, _*_, _≤_};

@@ -36,7 +36,10 @@ same-length-4 : tie.Need-same-length-4
 same-length-4 c = search needs
 
 returns : tie.Need-returns
-returns c = file-credited (c .before .before .before .before .before .before .before .before .before .before .before .before .before .before .before .before .before .read .ensures) (c .before .before .before .before .before .before .before .before .before .before .before .before .before .read2 .given .0 .0) (c .before .before .before .before .before .before .before .before .before .before .before .before .before .read2 .given .0 .1 .0) (c .before .before .before .before .before .before .before .before .before .before .before .before .before .read2 .given .0 .1 .1 .0) (c .before .before .before .before .before .before .before .before .before .before .before .before .before .read2 .given .0 .1 .1 .1 .0) (c .before .before .before .before .before .before .before .before .before .before .before .before .before .read2 .given .1) (c .before .before .before .before .before .before .before .before .before .before .first .ensures) (c .before .before .before .before .before .before .credit-list .ensures)
+returns c =
+    let at-read2 = c .before .before .before .before .before .before .before .before .before .before .before .before .before in
+    file-credited (c .before .before .before .before .before .before .before .before .before .before .before .before .before .before .before .before .before .read .ensures) (at-read2 .read2 .given .0 .0) (at-read2 .read2 .given .0 .1 .0) (at-read2 .read2 .given .0 .1 .1 .0)
+    (at-read2 .read2 .given .0 .1 .1 .1 .0) (at-read2 .read2 .given .1) (c .before .before .before .before .before .before .before .before .before .before .first .ensures) (c .before .before .before .before .before .before .credit-list .ensures)
 
 same-length-5 : tie.Need-same-length-5
 same-length-5 c = search needs

@@ -22,7 +22,9 @@ slice-aggregate-put-credits : tie.Need-slice-aggregate-put-credits
 slice-aggregate-put-credits c = sym (length-take-le _ _ (shots-there (c .before .before .before .before .before .before .before .before .before .credit .ensures) (c .before .before .before .enum-told .given .1) (c .before .before .count .ensures)))
 
 put-credits-requires : tie.Need-put-credits-requires
-put-credits-requires c κs = shots-few (c .before .before .before .before .before .before .before .before .before .credit .ensures) (c .before .before .before .enum-told .given .1) (c .before .before .count .ensures) (c .before .before .before .before .before .before .before .before .before .before .before .before .before .before .before .before .pre)
+put-credits-requires c κs =
+    shots-few (c .before .before .before .before .before .before .before .before .before .credit .ensures) (c .before .before .before .enum-told .given .1) (c .before .before .count .ensures)
+    (c .before .before .before .before .before .before .before .before .before .before .before .before .before .before .before .before .pre)
 
 enum-known-checked : tie.Need-enum-known-checked
 enum-known-checked c = search needs
@@ -40,7 +42,9 @@ same-length-3 : tie.Need-same-length-3
 same-length-3 c = search needs
 
 returns : tie.Need-returns
-returns c = list-credited (c .before .before .before .before .before .before .before .before .before .before .before .before .credit .ensures) (c .before .before .before .before .before .before .enum-told .given .1) (c .before .before .before .before .before .count .ensures) (c .before .before .put-credits .ensures)
+returns c =
+    list-credited (c .before .before .before .before .before .before .before .before .before .before .before .before .credit .ensures) (c .before .before .before .before .before .before .enum-told .given .1) (c .before .before .before .before .before .count .ensures)
+    (c .before .before .put-credits .ensures)
 
 same-length-4 : tie.Need-same-length-4
 same-length-4 c = search needs
@@ -52,7 +56,9 @@ same-length-6 : tie.Need-same-length-6
 same-length-6 c = search needs
 
 returns-2 : tie.Need-returns-2
-returns-2 c = list-refused (c .before .before .before .before .before .before .before .before .before .before .before .credit .ensures) (c .before .before .before .before .before .checked .given .0 .0) (c .before .before .before .before .before .checked .given .1) (c .before .before .refuse .ensures)
+returns-2 c =
+    let at-checked = c .before .before .before .before .before in
+    list-refused (c .before .before .before .before .before .before .before .before .before .before .before .credit .ensures) (at-checked .checked .given .0 .0) (at-checked .checked .given .1) (c .before .before .refuse .ensures)
 
 pub credit-list-spec : {M : Type 1} → statement M
 credit-list-spec =

@@ -13,16 +13,39 @@ put-byte-requires : tie.Need-put-byte-requires
 put-byte-requires c κs = omega (arith, c .before .before .before .put-digits .ensures .next, c .before .before .before .put-digits .kept .0, digits-length 20 (c .before .before .before .before .before .before .args .shot), c .before .before .before .before .before .before .pre)
 
 put-digits-requires-2 : tie.Need-put-digits-requires-2
-put-digits-requires-2 c κs = omega (arith, c .before .before .before .before .before .before .before .put-digits .ensures .next, c .before .before .before .before .before .before .before .put-digits .kept .0, digits-length 20 (c .before .before .before .before .before .before .before .before .before .before .args .shot), c .before .before .before .put-byte .ensures .next, c .before .before .before .put-byte .kept .0, c .before .before .before .before .before .before .before .before .before .before .pre)
+put-digits-requires-2 c κs =
+    let start = c .before .before .before .before .before .before .before .before .before .before in
+    let at-put-digits = c .before .before .before .before .before .before .before in
+    let at-put-byte = c .before .before .before in
+    omega (arith, at-put-digits .put-digits .ensures .next, at-put-digits .put-digits .kept .0, digits-length 20 (start .args .shot), at-put-byte .put-byte .ensures .next, at-put-byte .put-byte .kept .0, start .pre)
 
 put-byte-requires-2 : tie.Need-put-byte-requires-2
-put-byte-requires-2 c κs = omega (arith, c .before .before .before .before .before .before .before .before .before .before .before .put-digits .ensures .next, c .before .before .before .before .before .before .before .before .before .before .before .put-digits .kept .0, digits-length 20 (c .before .before .before .before .before .before .before .before .before .before .before .before .before .before .args .shot), c .before .before .before .before .before .before .before .put-byte .ensures .next, c .before .before .before .before .before .before .before .put-byte .kept .0, c .before .before .before .put-digits2 .ensures .next, c .before .before .before .put-digits2 .kept .0, digits-length 20 (c .before .before .before .before .before .before .before .before .before .before .before .before .before .before .args .credit), c .before .before .before .before .before .before .before .before .before .before .before .before .before .before .pre)
+put-byte-requires-2 c κs =
+    let start = c .before .before .before .before .before .before .before .before .before .before .before .before .before .before in
+    let at-put-digits = c .before .before .before .before .before .before .before .before .before .before .before in
+    let at-put-byte = c .before .before .before .before .before .before .before in
+    let at-put-digits2 = c .before .before .before in
+    omega (
+      arith,
+      at-put-digits .put-digits .ensures .next,
+      at-put-digits .put-digits .kept .0,
+      digits-length 20
+          (start .args .shot),
+      at-put-byte .put-byte .ensures .next,
+      at-put-byte .put-byte .kept .0,
+      at-put-digits2 .put-digits2 .ensures .next,
+      at-put-digits2 .put-digits2 .kept .0,
+      digits-length 20 (start .args .credit),
+      start .pre,
+    )
 
 same-length : tie.Need-same-length
 same-length c = search needs
 
 returns : tie.Need-returns
-returns c = wrote-then (c .before .before .before .before .before .before .before .before .before .before .before .before .before .before .put-digits .ensures) (wrote-then (c .before .before .before .before .before .before .before .before .before .before .put-byte .ensures) (wrote-then (c .before .before .before .before .before .before .put-digits2 .ensures) (c .before .before .put-byte2 .ensures)))
+returns c =
+    wrote-then (c .before .before .before .before .before .before .before .before .before .before .before .before .before .before .put-digits .ensures)
+    (wrote-then (c .before .before .before .before .before .before .before .before .before .before .put-byte .ensures) (wrote-then (c .before .before .before .before .before .before .put-digits2 .ensures) (c .before .before .put-byte2 .ensures)))
 
 pub put-credit-spec : {M : Type 1} → statement M
 put-credit-spec =

@@ -25,7 +25,10 @@ shared-slice-read-put-credit : tie.Need-shared-slice-read-put-credit Inv-loop μ
 shared-slice-read-put-credit c = search needs
 
 put-credit-requires : tie.Need-put-credit-requires Inv-loop μ-loop
-put-credit-requires c κs = omega (arith, lines-room (c .before .before .before .before .before .before .args .credits .now) (c .before .before .before .before .before .before .args .out .now) (c .before .before .before .loop .shot) (c .before .before .before .loop .inv .3) (omega arith) (c .before .before .before .before .before .before .pre), c .before .before .before .loop .inv .2)
+put-credit-requires c κs =
+    let start = c .before .before .before .before .before .before in
+    let at-loop = c .before .before .before in
+    omega (arith, lines-room (start .args .credits .now) (start .args .out .now) (at-loop .loop .shot) (at-loop .loop .inv .3) (omega arith) (start .pre), at-loop .loop .inv .2)
 
 add-shot : tie.Need-add-shot Inv-loop μ-loop
 add-shot c = search needs
@@ -34,7 +37,11 @@ loop-less : tie.Need-loop-less Inv-loop μ-loop
 loop-less c = search needs
 
 loop-again : tie.Need-loop-again Inv-loop μ-loop
-loop-again c = (omega arith, refl, wrote-length (c .before .before .put-credit .ensures) ∙ c .before .before .before .before .before .before .loop .inv .2, lines-next (c .before .before .before .before .before .before .before .before .before .args .credits .now) (c .before .before .before .before .before .before .before .before .before .args .out .now) (c .before .before .before .before .before .before .loop .shot) (c .before .before .before .before .before .before .loop .inv .3) (c .before .before .put-credit .ensures))
+loop-again c =
+    let at-loop = c .before .before .before .before .before .before in
+    let start = c .before .before .before .before .before .before .before .before .before in
+    let at-put-credit = c .before .before in
+    (omega arith, refl, wrote-length (at-put-credit .put-credit .ensures) ∙ at-loop .loop .inv .2, lines-next (start .args .credits .now) (start .args .out .now) (at-loop .loop .shot) (at-loop .loop .inv .3) (at-put-credit .put-credit .ensures))
 
 same-length : tie.Need-same-length Inv-loop μ-loop
 same-length c = c .before .loop .inv .2

@@ -30,7 +30,10 @@ same-length-3 : tie.Need-same-length-3
 same-length-3 c = search needs
 
 returns : tie.Need-returns
-returns c = file-listed (c .before .before .before .before .before .before .before .before .before .before .before .before .before .before .read .ensures) (c .before .before .before .before .before .before .before .before .before .before .read2 .given .0 .0) (c .before .before .before .before .before .before .before .before .before .before .read2 .given .0 .1 .0) (c .before .before .before .before .before .before .before .before .before .before .read2 .given .0 .1 .1 .0) (c .before .before .before .before .before .before .before .before .before .before .read2 .given .0 .1 .1 .1 .0) (c .before .before .before .before .before .before .before .before .before .before .read2 .given .1) (c .before .before .before .before .before .before .before .first .ensures) (c .before .before .before .before .list .ensures)
+returns c =
+    let at-read2 = c .before .before .before .before .before .before .before .before .before .before in
+    file-listed (c .before .before .before .before .before .before .before .before .before .before .before .before .before .before .read .ensures) (at-read2 .read2 .given .0 .0) (at-read2 .read2 .given .0 .1 .0) (at-read2 .read2 .given .0 .1 .1 .0) (at-read2 .read2 .given .0 .1 .1 .1 .0)
+    (at-read2 .read2 .given .1) (c .before .before .before .before .before .before .before .first .ensures) (c .before .before .before .before .list .ensures)
 
 same-length-4 : tie.Need-same-length-4
 same-length-4 c = search needs

@@ -25,19 +25,25 @@ enum-known-after : tie.Need-enum-known-after Inv-loop μ-loop
 enum-known-after c = search needs
 
 put-shot-requires : tie.Need-put-shot-requires Inv-loop μ-loop
-put-shot-requires c κs = omega (arith, c .before .before .before .before .before .before .before .before .before .before .pre, c .before .before .before .before .before .before .before .loop .inv .1 .few, c .before .before .before .before .before .before .loop-test .taken, wrote-length (c .before .before .before .before .before .before .before .loop .inv .1 .wrote))
+put-shot-requires c κs =
+    let at-loop = c .before .before .before .before .before .before .before in
+    omega (arith, c .before .before .before .before .before .before .before .before .before .before .pre, at-loop .loop .inv .1 .few, c .before .before .before .before .before .before .loop-test .taken, wrote-length (at-loop .loop .inv .1 .wrote))
 
 enum-known-refusal : tie.Need-enum-known-refusal Inv-loop μ-loop
 enum-known-refusal c = search needs
 
 put-refused-requires : tie.Need-put-refused-requires Inv-loop μ-loop
-put-refused-requires c κs = omega (arith, c .before .before .before .before .before .before .before .before .before .pre, c .before .before .before .before .before .before .loop .inv .1 .few, c .before .before .before .before .before .loop-test .taken, wrote-length (c .before .before .before .before .before .before .loop .inv .1 .wrote))
+put-refused-requires c κs =
+    let at-loop = c .before .before .before .before .before .before in
+    omega (arith, c .before .before .before .before .before .before .before .before .before .pre, at-loop .loop .inv .1 .few, c .before .before .before .before .before .loop-test .taken, wrote-length (at-loop .loop .inv .1 .wrote))
 
 same-length : tie.Need-same-length Inv-loop μ-loop
 same-length c = c .before .before .put-refused .kept .0 ∙ wrote-length (c .before .before .before .before .before .before .before .before .before .loop .inv .1 .wrote)
 
 returns : tie.Need-returns Inv-loop μ-loop
-returns c = listed-stopped (c .before .before .before .before .before .before .before .before .before .loop .inv .1) (c .before .before .before .before .before .before .before .before .loop-test .taken) (sym (c .before .before .before .before .before .refusal .given .1) ∙ c .before .before .before .before .before .before .before .step .ensures) (c .before .before .put-refused .ensures)
+returns c =
+    listed-stopped (c .before .before .before .before .before .before .before .before .before .loop .inv .1) (c .before .before .before .before .before .before .before .before .loop-test .taken)
+    (sym (c .before .before .before .before .before .refusal .given .1) ∙ c .before .before .before .before .before .before .before .step .ensures) (c .before .before .put-refused .ensures)
 
 enum-told : tie.Need-enum-told Inv-loop μ-loop
 enum-told c = search needs
@@ -55,7 +61,12 @@ loop-less : tie.Need-loop-less Inv-loop μ-loop
 loop-less c = omega (arith, c .before .before .before .before .before .before .before .before .before .loop-test .taken)
 
 loop-again : tie.Need-loop-again Inv-loop μ-loop
-loop-again c = (omega (arith, c .before .before .before .before .before .before .before .before .before .loop-test .taken), listed-shot (c .before .before .before .before .before .before .before .before .before .before .loop .inv .1) (c .before .before .before .before .before .before .before .before .before .loop-test .taken) (sym (c .before .before .before .before .before .before .after .given .1) ∙ c .before .before .before .before .before .before .before .before .step .ensures) (c .before .before .put-shot .ensures))
+loop-again c =
+    let at-loop-test = c .before .before .before .before .before .before .before .before .before in (
+      omega (arith, at-loop-test .loop-test .taken),
+      listed-shot (c .before .before .before .before .before .before .before .before .before .before .loop .inv .1) (at-loop-test .loop-test .taken)
+          (sym (c .before .before .before .before .before .before .after .given .1) ∙ c .before .before .before .before .before .before .before .before .step .ensures) (c .before .before .put-shot .ensures),
+    )
 
 same-length-3 : tie.Need-same-length-3 Inv-loop μ-loop
 same-length-3 c = wrote-length (c .before .before .loop .inv .1 .wrote)
@@ -70,7 +81,9 @@ same-length-4 : tie.Need-same-length-4 Inv-loop μ-loop
 same-length-4 c = c .before .before .put-refused2 .kept .0 ∙ wrote-length (c .before .before .before .before .before .before .loop .inv .1 .wrote)
 
 returns-4 : tie.Need-returns-4 Inv-loop μ-loop
-returns-4 c = listed-many (c .before .before .before .before .before .before .loop .inv .1) (c .before .before .before .before .before .before .loop .inv .0) (c .before .before .before .before .before .loop-test .left) (c .before .before .before .before .if1 .left) (c .before .before .put-refused2 .ensures)
+returns-4 c =
+    let at-loop = c .before .before .before .before .before .before in
+    listed-many (at-loop .loop .inv .1) (at-loop .loop .inv .0) (c .before .before .before .before .before .loop-test .left) (c .before .before .before .before .if1 .left) (c .before .before .put-refused2 .ensures)
 
 pub put-shots-spec : {M : Type 1} → statement M
 put-shots-spec =

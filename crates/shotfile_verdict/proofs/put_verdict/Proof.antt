@@ -27,13 +27,18 @@ same-length-2 : tie.Need-same-length-2
 same-length-2 c = search needs
 
 returns : tie.Need-returns
-returns c = (wrote-as (read-verdict (c .before .before .before .before .before .before .before .before .before .before .before .read .ensures) (c .before .before .before .before .before .before .before .read2 .given .1) (c .before .before .before .before .first .ensures)) (c .before .before .put-list-verdict .ensures), (c .before .before .before .before .before .before .before .before .before .before .before .read .ensures .coordinates))
+returns c =
+    let at-read = c .before .before .before .before .before .before .before .before .before .before .before in
+    (wrote-as (read-verdict (at-read .read .ensures) (c .before .before .before .before .before .before .before .read2 .given .1) (c .before .before .before .before .first .ensures)) (c .before .before .put-list-verdict .ensures), (at-read .read .ensures .coordinates))
 
 same-length-3 : tie.Need-same-length-3
 same-length-3 c = search needs
 
 returns-2 : tie.Need-returns-2
-returns-2 c = (refused-verdict (c .before .before .before .before .read .ensures) (c .before .before .before .before .before .before .before .before .before .args .out .now) (c .before .before .before .before .before .before .before .before .before .args .at) (c .enum-told .given .1) (c .before .before .before .before .before .before .before .before .before .pre), (c .before .before .before .before .read .ensures .coordinates))
+returns-2 c =
+    let start = c .before .before .before .before .before .before .before .before .before in
+    let at-read = c .before .before .before .before in
+    (refused-verdict (at-read .read .ensures) (start .args .out .now) (start .args .at) (c .enum-told .given .1) (start .pre), (at-read .read .ensures .coordinates))
 
 pub put-verdict-spec : {M : Type 1} → statement M
 put-verdict-spec =

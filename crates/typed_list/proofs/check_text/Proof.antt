@@ -39,13 +39,23 @@ enum-known-mistake : tie.Need-enum-known-mistake Inv-loop μ-loop
 enum-known-mistake c = search needs
 
 returns : tie.Need-returns Inv-loop μ-loop
-returns c = sym (typed-stops (c .before .before .before .before .before .before .before .before .before .args .places) (c .before .before .before .before .before .before .loop .d) (c .before .before .before .before .before .before .loop .line) (line-first (c .before .before .before .before .before .before .before .before .before .args .text .now) (c .before .before .before .before .before .before .loop .at) (c .before .before .before .before .before .until .ensures)) (c .before .before .before .before .line-at .ensures) (sym (c .before .mistake .given .1) ∙ c .before .before .before .then .ensures)) ∙ c .before .before .before .before .before .before .loop .inv .2
+returns c =
+    let at-loop = c .before .before .before .before .before .before in
+    let start = c .before .before .before .before .before .before .before .before .before in
+    sym (typed-stops (start .args .places) (at-loop .loop .d) (at-loop .loop .line) (line-first (start .args .text .now) (at-loop .loop .at) (c .before .before .before .before .before .until .ensures)) (c .before .before .before .before .line-at .ensures)
+    (sym (c .before .mistake .given .1) ∙ c .before .before .before .then .ensures)) ∙ at-loop .loop .inv .2
 
 list-of-requires : tie.Need-list-of-requires Inv-loop μ-loop
 list-of-requires c κs = search needs
 
 returns-2 : tie.Need-returns-2 Inv-loop μ-loop
-returns-2 c = c .list-of .ensures ∙ (sym (typed-end (c .before .before .before .before .before .before .before .before .before .before .before .args .places) (c .before .before .before .next .given .0 .0) (c .before .before .before .before .before .before .before .before .loop .line + 1)) ∙ (sym (typed-goes (c .before .before .before .before .before .before .before .before .before .before .before .args .places) (c .before .before .before .before .before .before .before .before .loop .d) (c .before .before .before .before .before .before .before .before .loop .line) (line-last (c .before .before .before .before .before .before .before .before .before .before .before .args .text .now) (c .before .before .before .before .before .before .before .before .loop .at) (c .before .before .before .before .before .before .before .until .ensures) (c .before .if1 .taken)) (c .before .before .before .before .before .before .line-at .ensures) (sym (c .before .before .before .next .given .1) ∙ c .before .before .before .before .before .then .ensures)) ∙ c .before .before .before .before .before .before .before .before .loop .inv .2))
+returns-2 c =
+    let at-loop = c .before .before .before .before .before .before .before .before in
+    let start = c .before .before .before .before .before .before .before .before .before .before .before in
+    let at-before = c .before .before .before in
+    c .list-of .ensures ∙ (sym (typed-end (start .args .places) (at-before .next .given .0 .0) (at-loop .loop .line + 1)) ∙
+    (sym (typed-goes (start .args .places) (at-loop .loop .d) (at-loop .loop .line) (line-last (start .args .text .now) (at-loop .loop .at) (c .before .before .before .before .before .before .before .until .ensures) (c .before .if1 .taken))
+    (c .before .before .before .before .before .before .line-at .ensures) (sym (at-before .next .given .1) ∙ c .before .before .before .before .before .then .ensures)) ∙ at-loop .loop .inv .2))
 
 add-at : tie.Need-add-at Inv-loop μ-loop
 add-at c = search needs
@@ -57,7 +67,16 @@ loop-less : tie.Need-loop-less Inv-loop μ-loop
 loop-less c = search needs
 
 loop-again : tie.Need-loop-again Inv-loop μ-loop
-loop-again c = (omega (arith, c .before .before .before .before .before .before .until .ensures), omega (arith, c .before .before .before .before .before .before .until .ensures, c .before .before .before .before .before .before .before .loop .inv .1), sym (typed-goes (c .before .before .before .before .before .before .before .before .before .before .args .places) (c .before .before .before .before .before .before .before .loop .d) (c .before .before .before .before .before .before .before .loop .line) (line-more (c .before .before .before .before .before .before .before .before .before .before .args .text .now) (c .before .before .before .before .before .before .before .loop .at) (c .before .before .before .before .before .before .until .ensures) (c .if1 .left)) (c .before .before .before .before .before .line-at .ensures) (sym (c .before .before .next .given .1) ∙ c .before .before .before .before .then .ensures)) ∙ c .before .before .before .before .before .before .before .loop .inv .2)
+loop-again c =
+    let at-loop = c .before .before .before .before .before .before .before in
+    let start = c .before .before .before .before .before .before .before .before .before .before in
+    let at-until = c .before .before .before .before .before .before in (
+      omega (arith, at-until .until .ensures),
+      omega (arith, at-until .until .ensures, at-loop .loop .inv .1),
+      sym
+          (typed-goes (start .args .places) (at-loop .loop .d) (at-loop .loop .line) (line-more (start .args .text .now) (at-loop .loop .at) (at-until .until .ensures) (c .if1 .left)) (c .before .before .before .before .before .line-at .ensures)
+          (sym (c .before .before .next .given .1) ∙ c .before .before .before .before .then .ensures)) ∙ at-loop .loop .inv .2,
+    )
 
 pub check-text-spec : {M : Type 1} → statement M
 check-text-spec =

@@ -30,13 +30,21 @@ line-at-requires : tie.Need-line-at-requires Inv-loop μ-loop
 line-at-requires c κs = (omega (arith, c .until .ensures), before-within newline (c .before .before .before .before .args .text .now) (c .before .loop .at) (c .until .ensures) (c .before .loop .inv .0))
 
 store-entry-requires : tie.Need-store-entry-requires Inv-loop μ-loop
-store-entry-requires c κs = underway-room (c .before .before .before .loop .inv .2) (coordsOf (c .before .line-at .result)) _ (shots-line (line-first (c .before .before .before .before .before .before .args .text .now) (c .before .before .before .loop .at) (c .before .before .until .ensures)) (c .before .line-at .ensures)) (omega (arith, c .before .before .before .before .before .before .pre))
+store-entry-requires c κs =
+    let start = c .before .before .before .before .before .before in
+    let at-loop = c .before .before .before in
+    underway-room (at-loop .loop .inv .2) (coordsOf (c .before .line-at .result)) _ (shots-line (line-first (start .args .text .now) (at-loop .loop .at) (c .before .before .until .ensures)) (c .before .line-at .ensures)) (omega (arith, start .pre))
 
 same-length : tie.Need-same-length Inv-loop μ-loop
 same-length c = c .before .before .before .store-entry .kept .0 ∙ c .before .before .before .before .before .before .before .loop .inv .1
 
 returns : tie.Need-returns Inv-loop μ-loop
-returns c = wrote-front (underway-all (underway-more (c .before .before .before .before .before .before .before .loop .inv .2) (coordsOf (c .before .before .before .before .before .line-at .result)) (shotsIn []) (shots-line (line-last (c .before .before .before .before .before .before .before .before .before .before .args .text .now) (c .before .before .before .before .before .before .before .loop .at) (c .before .before .before .before .before .before .until .ensures) (c .if1 .taken)) (c .before .before .before .before .before .line-at .ensures)) (c .before .before .before .store-entry .ensures)) shots-none)
+returns c =
+    let at-loop = c .before .before .before .before .before .before .before in
+    let at-line-at = c .before .before .before .before .before in
+    wrote-front (underway-all (underway-more (at-loop .loop .inv .2) (coordsOf (at-line-at .line-at .result)) (shotsIn [])
+    (shots-line (line-last (c .before .before .before .before .before .before .before .before .before .before .args .text .now) (at-loop .loop .at) (c .before .before .before .before .before .before .until .ensures) (c .if1 .taken)) (at-line-at .line-at .ensures))
+    (c .before .before .before .store-entry .ensures)) shots-none)
 
 add-at : tie.Need-add-at Inv-loop μ-loop
 add-at c = search needs
@@ -45,7 +53,16 @@ loop-less : tie.Need-loop-less Inv-loop μ-loop
 loop-less c = search needs
 
 loop-again : tie.Need-loop-again Inv-loop μ-loop
-loop-again c = (omega (arith, (c .before .before .before .before .before .before .until .ensures)), (c .before .before .before .store-entry .kept .0) ∙ (c .before .before .before .before .before .before .before .loop .inv .1), underway-more (c .before .before .before .before .before .before .before .loop .inv .2) (coordsOf (c .before .before .before .before .before .line-at .result)) _ (shots-line (line-more (c .before .before .before .before .before .before .before .before .before .before .args .text .now) (c .before .before .before .before .before .before .before .loop .at) (c .before .before .before .before .before .before .until .ensures) (c .if1 .left)) (c .before .before .before .before .before .line-at .ensures)) (c .before .before .before .store-entry .ensures))
+loop-again c =
+    let at-loop = c .before .before .before .before .before .before .before in
+    let at-until = c .before .before .before .before .before .before in
+    let at-line-at = c .before .before .before .before .before in
+    let at-store-entry = c .before .before .before in (
+      omega (arith, (at-until .until .ensures)),
+      (at-store-entry .store-entry .kept .0) ∙ (at-loop .loop .inv .1),
+      underway-more (at-loop .loop .inv .2) (coordsOf (at-line-at .line-at .result)) _
+          (shots-line (line-more (c .before .before .before .before .before .before .before .before .before .before .args .text .now) (at-loop .loop .at) (at-until .until .ensures) (c .if1 .left)) (at-line-at .line-at .ensures)) (at-store-entry .store-entry .ensures),
+    )
 
 pub store-text-spec : {M : Type 1} → statement M
 store-text-spec =

@@ -24,7 +24,9 @@ is-miscounted-requires : tie.Need-is-miscounted-requires
 is-miscounted-requires c κs = search needs
 
 returns-2 : tie.Need-returns-2
-returns-2 c = miscounted (c .before .before .before .before .before .before .args .places) (c .before .before .before .before .before .before .args .bytes .now) (sym (c .before .before .before .is-missing .ensures) ∙ c .before .before .if1 .left) (sym (c .before .is-miscounted .ensures) ∙ c .if2 .taken)
+returns-2 c =
+    let start = c .before .before .before .before .before .before in
+    miscounted (start .args .places) (start .args .bytes .now) (sym (c .before .before .before .is-missing .ensures) ∙ c .before .before .if1 .left) (sym (c .before .is-miscounted .ensures) ∙ c .if2 .taken)
 
 number-requires : tie.Need-number-requires
 number-requires c κs = omega (arith, matched-whole (c .before .before .before .before .before .before .args .bytes .now) 44 (4 + 4 * voxelCount (c .before .before .before .before .before .before .args .bytes .now)) (sym (c .before .is-miscounted .ensures) ∙ c .if2 .left))
@@ -33,13 +35,21 @@ cast-count : tie.Need-cast-count
 cast-count c = search needs
 
 returns-3 : tie.Need-returns-3
-returns-3 c = too-many (c .before .before .before .before .before .before .before .before .args .places) (c .before .before .before .before .before .before .before .before .args .bytes .now) (sym (c .before .before .before .before .before .is-missing .ensures) ∙ c .before .before .before .before .if1 .left) (sym (c .before .before .before .is-miscounted .ensures) ∙ c .before .before .if2 .left) (c .before .number .ensures) (c .if3 .taken)
+returns-3 c =
+    let start = c .before .before .before .before .before .before .before .before in
+    too-many (start .args .places) (start .args .bytes .now) (sym (c .before .before .before .before .before .is-missing .ensures) ∙ c .before .before .before .before .if1 .left) (sym (c .before .before .before .is-miscounted .ensures) ∙ c .before .before .if2 .left) (c .before .number .ensures)
+    (c .if3 .taken)
 
 returns-4 : tie.Need-returns-4
-returns-4 c = no-place (c .before .before .before .before .before .before .before .before .before .args .places) (c .before .before .before .before .before .before .before .before .before .args .bytes .now) (sym (c .before .before .before .before .before .before .is-missing .ensures) ∙ c .before .before .before .before .before .if1 .left) (sym (c .before .before .before .before .is-miscounted .ensures) ∙ c .before .before .before .if2 .left) (c .before .before .number .ensures) (c .before .if3 .left) (c .if4 .taken)
+returns-4 c =
+    let start = c .before .before .before .before .before .before .before .before .before in
+    no-place (start .args .places) (start .args .bytes .now) (sym (c .before .before .before .before .before .before .is-missing .ensures) ∙ c .before .before .before .before .before .if1 .left) (sym (c .before .before .before .before .is-miscounted .ensures) ∙ c .before .before .before .if2 .left)
+    (c .before .before .number .ensures) (c .before .if3 .left) (c .if4 .taken)
 
 first-wrong-requires : tie.Need-first-wrong-requires
-first-wrong-requires c κs = omega (arith, matched-whole (c .before .before .before .before .before .before .before .before .before .args .bytes .now) 44 (4 + 4 * voxelCount (c .before .before .before .before .before .before .before .before .before .args .bytes .now)) (sym (c .before .before .before .before .is-miscounted .ensures) ∙ c .before .before .before .if2 .left), c .before .before .number .ensures)
+first-wrong-requires c κs =
+    let start = c .before .before .before .before .before .before .before .before .before in
+    omega (arith, matched-whole (start .args .bytes .now) 44 (4 + 4 * voxelCount (start .args .bytes .now)) (sym (c .before .before .before .before .is-miscounted .ensures) ∙ c .before .before .before .if2 .left), c .before .before .number .ensures)
 
 mul-t17 : tie.Need-mul-t17
 mul-t17 c = search needs
@@ -48,7 +58,11 @@ add-t18 : tie.Need-add-t18
 add-t18 c = search needs
 
 returns-5 : tie.Need-returns-5
-returns-5 c = wrong (c .before .before .before .before .before .before .before .before .before .before .before .args .places) (c .before .before .before .before .before .before .before .before .before .before .before .args .bytes .now) (sym (c .before .before .before .before .before .before .before .before .is-missing .ensures) ∙ c .before .before .before .before .before .before .before .if1 .left) (sym (c .before .before .before .before .before .before .is-miscounted .ensures) ∙ c .before .before .before .before .before .if2 .left) (c .before .before .before .before .number .ensures) (c .before .before .before .if3 .left) (c .before .before .if4 .left) (c .before .first-wrong .ensures) (c .if5 .taken)
+returns-5 c =
+    let start = c .before .before .before .before .before .before .before .before .before .before .before in
+    wrong (start .args .places) (start .args .bytes .now) (sym (c .before .before .before .before .before .before .before .before .is-missing .ensures) ∙ c .before .before .before .before .before .before .before .if1 .left)
+    (sym (c .before .before .before .before .before .before .is-miscounted .ensures) ∙ c .before .before .before .before .before .if2 .left) (c .before .before .before .before .number .ensures) (c .before .before .before .if3 .left) (c .before .before .if4 .left) (c .before .first-wrong .ensures)
+    (c .if5 .taken)
 
 mul-first-overrun : tie.Need-mul-first-overrun
 mul-first-overrun c = search needs
@@ -60,10 +74,18 @@ first-overrun-requires : tie.Need-first-overrun-requires
 first-overrun-requires c κs = search needs
 
 returns-6 : tie.Need-returns-6
-returns-6 c = overrun (c .before .before .before .before .before .before .before .before .before .before .before .before .before .args .places) (c .before .before .before .before .before .before .before .before .before .before .before .before .before .args .bytes .now) (sym (c .before .before .before .before .before .before .before .before .before .before .is-missing .ensures) ∙ c .before .before .before .before .before .before .before .before .before .if1 .left) (sym (c .before .before .before .before .before .before .before .before .is-miscounted .ensures) ∙ c .before .before .before .before .before .before .before .if2 .left) (c .before .before .before .before .before .before .number .ensures) (c .before .before .before .before .before .if3 .left) (c .before .before .before .before .if4 .left) (c .before .before .before .first-wrong .ensures) (c .before .before .if5 .left) (c .before .first-overrun .ensures) (c .if6 .taken)
+returns-6 c =
+    let start = c .before .before .before .before .before .before .before .before .before .before .before .before .before in
+    overrun (start .args .places) (start .args .bytes .now) (sym (c .before .before .before .before .before .before .before .before .before .before .is-missing .ensures) ∙ c .before .before .before .before .before .before .before .before .before .if1 .left)
+    (sym (c .before .before .before .before .before .before .before .before .is-miscounted .ensures) ∙ c .before .before .before .before .before .before .before .if2 .left) (c .before .before .before .before .before .before .number .ensures) (c .before .before .before .before .before .if3 .left)
+    (c .before .before .before .before .if4 .left) (c .before .before .before .first-wrong .ensures) (c .before .before .if5 .left) (c .before .first-overrun .ensures) (c .if6 .taken)
 
 returns-7 : tie.Need-returns-7
-returns-7 c = whole (c .before .before .before .before .before .before .before .before .before .before .before .before .before .args .places) (c .before .before .before .before .before .before .before .before .before .before .before .before .before .args .bytes .now) (sym (c .before .before .before .before .before .before .before .before .before .before .is-missing .ensures) ∙ c .before .before .before .before .before .before .before .before .before .if1 .left) (sym (c .before .before .before .before .before .before .before .before .is-miscounted .ensures) ∙ c .before .before .before .before .before .before .before .if2 .left) (c .before .before .before .before .before .before .number .ensures) (c .before .before .before .before .before .if3 .left) (c .before .before .before .before .if4 .left) (c .before .before .before .first-wrong .ensures) (c .before .before .if5 .left) (c .before .first-overrun .ensures) (c .if6 .left)
+returns-7 c =
+    let start = c .before .before .before .before .before .before .before .before .before .before .before .before .before in
+    whole (start .args .places) (start .args .bytes .now) (sym (c .before .before .before .before .before .before .before .before .before .before .is-missing .ensures) ∙ c .before .before .before .before .before .before .before .before .before .if1 .left)
+    (sym (c .before .before .before .before .before .before .before .before .is-miscounted .ensures) ∙ c .before .before .before .before .before .before .before .if2 .left) (c .before .before .before .before .before .before .number .ensures) (c .before .before .before .before .before .if3 .left)
+    (c .before .before .before .before .if4 .left) (c .before .before .before .first-wrong .ensures) (c .before .before .if5 .left) (c .before .first-overrun .ensures) (c .if6 .left)
 
 pub check-voxels-spec : {M : Type 1} → statement M
 check-voxels-spec =

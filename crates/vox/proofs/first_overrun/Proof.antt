@@ -32,7 +32,10 @@ loop-less : tie.Need-loop-less Inv-loop μ-loop
 loop-less c = omega (arith, c .after-chunk .ensures, c .before .before .before .loop-test .taken)
 
 loop-again : tie.Need-loop-again Inv-loop μ-loop
-loop-again c = ap (overrunFrom (c .before .before .before .before .before .before .args .bytes .now)) (c .after-chunk .ensures) ∙ over-next (c .before .before .before .before .before .before .args .bytes .now) (c .before .before .before .before .loop .at) (c .before .before .before .loop-test .taken) (sym (c .before .before .is-overrun .ensures) ∙ c .before .if1 .left) ∙ c .before .before .before .before .loop .inv
+loop-again c =
+    let start = c .before .before .before .before .before .before in
+    let at-loop = c .before .before .before .before in
+    ap (overrunFrom (start .args .bytes .now)) (c .after-chunk .ensures) ∙ over-next (start .args .bytes .now) (at-loop .loop .at) (c .before .before .before .loop-test .taken) (sym (c .before .before .is-overrun .ensures) ∙ c .before .if1 .left) ∙ at-loop .loop .inv
 
 returns-2 : tie.Need-returns-2 Inv-loop μ-loop
 returns-2 c = over-none (c .before .before .before .args .bytes .now) (c .before .loop .at) (c .loop-test .left) ∙ c .before .loop .inv

@@ -21,28 +21,52 @@ enum-told : tie.Need-enum-told
 enum-told c = c .match .keys2
 
 number-requires : tie.Need-number-requires
-number-requires c κs = omega (arith, (passed-has _ (c .before .before .before .before .before .before .before .args .bytes .now) (sym (c .enum-told .given .1) ∙ c .before .before .check-file .ensures ∙ ap (λ n. firstOf (voxTests n (c .before .before .before .before .before .before .before .args .bytes .now))) (c .before .before .before .count .ensures))) .whole)
+number-requires c κs =
+    let start = c .before .before .before .before .before .before .before in
+    omega (arith, (passed-has _ (start .args .bytes .now) (sym (c .enum-told .given .1) ∙ c .before .before .check-file .ensures ∙ ap (λ n. firstOf (voxTests n (start .args .bytes .now))) (c .before .before .before .count .ensures))) .whole)
 
 cast-count : tie.Need-cast-count
 cast-count c = search needs
 
 store-voxels-requires : tie.Need-store-voxels-requires
-store-voxels-requires c κs = (omega (arith, (passed-has _ (c .before .before .before .before .before .before .before .before .before .args .bytes .now) (sym (c .before .before .enum-told .given .1) ∙ c .before .before .before .before .check-file .ensures ∙ ap (λ n. firstOf (voxTests n (c .before .before .before .before .before .before .before .before .before .args .bytes .now))) (c .before .before .before .before .before .count .ensures))) .whole, c .before .number .ensures), omega (arith, (passed-has _ (c .before .before .before .before .before .before .before .before .before .args .bytes .now) (sym (c .before .before .enum-told .given .1) ∙ c .before .before .before .before .check-file .ensures ∙ ap (λ n. firstOf (voxTests n (c .before .before .before .before .before .before .before .before .before .args .bytes .now))) (c .before .before .before .before .before .count .ensures))) .room, c .before .number .ensures))
+store-voxels-requires c κs =
+    let start = c .before .before .before .before .before .before .before .before .before in
+    let at-count = c .before .before .before .before .before in
+    let at-check-file = c .before .before .before .before in
+    let at-enum-told = c .before .before in (
+      omega (arith, (passed-has _ (start .args .bytes .now) (sym (at-enum-told .enum-told .given .1) ∙ at-check-file .check-file .ensures ∙ ap (λ n. firstOf (voxTests n (start .args .bytes .now))) (at-count .count .ensures))) .whole, c .before .number .ensures),
+      omega
+          (arith, (passed-has _ (start .args .bytes .now) (sym (at-enum-told .enum-told .given .1) ∙ at-check-file .check-file .ensures ∙ ap (λ n. firstOf (voxTests n (start .args .bytes .now))) (at-count .count .ensures))) .room, c .before .number .ensures),
+    )
 
 largest-side-requires : tie.Need-largest-side-requires
-largest-side-requires c κs = (omega (arith, (passed-has _ (c .before .before .before .before .before .before .before .before .before .before .before .before .args .bytes .now) (sym (c .before .before .before .before .before .enum-told .given .1) ∙ c .before .before .before .before .before .before .before .check-file .ensures ∙ ap (λ n. firstOf (voxTests n (c .before .before .before .before .before .before .before .before .before .before .before .before .args .bytes .now))) (c .before .before .before .before .before .before .before .before .count .ensures))) .whole), largest-few (passed-has _ (c .before .before .before .before .before .before .before .before .before .before .before .before .args .bytes .now) (sym (c .before .before .before .before .before .enum-told .given .1) ∙ c .before .before .before .before .before .before .before .check-file .ensures ∙ ap (λ n. firstOf (voxTests n (c .before .before .before .before .before .before .before .before .before .before .before .before .args .bytes .now))) (c .before .before .before .before .before .before .before .before .count .ensures))))
+largest-side-requires c κs =
+    let start = c .before .before .before .before .before .before .before .before .before .before .before .before in
+    let at-count = c .before .before .before .before .before .before .before .before in
+    let at-check-file = c .before .before .before .before .before .before .before in
+    let at-enum-told = c .before .before .before .before .before in (
+      omega (arith, (passed-has _ (start .args .bytes .now) (sym (at-enum-told .enum-told .given .1) ∙ at-check-file .check-file .ensures ∙ ap (λ n. firstOf (voxTests n (start .args .bytes .now))) (at-count .count .ensures))) .whole),
+      largest-few
+          (passed-has _ (start .args .bytes .now) (sym (at-enum-told .enum-told .given .1) ∙ at-check-file .check-file .ensures ∙ ap (λ n. firstOf (voxTests n (start .args .bytes .now))) (at-count .count .ensures))),
+    )
 
 same-length : tie.Need-same-length
 same-length c = search needs
 
 returns : tie.Need-returns
-returns c = vox-refused (c .before .before .before .before .before .before .before .before .args .bytes .now) (c .before .before .before .before .before .before .before .before .args .coords .now) (sym (c .before .refusal .given .1) ∙ c .before .before .before .check-file .ensures ∙ ap (λ n. firstOf (voxTests n (c .before .before .before .before .before .before .before .before .args .bytes .now))) (c .before .before .before .before .count .ensures))
+returns c =
+    let start = c .before .before .before .before .before .before .before .before in
+    vox-refused (start .args .bytes .now) (start .args .coords .now) (sym (c .before .refusal .given .1) ∙ c .before .before .before .check-file .ensures ∙ ap (λ n. firstOf (voxTests n (start .args .bytes .now))) (c .before .before .before .before .count .ensures))
 
 same-length-2 : tie.Need-same-length-2
 same-length-2 c = search needs
 
 returns-2 : tie.Need-returns-2
-returns-2 c = vox-read (c .before .before .before .before .before .before .before .before .before .before .before .before .before .args .bytes .now) (c .before .before .before .before .before .before .before .before .before .before .before .before .before .args .coords .now) (sym (c .before .before .before .before .before .before .enum-told .given .1) ∙ c .before .before .before .before .before .before .before .before .check-file .ensures ∙ ap (λ n. firstOf (voxTests n (c .before .before .before .before .before .before .before .before .before .before .before .before .before .args .bytes .now))) (c .before .before .before .before .before .before .before .before .before .count .ensures)) (c .before .before .before .before .before .number .ensures) (c .largest-side .ensures) (c .before .before .before .store-voxels .ensures)
+returns-2 c =
+    let start = c .before .before .before .before .before .before .before .before .before .before .before .before .before in
+    vox-read (start .args .bytes .now) (start .args .coords .now)
+    (sym (c .before .before .before .before .before .before .enum-told .given .1) ∙ c .before .before .before .before .before .before .before .before .check-file .ensures ∙ ap (λ n. firstOf (voxTests n (start .args .bytes .now)))
+    (c .before .before .before .before .before .before .before .before .before .count .ensures)) (c .before .before .before .before .before .number .ensures) (c .largest-side .ensures) (c .before .before .before .store-voxels .ensures)
 
 pub read-vox-spec : {M : Type 1} → statement M
 read-vox-spec =

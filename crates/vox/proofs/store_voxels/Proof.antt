@@ -53,7 +53,16 @@ loop-less : tie.Need-loop-less Inv-loop μ-loop
 loop-less c = search needs
 
 loop-again : tie.Need-loop-again Inv-loop μ-loop
-loop-again c = (omega (arith, c .before .before .before .before .before .before .before .loop-test .taken), c .before .before .put-voxel .kept .0 ∙ c .before .before .before .before .before .before .before .before .loop .inv .1, underway-more (c .before .before .before .before .before .before .before .before .loop .inv .2) (shotNumbers (voxelFields (c .before .before .before .before .before .before .before .before .before .before .before .args .bytes .now) (c .before .before .before .before .before .before .before .before .loop .n))) _ (voxels-next (c .before .before .before .before .before .before .before .before .before .before .before .args .bytes .now) (c .before .before .before .before .before .before .before .before .before .before .before .args .count) (c .before .before .before .before .before .before .before .before .loop .n) (c .before .before .before .before .before .before .before .loop-test .taken)) (wrote-as (voxel-numbers (c .before .before .before .before .before .before .before .before .before .before .before .args .bytes .now) (c .before .before .before .before .before .before .before .before .loop .n)) (c .before .before .put-voxel .ensures)))
+loop-again c =
+    let start = c .before .before .before .before .before .before .before .before .before .before .before in
+    let at-loop = c .before .before .before .before .before .before .before .before in
+    let at-loop-test = c .before .before .before .before .before .before .before in
+    let at-put-voxel = c .before .before in (
+      omega (arith, at-loop-test .loop-test .taken),
+      at-put-voxel .put-voxel .kept .0 ∙ at-loop .loop .inv .1,
+      underway-more (at-loop .loop .inv .2) (shotNumbers (voxelFields (start .args .bytes .now) (at-loop .loop .n))) _
+          (voxels-next (start .args .bytes .now) (start .args .count) (at-loop .loop .n) (at-loop-test .loop-test .taken)) (wrote-as (voxel-numbers (start .args .bytes .now) (at-loop .loop .n)) (at-put-voxel .put-voxel .ensures)),
+    )
 
 same-length : tie.Need-same-length Inv-loop μ-loop
 same-length c = c .before .loop .inv .1
