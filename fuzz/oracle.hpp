@@ -41,6 +41,12 @@ inline Refusal check(const List &list) {
     return {0, 0};
 }
 
+// The refusals of slices that are lent too short, with what is needed as their detail.
+inline Refusal short_work(uint64_t entries) { return {10, entries}; }
+inline Refusal short_listing(uint64_t corners) { return {11, corners}; }
+inline Refusal short_file(uint64_t bytes) { return {12, bytes}; }
+inline Refusal short_credits(uint64_t shots) { return {16, shots}; }
+
 // Whether the closed interval g of an axis and the closed extent of a cube share a point.
 inline bool touches(const List &list, int g, int low) {
     int width = list.field / list.grid;

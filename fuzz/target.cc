@@ -215,7 +215,7 @@ typedef uint8_t (*Measure)(uint16_t, uint16_t, uint16_t, const uint16_t *, size_
 
 // Refusal 10 on top of the list's own.
 oracle::Refusal with_work(const Expected &expected, size_t nwork) {
-    if (expected.refusal.number == 0 && nwork < expected.need) return {10, expected.need};
+    if (expected.refusal.number == 0 && nwork < expected.need) return oracle::short_work(expected.need);
     return expected.refusal;
 }
 
@@ -271,7 +271,7 @@ void list_corners(const oracle::List &list, Expected &expected, const uint8_t *c
     const oracle::Measured &totals = expected.measured;
     oracle::Refusal refusal = with_work(expected, lent.work.length);
     bool indexed = refusal.number == 0;
-    if (indexed && lent.listing.length < 7 * totals.corners) refusal = {11, totals.corners};
+    if (indexed && lent.listing.length < 7 * totals.corners) refusal = oracle::short_listing(totals.corners);
     bool room = expect_answer(HEQDANU_MEASURE_ANSWER, refusal, figures(totals));
     if (room && indexed) lent.work.store(oracle::index(list));
     if (room && refusal.number == 0 && !expected.counted) {
@@ -295,7 +295,7 @@ void credit(const oracle::List &list, const Expected &expected, const uint8_t *c
     lent.answer.lend(answer_places(HEQDANU_CREDIT_ANSWER, choice[4]), choice[5]);
     oracle::Refusal refusal = with_work(expected, lent.work.length);
     bool indexed = refusal.number == 0;
-    if (indexed && lent.credits.length < list.shots()) refusal = {HEQDANU_SHORT_CREDITS, list.shots()};
+    if (indexed && lent.credits.length < list.shots()) refusal = oracle::short_credits(list.shots());
     uint64_t field = list.field;
     if (refusal.number == 0 && field * field * field * (list.shots() + 1) > CREDIT_STEPS) return;
     uint8_t written = heqdanu_credit(list.field, list.edge, list.grid, list.coords, list.ncoords, lent.work.places,
@@ -318,7 +318,7 @@ void write(const oracle::List &list, const uint8_t *choice) {
     lent.answer.lend(answer_places(HEQDANU_WRITE_ANSWER, choice[4]), choice[5]);
     uint8_t written = heqdanu_write(list.field, list.edge, list.grid, list.coords, list.ncoords, lent.bytes.places,
                                     lent.bytes.length, lent.answer.places, lent.answer.length);
-    if (refusal.number == 0 && lent.bytes.length < file.size()) refusal = {12, file.size()};
+    if (refusal.number == 0 && lent.bytes.length < file.size()) refusal = oracle::short_file(file.size());
     bool room = expect_answer(HEQDANU_WRITE_ANSWER, refusal, {file.size()});
     if (room && refusal.number == 0) lent.bytes.store(file);
     expect(written == room, "write", "says wrongly whether it answered");

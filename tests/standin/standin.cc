@@ -31,8 +31,8 @@ oracle::Refusal check(const oracle::List &list, size_t nwork) {
     if (FAULT == 1 && refusal.number == 9 && refusal.detail > 0) refusal.detail--;
     if (refusal.number != 0) return refusal;
     uint64_t need = oracle::need(list);
-    if (FAULT == 2) return nwork <= need ? oracle::Refusal{10, need} : refusal;
-    return nwork < need ? oracle::Refusal{10, need} : refusal;
+    if (FAULT == 2) return nwork <= need ? oracle::short_work(need) : refusal;
+    return nwork < need ? oracle::short_work(need) : refusal;
 }
 
 void put_index(const oracle::List &list, uint32_t *work, size_t nwork) {
@@ -238,7 +238,7 @@ extern "C" uint8_t heqdanu_credit(uint16_t field, uint16_t edge, uint16_t grid, 
     if (nanswer < HEQDANU_CREDIT_ANSWER) return 0;
     bool few = FAULT == 28 ? ncredits <= shots : ncredits < shots;
     // 16 comes before 10.
-    if (FAULT == 38 && refusal.number == 10 && few) refusal = {16, shots};
+    if (FAULT == 38 && refusal.number == 10 && few) refusal = oracle::short_credits(shots);
     // The credits are cleared before the work slice is looked at.
     if (FAULT == 39 && refusal.number == 10) std::fill(credits, credits + ncredits, 0);
     if (refusal.number != 0) return answered(answer, {refusal.number, refusal.detail});
@@ -246,7 +246,7 @@ extern "C" uint8_t heqdanu_credit(uint16_t field, uint16_t edge, uint16_t grid, 
     if (FAULT != 30 || !few) put_index(list, work, nwork);
     // Refusal 16 clears the credits.
     if (FAULT == 32 && few) std::fill(credits, credits + ncredits, 0);
-    if (few) return answered(answer, {16, FAULT == 29 ? ncredits : shots});
+    if (few) return refused(answer, HEQDANU_CREDIT_ANSWER, oracle::short_credits(FAULT == 29 ? ncredits : shots));
     std::vector<uint32_t> counted = credited(list);
     // Credits are added to what was lent.
     for (size_t shot = 0; shot < shots; shot++) credits[shot] = counted[shot] + (FAULT == 40 ? credits[shot] : 0);
@@ -289,7 +289,8 @@ extern "C" uint8_t heqdanu_list(uint16_t field, uint16_t edge, uint16_t grid, co
     if (refusal.number != 0) return untold(answer, nanswer, refusal, 0);
     oracle::Measured result = counted(list);
     if (FAULT != 7 || nlisting >= result.listing.size()) put_index(list, work, nwork);
-    if (nlisting < result.listing.size()) return untold(answer, nanswer, {11, result.corners}, result.inner);
+    if (nlisting < result.listing.size())
+        return untold(answer, nanswer, oracle::short_listing(result.corners), result.inner);
     if (FAULT == 8 && result.corners > 8) std::swap(result.listing[6], result.listing[13]);
     std::copy(result.listing.begin(), result.listing.end(), listing);
     // Listing takes both lengths for one.
@@ -336,11 +337,11 @@ extern "C" uint8_t heqdanu_write(uint16_t field, uint16_t edge, uint16_t grid, c
     if (refusal.number != 0) return refused(answer, HEQDANU_WRITE_ANSWER, refusal);
     std::vector<uint8_t> file = oracle::write(list);
     if (FAULT == 11 && nbytes > file.size()) bytes[file.size()] = 0;
-    if (nbytes < file.size()) return refused(answer, HEQDANU_WRITE_ANSWER, {12, file.size()});
+    if (nbytes < file.size()) return refused(answer, HEQDANU_WRITE_ANSWER, oracle::short_file(file.size()));
     // The grid size that is left out is counted.
     bool left_out = list.grid == oracle::ABSENT[2];
     if (FAULT == 12 && left_out && file.size() > 30)
-        return refused(answer, HEQDANU_WRITE_ANSWER, {12, file.size() + 2});
+        return refused(answer, HEQDANU_WRITE_ANSWER, oracle::short_file(file.size() + 2));
     std::copy(file.begin(), file.end(), bytes);
     return answered(answer, {0, 0, file.size()});
 }
