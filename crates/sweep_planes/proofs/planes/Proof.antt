@@ -7,7 +7,7 @@ use Rattle.lattice.specs.Cells.{planePoints}
 use Rattle.lattice.specs.Boxes.{boxCells}
 use Rattle.lattice_sums.specs.CornerSums.{Room}
 use Rattle.lattice_sums.proofs.CornerSumLaws.{room-more}
-use Rattle.sweep_layer.specs.Layers.{touching}
+use Rattle.sweep_faces.specs.Layers.{touching}
 use Rattle.sweep_tally.specs.Found.{state, found}
 use Rattle.sweep_plane.specs.Plane.{Both}
 use Rattle.sweep_planes.specs.Planes.{Before, cornersBelow}
