@@ -61,8 +61,8 @@ module _ (field : ℕ) (boxes : List ℕ) (count : ℕ) (g : Given field boxes c
   past-on : (x old n : ℕ) → FirstPlace (beginsPast boxes x) old count n → (i : ℕ) → n ≤ i → i < count → x < boxAt boxes i .x
   past-on x old n f i l h = let a = ltb-true x (boxAt boxes n .x) (f .passes (omega arith)) in let b = g .boxes-in .rising n i l h in omega arith
 
-  pub before-next : (x from old r n : ℕ) → Before boxes count x from old → FirstPlace (lastsTo boxes x) from old r → FirstPlace (beginsPast boxes x) old count n → Before boxes count (x + 1) r n
-  before-next x from old r n b p f =
+  pub before-more : (x from old r n : ℕ) → Before boxes count x from old → FirstPlace (lastsTo boxes x) from old r → FirstPlace (beginsPast boxes x) old count n → Before boxes count (x + 1) r n
+  before-more x from old r n b p f =
       let a : About field boxes x r old n = about x from old r n b p f in
       record {
         from-old = omega (arith, p .within, f .onward);
@@ -94,9 +94,9 @@ module _ (field : ℕ) (boxes : List ℕ) (count : ℕ) (g : Given field boxes c
   unfolding planeAt here
   plane-same x old n f = join-ext (suc field) (λ y. join-ext (suc field) (λ z. ap (λ (p : Pattern). cond (corner p) (record { x = x; y = y; z = z; pattern = byte p } ∷ []) []) (around-same x old n f y z)))
 
-  pub plane-next : (x old n : ℕ) → FirstPlace (beginsPast boxes x) old count n → (f : Found) {g h : Found} → g ≡ found f (cornersBelow field x (boxCells boxes count)) → PlaneOut field boxes x n g h
+  pub plane-more : (x old n : ℕ) → FirstPlace (beginsPast boxes x) old count n → (f : Found) {g h : Found} → g ≡ found f (cornersBelow field x (boxCells boxes count)) → PlaneOut field boxes x n g h
       → h ≡ found f (cornersBelow field (x + 1) (boxCells boxes count))
-  plane-next x old n k f {g} {h} e p =
+  plane-more x old n k f {g} {h} e p =
       p .is ∙ ap₂ found e (plane-same x old n k)
       ∙ sym (found-append f (cornersBelow field x (boxCells boxes count)) (planeAt field x (boxCells boxes count)))
       ∙ ap (found f) (sym (planes-more field x (boxCells boxes count)))
@@ -109,8 +109,8 @@ pub room-next : (x : ℕ) {f g : Found} {field n : ℕ} {boxes : List ℕ} → R
 room-next x {f} {g} r p = room-more (g .sums) (f .sums .corners + planePoints 1024) ((x + 1) * planePoints 1024) (omega (arith, r .few)) (p .room)
 
 -- ---- images
-pub both-next : (boxes : List ℕ) (x n : ℕ) {field : ℕ} {l u names : List ℕ} → Both field (shade boxes x n) l u names → Both field (touching boxes (x + 1) n) l u names
-both-next boxes x n b = record { lent = b .lent; lower = shows-ext same (b .lower); upper = shows-ext same (b .upper) }
+pub both-more : (boxes : List ℕ) (x n : ℕ) {field : ℕ} {l u names : List ℕ} → Both field (shade boxes x n) l u names → Both field (touching boxes (x + 1) n) l u names
+both-more boxes x n b = record { lent = b .lent; lower = shows-ext same (b .lower); upper = shows-ext same (b .upper) }
   where
     same : (y z : ℕ) → shade boxes x n y z ≡ touching boxes (x + 1) n y z
     same y z = shade-touching boxes x n y z
