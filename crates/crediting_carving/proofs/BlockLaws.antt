@@ -2,7 +2,7 @@
 use mathlib.Core.Path.{_≡_, refl, sym, ap, _∙_}
 use mathlib.Core.Bool.{false}
 use Prim.Native.Nat.{ℕ, _+_, _-_, _*_, _≤_}
-use native.Mathlib.Nat.{mul-assoc, mul-one, mul-le-mul}
+use native.Mathlib.Nat.{mul-assoc, mul-one}
 use native.Mathlib.Omega.{arith}
 use Rattle.ground.specs.Sums.{total}
 use Rattle.ground.specs.Numbers.{bit}
@@ -63,9 +63,6 @@ size-is b =
 
 pub size-of-lengths : (b : Block) {x y z : ℕ} → x ≡ b .x .to - b .x .from → y ≡ b .y .to - b .y .from → z ≡ b .z .to - b .z .from → x * y * z ≡ sizeOf b
 size-of-lengths b ex ey ez = rw (ex, ey, ez) (sym (size-is b))
-
-pub product-most : (x y z : ℕ) → x ≤ 1024 → y ≤ 1024 → z ≤ 1024 → (x * y ≤ 1048576) × (x * y * z ≤ 1073741824)
-product-most x y z hx hy hz = let p : x * y ≤ 1048576 = mul-le-mul hx hy in (p, mul-le-mul p hz)
 
 pub count-most : (b : Block) (p : Cells) → countIn b p ≤ sizeOf b
 unfolding countIn

@@ -19,7 +19,7 @@ pub truth : (a : Bool) → a ≡ true → T a
 truth true e = tt
 truth false e = absurd (false≢true e)
 
--- what fails when it is negated, and what cannot pass
+-- a Bool whose negation passes, and one that cannot pass, is false
 pub not-off : (a : Bool) → T (not a) → a ≡ false
 not-off true t = absurd t
 not-off false t = refl
@@ -35,7 +35,7 @@ bool-ext true false f g = absurd (f tt)
 bool-ext false true f g = absurd (g tt)
 bool-ext false false f g = refl
 
--- as a test that is computed
+-- the same as a test that is computed
 abbrev pub same : Bool → Bool → Bool
 same true b = b
 same false b = not b

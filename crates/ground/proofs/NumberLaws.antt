@@ -128,7 +128,7 @@ module _ (a : ℕ) where
   has-append [] m = refl
   has-append (b ∷ l) m = rw (has-append l m) (sym (or-assoc (eqb a b) (has l a) (has m a)))
 
-  -- a member of one list of a series is a member of the join series, and the other way round
+  -- a member of one list of a series is a member of the series joined, and the other way round
   pub has-join : (f : ℕ → List ℕ) (n g : ℕ) → g < n → has (f g) a ≡ true → has (join n f) a ≡ true
   unfolding join
   has-join f zero g h e = absurd (omega arith)
