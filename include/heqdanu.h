@@ -46,29 +46,48 @@
 extern "C" {
 #endif
 
-/* Why a call refuses, with the detail that goes with it. A call on a list gives the first of its refusals, in this
- * order, whose condition holds. A reader takes its file from front to back, and the first faulty record, chunk or voxel
- * decides; heqdanu_read_vox tests 13, 14, 2, 3, 15 in this order on one chunk, 2 and 3 before any voxel. */
+/* Why a call refuses: the condition, and then the detail that goes with it. F, E and G are field, edge and grid. A call
+ * on a list gives the first of its refusals, in this order, whose condition holds. A reader takes its file from front to
+ * back, and the first faulty record, chunk or voxel decides; heqdanu_read_vox tests 13, 14, 2, 3, 15 in this order on
+ * one chunk, 2 and 3 before any voxel. */
+/* the refusals: scripts/refusals --write */
 enum {
     HEQDANU_ACCEPTED = 0,
-    HEQDANU_BROKEN_SHOT = 1,      /* ncoords is not a multiple of 3; 0 */
-    HEQDANU_TOO_MANY_SHOTS = 2,   /* more than 4,096 shots; 0, reading the offset of the 4,097th's map, or of XYZI */
-    HEQDANU_NO_PLACE = 3,         /* no three places in coords for the shot that begins; its map's offset; or not three
-                                   * for each voxel; the offset of XYZI */
-    HEQDANU_UNKNOWN_BIT = 4,      /* a map has a bit above bit 2; the map's offset */
-    HEQDANU_CUT_SHORT = 5,        /* the file ends inside a record, or is empty; that record's map's offset, 0 if empty */
-    HEQDANU_FIELD_RANGE = 6,      /* field is out of range; 0 */
-    HEQDANU_EDGE_RANGE = 7,       /* edge is out of range; 0 */
-    HEQDANU_GRID_RANGE = 8,       /* grid is out of range or does not divide field; 0 */
-    HEQDANU_OUTSIDE_FIELD = 9,    /* a shot leaves the field; the first such shot, counted from 0 */
-    HEQDANU_SHORT_WORK = 10,      /* the work slice is too short; the entries needed */
-    HEQDANU_SHORT_LISTING = 11,   /* the listing is shorter than 7 times the corner count; the corners */
-    HEQDANU_SHORT_FILE = 12,      /* the byte buffer is shorter than the file; the bytes needed */
-    HEQDANU_NOT_VOX = 13,         /* not the mark and version, or a required chunk is missing or another; its offset */
-    HEQDANU_BROKEN_CHUNK = 14,    /* a chunk is cut short, or a size of it overruns or does not match; its offset */
-    HEQDANU_VOXEL_RANGE = 15,     /* a side of SIZE not 1 to 256, or a voxel outside SIZE or of colour 0; its offset */
-    HEQDANU_SHORT_CREDITS = 16    /* the credits have fewer places than there are shots; the shots */
+    /* the number of coordinates is not a multiple of 3; 0 */
+    HEQDANU_BROKEN_SHOT = 1,
+    /* more than 4,096 shots; read: offset of the 4,097th shot's map; read_vox: 44; else 0 */
+    HEQDANU_TOO_MANY_SHOTS = 2,
+    /* fewer than three places of the coordinate slice are left for the shot that begins; offset of its map */
+    /* fewer than three places of the coordinate slice for each voxel; 44 */
+    HEQDANU_NO_PLACE = 3,
+    /* a map has one of bits 3 to 7 set; offset of that map */
+    HEQDANU_UNKNOWN_BIT = 4,
+    /* the file ends before or in a field that its map names, or is empty; offset of that map, 0 if empty */
+    HEQDANU_CUT_SHORT = 5,
+    /* F is not 1 to 1,024; 0 */
+    HEQDANU_FIELD_RANGE = 6,
+    /* E is not 1 to F; 0 */
+    HEQDANU_EDGE_RANGE = 7,
+    /* G is not 1 to 64, or does not divide F; 0 */
+    HEQDANU_GRID_RANGE = 8,
+    /* a coordinate plus E is more than F; number of the first shot with one */
+    HEQDANU_OUTSIDE_FIELD = 9,
+    /* the work slice has fewer entries than the need; the need, in entries */
+    HEQDANU_SHORT_WORK = 10,
+    /* the listing buffer has fewer bytes than 7 times the corner count; the corner count */
+    HEQDANU_SHORT_LISTING = 11,
+    /* the byte buffer has fewer bytes than the shortest file; the bytes of that file */
+    HEQDANU_SHORT_FILE = 12,
+    /* the mark of a VOX file, with version 150, or a chunk that it must have is missing; offset of the mark or chunk */
+    HEQDANU_NOT_VOX = 13,
+    /* a chunk is cut short, does not end in the file, or has another size than it must have; offset of the chunk */
+    HEQDANU_BROKEN_CHUNK = 14,
+    /* a side of SIZE is not 1 to 256, or a voxel is outside SIZE or has colour 0; offset of SIZE or voxel */
+    HEQDANU_VOXEL_RANGE = 15,
+    /* the credit slice has fewer places than there are shots; the number of shots */
+    HEQDANU_SHORT_CREDITS = 16
 };
+/* the refusals end */
 
 /* Places of `answer`, call by call, and how many a call needs. */
 enum {

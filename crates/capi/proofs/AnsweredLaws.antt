@@ -8,24 +8,26 @@ use lib.Dec.{leb}
 use lib.ListN.{length}
 use borrow.Author.Tests.{lt-leb, le-leb}
 use Rattle.job.specs.Job.{Job, shotCount}
-use Rattle.job.specs.Refusals.{numberOf, detailOf, checkedNumbers}
-use Rattle.job.specs.Checking.{firstOf, firstNumbers}
-use Rattle.job.specs.declared.Checked.{Checked}
-use Rattle.job.specs.declared.Checked.the-variants.{Accepted, Refused as Turned}
+use Rattle.refusals.specs.Refusals.{numberOf, detailOf, checkedNumbers}
+use Rattle.refusals.specs.Tests.{ifAccepted, firstOf, firstNumbers}
+use Rattle.refusals.specs.declared.Checked.{Checked}
+use Rattle.refusals.specs.declared.Checked.the-variants.{Accepted, Refused as Turned}
 use Rattle.measure_intake.specs.Intake.{measuredNumbers, measureTests, measureNumbers, workAfter, IndexCall, MeasureCall}
 use Rattle.measure_intake.specs.declared.Measured.{Measured}
 use Rattle.measure.specs.Answers.{listNumbers, listingAfter, ListCall}
-use Rattle.shotfile.specs.Files.{File, file, refused, fileIn, fileOf}
+use Rattle.shotfile_reader.specs.Files.{File, file, refused, fileIn}
+use Rattle.shotfile_writer.specs.Files.{fileOf}
 use Rattle.buffer.specs.Wrote.{inFront}
-use Rattle.shotfile.specs.Calls.{readNumbers, readValues, readCoords, writtenNumbers, writeTests, ifWritten, writeValues, writeBytes, ReadCall, WriteCall}
-use Rattle.shotfile.specs.declared.reader.ReadAnswer.{ReadAnswer}
+use Rattle.shotfile_reader.specs.Calls.{readNumbers, readValues, readCoords, ReadCall}
+use Rattle.shotfile_writer.specs.Calls.{writtenNumbers, writeTests, writeValues, writeBytes, WriteCall}
+use Rattle.shotfile_reader.specs.declared.ReadAnswer.{ReadAnswer}
 use Rattle.vox.specs.Vox.{voxIn, VoxCall}
-use Rattle.shotfile.specs.declared.writer.WriteAnswer.{WriteAnswer}
+use Rattle.shotfile_writer.specs.declared.WriteAnswer.{WriteAnswer}
 use Rattle.grid_cover.specs.Cover.{firstCovering, coveringOf}
 use Rattle.grid_cover.specs.declared.Covering.{Covering}
 use Rattle.crediting.specs.Credits.{creditsAfter, CreditCall}
 use Rattle.capi_answers.specs.Places.{indexPlaces, measurePlaces, coverPlaces, namedBy}
-use Rattle.capi.specs.Answered.{fits, Told, ifTold, creditTells, coversTells, IndexTold, MeasureTold, ListTold, CreditTold, CoversTold, ReadTold, VoxTold, WriteTold}
+use Rattle.capi.specs.Answered.{fits, Told, creditTells, coversTells, IndexTold, MeasureTold, ListTold, CreditTold, CoversTold, ReadTold, VoxTold, WriteTold}
 
 -- ---- numbers, n of them
 module _ (numbers : List ℕ) {n : ℕ} (size : length numbers ≡ n) (answer : List ℕ) where
@@ -40,7 +42,7 @@ module _ (numbers : List ℕ) {n : ℕ} (size : length numbers ≡ n) (answer : 
     pub untold : Told numbers answer 0 answer
     untold = record { gives = ap (λ b. cond b 1 0) (sym no-fit); answered = ap (λ b. cond b (inFront numbers answer) answer) (sym no-fit) }
 
-    pub kept : (done slice : List ℕ) → slice ≡ ifTold numbers answer done slice
+    pub kept : (done slice : List ℕ) → slice ≡ cond (fits numbers answer) done slice
     kept done slice = ap (λ b. cond b done slice) (sym no-fit)
 
   -- and where they do
@@ -54,20 +56,20 @@ module _ (numbers : List ℕ) {n : ℕ} (size : length numbers ≡ n) (answer : 
       answered = e ∙ ap (λ p. inFront p answer) k ∙ ap (λ b. cond b (inFront numbers answer) answer) (sym fit);
     }
 
-    pub done-is : {slice' : List ℕ} (done slice : List ℕ) → slice' ≡ done → slice' ≡ ifTold numbers answer done slice
+    pub done-is : {slice' : List ℕ} (done slice : List ℕ) → slice' ≡ done → slice' ≡ cond (fits numbers answer) done slice
     done-is done slice e = e ∙ ap (λ b. cond b done slice) (sym fit)
 
 -- how many numbers a file has
 read-six : (f : File) → length (readValues f) ≡ 6
 unfolding readValues
-read-six (file f coords) = refl
+read-six (file job) = refl
 read-six (refused r) = refl
 
 write-three : (job : Job) (room : ℕ) → length (writeValues job room) ≡ 3
 unfolding writeValues
 write-three job room = by (firstOf (writeTests job room))
   where
-    by : (c : Checked) → length (ifWritten c (λ r. numberOf r ∷ detailOf r ∷ 0 ∷ []) (0 ∷ 0 ∷ length (fileOf job) ∷ [])) ≡ 3
+    by : (c : Checked) → length (ifAccepted c (λ r. numberOf r ∷ detailOf r ∷ 0 ∷ []) (0 ∷ 0 ∷ length (fileOf job) ∷ [])) ≡ 3
     by Accepted = refl
     by (Turned r) = refl
 
@@ -148,11 +150,11 @@ module _ (E : ℕ) (coords run : List ℕ) (i j k : ℕ) (answer : List ℕ) whe
 
 -- a file that says f, whatever its form
 module _ (f : File) (coords answer : List ℕ) where
-  file-untold : length answer < 6 → Told (readValues f) answer 0 answer × (coords ≡ ifTold (readValues f) answer (readCoords f coords) coords)
+  file-untold : length answer < 6 → Told (readValues f) answer 0 answer × (coords ≡ cond (fits (readValues f) answer) (readCoords f coords) coords)
   file-untold h = (untold (readValues f) (read-six f) answer h, kept (readValues f) (read-six f) answer h (readCoords f coords) coords)
 
   file-told : {put coords' answer' : List ℕ} → 6 ≤ length answer → put ≡ readValues f → coords' ≡ readCoords f coords → answer' ≡ inFront put answer
-      → Told (readValues f) answer 1 answer' × (coords' ≡ ifTold (readValues f) answer (readCoords f coords) coords)
+      → Told (readValues f) answer 1 answer' × (coords' ≡ cond (fits (readValues f) answer) (readCoords f coords) coords)
   file-told h n c e = (told (readValues f) (read-six f) answer h e n, done-is (readValues f) (read-six f) answer h (readCoords f coords) coords c)
 
 module _ {bytes coords : List ℕ} (answer : List ℕ) where

@@ -7,15 +7,16 @@ use Prim.Native.Nat.{ℕ}
 use lib.Dec.{leb}
 use lib.ListN.{length}
 use Rattle.job.specs.Job.{Job, shotCount}
-use Rattle.job.specs.Checking.{firstNumbers}
+use Rattle.refusals.specs.Tests.{firstNumbers}
 use Rattle.grid_cover.specs.Cover.{firstCovering}
 use Rattle.measure_intake.specs.Intake.{measureTests, measureNumbers, workAfter}
 use Rattle.measure.specs.Answers.{listNumbers, listingAfter}
 use Rattle.crediting.specs.Credits.{creditTests, creditsAfter}
-use Rattle.shotfile.specs.Files.{fileIn}
+use Rattle.shotfile_reader.specs.Files.{fileIn}
 use Rattle.buffer.specs.Wrote.{inFront}
 use Rattle.capi_answers.specs.Places.{indexPlaces, measurePlaces, coverPlaces}
-use Rattle.shotfile.specs.Calls.{readValues, readCoords, writeValues, writeBytes}
+use Rattle.shotfile_reader.specs.Calls.{readValues, readCoords}
+use Rattle.shotfile_writer.specs.Calls.{writeValues, writeBytes}
 use Rattle.vox.specs.Vox.{voxIn}
 
 -- ---- told where they fit
@@ -27,10 +28,6 @@ fits numbers answer = leb (length numbers) (length answer)
 pub record Told (numbers answer : List ℕ) (r : ℕ) (answer' : List ℕ) : Type 0 where
   pub gives : r ≡ cond (fits numbers answer) 1 0
   pub answered : answer' ≡ cond (fits numbers answer) (inFront numbers answer) answer
-
--- another lent slice after the call
-abbrev pub ifTold : List ℕ → List ℕ → List ℕ → List ℕ → List ℕ
-ifTold numbers answer done kept = cond (fits numbers answer) done kept
 
 -- ---- the numbers that each call tells
 abbrev pub indexTells : Job → List ℕ → List ℕ
@@ -61,24 +58,24 @@ writeTells job bytes = writeValues job (length bytes)
 -- `heqdanu_index`
 pub record IndexTold (job : Job) (work answer : List ℕ) (r : ℕ) (work' answer' : List ℕ) : Type 0 where
   pub told : Told (indexTells job work) answer r answer'
-  pub index : work' ≡ ifTold (indexTells job work) answer (workAfter job work) work
+  pub index : work' ≡ cond (fits (indexTells job work) answer) (workAfter job work) work
 
 -- `heqdanu_measure` and `heqdanu_recount`
 pub record MeasureTold (job : Job) (work answer : List ℕ) (r : ℕ) (work' answer' : List ℕ) : Type 0 where
   pub told : Told (measureTells job work) answer r answer'
-  pub index : work' ≡ ifTold (measureTells job work) answer (workAfter job work) work
+  pub index : work' ≡ cond (fits (measureTells job work) answer) (workAfter job work) work
 
 -- `heqdanu_list`
 pub record ListTold (job : Job) (work buffer answer : List ℕ) (r : ℕ) (work' buffer' answer' : List ℕ) : Type 0 where
   pub told : Told (listTells job work buffer) answer r answer'
-  pub index : work' ≡ ifTold (listTells job work buffer) answer (workAfter job work) work
-  pub listing : buffer' ≡ ifTold (listTells job work buffer) answer (listingAfter job (length work) buffer) buffer
+  pub index : work' ≡ cond (fits (listTells job work buffer) answer) (workAfter job work) work
+  pub listing : buffer' ≡ cond (fits (listTells job work buffer) answer) (listingAfter job (length work) buffer) buffer
 
 -- `heqdanu_credit`
 pub record CreditTold (job : Job) (work credits answer : List ℕ) (r : ℕ) (work' credits' answer' : List ℕ) : Type 0 where
   pub told : Told (creditTells job work credits) answer r answer'
-  pub index : work' ≡ ifTold (creditTells job work credits) answer (workAfter job work) work
-  pub credited : credits' ≡ ifTold (creditTells job work credits) answer (creditsAfter job (length work) credits) credits
+  pub index : work' ≡ cond (fits (creditTells job work credits) answer) (workAfter job work) work
+  pub credited : credits' ≡ cond (fits (creditTells job work credits) answer) (creditsAfter job (length work) credits) credits
 
 -- `heqdanu_covers`
 pub record CoversTold (E : ℕ) (coords run : List ℕ) (i j k : ℕ) (answer : List ℕ) (r : ℕ) (answer' : List ℕ) : Type 0 where
@@ -87,14 +84,14 @@ pub record CoversTold (E : ℕ) (coords run : List ℕ) (i j k : ℕ) (answer : 
 -- `heqdanu_read`
 pub record ReadTold (bytes coords answer : List ℕ) (r : ℕ) (coords' answer' : List ℕ) : Type 0 where
   pub told : Told (readTells bytes coords) answer r answer'
-  pub coordinates : coords' ≡ ifTold (readTells bytes coords) answer (readCoords (fileIn (shotCount coords) bytes) coords) coords
+  pub coordinates : coords' ≡ cond (fits (readTells bytes coords) answer) (readCoords (fileIn (shotCount coords) bytes) coords) coords
 
 -- `heqdanu_read_vox`
 pub record VoxTold (bytes coords answer : List ℕ) (r : ℕ) (coords' answer' : List ℕ) : Type 0 where
   pub told : Told (voxTells bytes coords) answer r answer'
-  pub coordinates : coords' ≡ ifTold (voxTells bytes coords) answer (readCoords (voxIn (shotCount coords) bytes) coords) coords
+  pub coordinates : coords' ≡ cond (fits (voxTells bytes coords) answer) (readCoords (voxIn (shotCount coords) bytes) coords) coords
 
 -- `heqdanu_write`
 pub record WriteTold (job : Job) (bytes answer : List ℕ) (r : ℕ) (bytes' answer' : List ℕ) : Type 0 where
   pub told : Told (writeTells job bytes) answer r answer'
-  pub file : bytes' ≡ ifTold (writeTells job bytes) answer (writeBytes job bytes) bytes
+  pub file : bytes' ≡ cond (fits (writeTells job bytes) answer) (writeBytes job bytes) bytes

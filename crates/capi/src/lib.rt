@@ -1,6 +1,6 @@
 // The calls for C and Rust: numbers and slices only. include/heqdanu.h describes them for their users.
 // Each answer goes, as numbers, into a lent slice whose length is checked: specs/Answered.antt. Stands on `capi_answers`, which puts the
-// numbers, and on `measure`, `measure_cells`, `crediting`, `grid_cover`, `shotfile` and `vox`.
+// numbers, and on `measure`, `measure_cells`, `crediting`, `grid_cover`, `shotfile_reader`, `shotfile_writer` and `vox`.
 ghost use Rattle.job.specs.Job.{jobOf};
 ghost use Rattle.capi.specs.Answered.{IndexTold, MeasureTold, ListTold, CreditTold, CoversTold, ReadTold, VoxTold, WriteTold};
 use capi_answers::places::COVERS_ANSWER;
@@ -138,7 +138,7 @@ pub extern "C" fn heqdanu_covers(
     1
 }
 
-// Reads a shot file: see `shotfile::read`.
+// Reads a shot file: see `shotfile_reader::read`.
 #[no_mangle]
 pub extern "C" fn heqdanu_read(bytes: &[u8], coords: &mut [u16], answer: &mut [u64]) -> u8
     ensures { λ r. ⌜ ReadTold (now (bytes .entry)) (now (coords .entry)) (now (answer .entry))
@@ -147,7 +147,7 @@ pub extern "C" fn heqdanu_read(bytes: &[u8], coords: &mut [u16], answer: &mut [u
     if answer.len() < READ_ANSWER {
         return 0;
     }
-    let read = shotfile::read(bytes, coords);
+    let read = shotfile_reader::read(bytes, coords);
     capi_answers::put_read(answer, read);
     1
 }
@@ -166,7 +166,7 @@ pub extern "C" fn heqdanu_read_vox(bytes: &[u8], coords: &mut [u16], answer: &mu
     1
 }
 
-// Writes a list as a shot file: see `shotfile::write`.
+// Writes a list as a shot file: see `shotfile_writer::write`.
 #[no_mangle]
 pub extern "C" fn heqdanu_write(
     field: u16,
@@ -182,7 +182,7 @@ pub extern "C" fn heqdanu_write(
     if answer.len() < WRITE_ANSWER {
         return 0;
     }
-    let written = shotfile::write(field, edge, grid, coords, bytes);
+    let written = shotfile_writer::write(field, edge, grid, coords, bytes);
     capi_answers::put_written(answer, written);
     1
 }

@@ -1,1 +1,2 @@
+-- numbers stored one after the other
 pub mod StoreLaws

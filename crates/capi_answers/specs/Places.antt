@@ -3,7 +3,7 @@ use mathlib.Core.Option.{Option, none, some}
 use mathlib.Core.List.{List, [], _∷_}
 use Prim.Native.Nat.{ℕ}
 use Rattle.ground.specs.Numbers.{bit}
-use Rattle.job.specs.Refusals.{Numbers}
+use Rattle.refusals.specs.Refusals.{Numbers}
 use Rattle.grid_cover.specs.Cover.{isSome}
 use Rattle.grid_cover.specs.declared.Covering.{Covering}
 use Rattle.grid_cover.specs.declared.Covering.the-variants.{Shot, Nothing}

@@ -6,10 +6,11 @@ ghost use mathlib.Core.Path.{_≡_};
 ghost use mathlib.Core.List.{[], _∷_};
 ghost use Prim.Native.Nat.{_≤_};
 ghost use lib.ListN.{length};
-ghost use Rattle.job.specs.Refusals.{checkedNumbers};
+ghost use Rattle.refusals.specs.Refusals.{checkedNumbers};
 ghost use Rattle.measure_intake.specs.Intake.{measuredNumbers};
 ghost use Rattle.buffer.specs.Wrote.{inFront};
-ghost use Rattle.shotfile.specs.Calls.{readNumbers, writtenNumbers};
+ghost use Rattle.shotfile_reader.specs.Calls.{readNumbers};
+ghost use Rattle.shotfile_writer.specs.Calls.{writtenNumbers};
 ghost use Rattle.capi_answers.specs.Places.{indexPlaces, measurePlaces, coverPlaces, namedBy};
 use crate::places::AREA;
 use crate::places::CORNERS;
@@ -26,11 +27,12 @@ use crate::places::SHOT;
 use crate::places::VOLUME;
 use crate::places::WRITE_BYTES;
 use grid_cover::Covering;
-use job::Checked;
 use lattice_sums::sums::Totals;
 use measure_intake::Measured;
-use shotfile::ReadAnswer;
-use shotfile::WriteAnswer;
+use refusals::Checked;
+use refusals::notice_of;
+use shotfile_reader::ReadAnswer;
+use shotfile_writer::WriteAnswer;
 
 // ---- the numbers of an answer, put to the front
 
@@ -101,7 +103,10 @@ pub fn put_checked(answer: &mut [u64], checked: Checked)
 {
     match checked {
         Checked::Accepted => put_index(answer, 0, 0),
-        Checked::Refused(r) => put_index(answer, job::number(r), job::detail(r)),
+        Checked::Refused(r) => {
+            let told = notice_of(r);
+            put_index(answer, told.number, told.detail)
+        }
     }
 }
 
@@ -128,7 +133,10 @@ pub fn put_measured(answer: &mut [u64], measured: Measured)
     };
     match measured {
         Measured::Quote(t) => put_totals(answer, 0, 0, t),
-        Measured::Refused(r) => put_totals(answer, job::number(r), job::detail(r), none),
+        Measured::Refused(r) => {
+            let told = notice_of(r);
+            put_totals(answer, told.number, told.detail, none)
+        }
     }
 }
 
@@ -143,7 +151,10 @@ pub fn put_read(answer: &mut [u64], read: ReadAnswer)
             grid,
             shots,
         } => put_list(answer, 0, 0, field, edge, grid, shots),
-        ReadAnswer::Refused(r) => put_list(answer, job::number(r), job::detail(r), 0, 0, 0, 0),
+        ReadAnswer::Refused(r) => {
+            let told = notice_of(r);
+            put_list(answer, told.number, told.detail, 0, 0, 0, 0)
+        }
     }
 }
 
@@ -153,6 +164,9 @@ pub fn put_written(answer: &mut [u64], written: WriteAnswer)
 {
     match written {
         WriteAnswer::Written { bytes } => put_length(answer, 0, 0, bytes),
-        WriteAnswer::Refused(r) => put_length(answer, job::number(r), job::detail(r), 0),
+        WriteAnswer::Refused(r) => {
+            let told = notice_of(r);
+            put_length(answer, told.number, told.detail, 0)
+        }
     }
 }

@@ -1,7 +1,7 @@
 // What the check programs print on standard output, in one form: a number after a space, the places of a slice after a semicolon, a
 // refusal. Nothing comes back and nothing is lent, and no contract can say what a system call writes: the programs' stored output does.
-// Stands on `job`.
-use job::Refusal;
+// Stands on `refusals`.
+use refusals::Refusal;
 
 pub fn print_number(n: u64) {
     io::write_all(1, b" ");
@@ -36,6 +36,7 @@ pub fn print_bytes(bytes: &[u8]) {
 
 pub fn print_refusal(refusal: Refusal) {
     io::write_all(1, b" refused");
-    print_number(job::number(refusal) as u64);
-    print_number(job::detail(refusal) as u64);
+    let told = refusals::notice_of(refusal);
+    print_number(told.number as u64);
+    print_number(told.detail as u64);
 }

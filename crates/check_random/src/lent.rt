@@ -2,14 +2,11 @@
 ghost use mathlib.Core.Path.{_≡_};
 ghost use lib.ListN.{length};
 
-// Stands in a credit place before a call: no credit is so large.
-pub(crate) const JUNK: u32 = 4294967295;
-
-// Places for 61 shots.
-pub(crate) fn places() -> [u16; 183]
-    ensures { λ r. ⌜ 183 ≡ length r ⌝ }
+// Places for 60 shots.
+pub(crate) fn places() -> [u16; 180]
+    ensures { λ r. ⌜ 180 ≡ length r ⌝ }
 {
-    [0; 183]
+    [0; 180]
 }
 
 // Entries for an index of 60 shots in 512 grid cells, or of 11 shots in 2,744, that belong to all of them.
@@ -24,11 +21,4 @@ pub(crate) fn bytes() -> [u8; 35000]
     ensures { λ r. ⌜ 35000 ≡ length r ⌝ }
 {
     [0; 35000]
-}
-
-// Credit places for 61 shots.
-pub(crate) fn credit_places() -> [u32; 61]
-    ensures { λ r. ⌜ 61 ≡ length r ⌝ }
-{
-    [JUNK; 61]
 }

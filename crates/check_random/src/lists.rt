@@ -132,7 +132,7 @@ pub(crate) fn draw_settings(number: usize) -> Settings {
 }
 
 // The last place of a shot on an axis.
-pub(crate) fn span(settings: Settings) -> u16 {
+fn span(settings: Settings) -> u16 {
     if settings.field < settings.edge {
         return 0;
     }
@@ -219,7 +219,7 @@ fn draw_earlier(shot: usize, state: usize) -> usize {
 }
 
 // A coordinate of a list: 0 is x, 1 is y, 2 is z; 0 past the last shot.
-pub(crate) fn at(coords: &[u16], shot: usize, axis: usize) -> u16 {
+fn at(coords: &[u16], shot: usize, axis: usize) -> u16 {
     if count(coords) <= shot {
         return 0;
     }
@@ -263,38 +263,6 @@ pub(crate) fn draw_shots(settings: Settings, coords: &mut [u16]) {
     let mut shot = 0;
     while shot < shots {
         state = draw_shot(state, last, settings.edge, coords, shot);
-        shot += 1;
-    }
-}
-
-// Puts shot `from` of one list at shot `to` of another.
-pub(crate) fn put_shot(list: &[u16], from: usize, coords: &mut [u16], to: usize) {
-    store(
-        coords,
-        to,
-        at(list, from, 0),
-        at(list, from, 1),
-        at(list, from, 2),
-    );
-}
-
-// Puts shot `shot` of one list at `place` of another, whose shot there moves to `shot`.
-fn insert(coords: &[u16], shuffled: &mut [u16], shot: usize, place: usize) {
-    let x = at(shuffled, place, 0);
-    let y = at(shuffled, place, 1);
-    let z = at(shuffled, place, 2);
-    store(shuffled, shot, x, y, z);
-    put_shot(coords, shot, shuffled, place);
-}
-
-// Puts the shots of one list into another, each at a random place among those before it.
-pub(crate) fn shuffle(from: usize, coords: &[u16], shuffled: &mut [u16]) {
-    let shots = count(coords);
-    let mut state = from;
-    let mut shot = 0;
-    while shot < shots {
-        state = next(state);
-        insert(coords, shuffled, shot, state / 8 % (shot + 1));
         shot += 1;
     }
 }

@@ -6,47 +6,50 @@
 use mathlib.Core.Path.{_≡_, refl, sym, ap, _∙_, subst, fun-ext}
 use mathlib.Core.Bool.{true, false, true≢false}
 use mathlib.Core.Option.{Option, none, some}
-use mathlib.Core.List.{List, _++_}
-use Prim.Native.Nat.{ℕ, _+_, _*_, _%_, _≤_, _<_}
+use mathlib.Core.List.{List}
+use Prim.Native.Nat.{ℕ, _*_, _%_, _≤_, _<_}
 use native.Mathlib.Omega.{arith}
 use lib.Dec.{T}
 use lib.ListN.{length, getD, take, drop, List·getD-append}
 use lib.Seq.{drop-at}
 use borrow.Author.Tests.{eq-eqb, ne-eqb}
 use Rattle.ground.specs.Sums.{total}
-use Rattle.ground.specs.Numbers.{bit}
 use Rattle.lattice.specs.Cells.{Cells, volume}
+use Rattle.ground.specs.Numbers.{bit}
 use Rattle.lattice.specs.Shots.{Shot, covers, InField}
 use Rattle.lattice.specs.Listing.{listing}
 use Rattle.lattice_sums.specs.CornerSums.{totalsOf}
 use Rattle.lattice_sums.specs.declared.sums.Totals.{Totals}
-use Rattle.ground.proofs.Bools.{is-true, truth, bool-ext}
-use Rattle.ground.proofs.Bits.{bit-none}
-use Rattle.job.specs.Job.{Job, jobOf, shot, shotCount, Valid}
-use Rattle.job.specs.declared.Checked.the-variants.{Accepted}
+use Rattle.ground.proofs.Bools.{bool-ext, is-true, truth}
+use Rattle.job.specs.Job.{withGrid, Job, jobOf, shot, shotCount, Valid}
+use Rattle.refusals.specs.declared.Checked.the-variants.{Accepted}
 use Rattle.job.proofs.Conditions.{valid-within}
 use Rattle.job.proofs.Shots.{any-at, at-any, stay-at, stay-all}
-use Rattle.grid.specs.Grid.{need, withIndex, Holds}
-use Rattle.ground.proofs.TotalLaws.{total-agree, total-none, total-none-at, total-swap, count-one}
-use Rattle.ground.proofs.JoinLaws.{singles-length, singles-at}
+use Rattle.grid.specs.Grid.{indexOf, Holds}
+use Rattle.ground.proofs.TotalLaws.{total-agree, total-swap, total-none, total-none-at, count-one}
+use Rattle.ground.proofs.JoinLaws.{singles-at}
+use Rattle.ground.proofs.Bits.{bit-none}
 use Rattle.grid_cover.specs.Cover.{isSome, names, lowestCovering}
 use Rattle.grid_cover.proofs.CoverRuns.{lowest-covers}
 use Rattle.grid_cover.proofs.LowestLaws.{lowest-shot, lowest-covering, lowest-least}
-use Rattle.measure_intake.specs.Intake.{solid, sliceAfter, workAfter, MeasureAccepts}
+use Rattle.measure_intake.specs.Intake.{solid, workAfter, MeasureAccepts}
 use Rattle.measure_intake.specs.declared.Measured.the-variants.{Quote}
 use Rattle.measure_intake.proofs.Refused.{measure-decides}
 use Rattle.crediting.proofs.Refused.{credit-decides}
+use Rattle.crediting.proofs.FieldLaws.{credits-long}
 use Rattle.measure.specs.Answers.{ListCall}
 use Rattle.measure.specs.Agreement.{SameCells, Among}
 use Rattle.measure.proofs.AcceptedLaws.{list-accepted}
 use Rattle.measure.proofs.Condition3.{bytes-are, same-shots}
 use Rattle.crediting.specs.Credits.{creditedTo, creditOf, creditsOf, creditsAfter, CreditCall}
 use Rattle.crediting.specs.LeavingOut.{Hidden, KeepsCredited}
+use Rattle.buffer.specs.Wrote.{inFront}
+use Rattle.refusals.specs.Tests.{ifAccepted}
 
 -- ---- one cell
 
 -- a covered cell is credited to one shot, an uncovered one to none
-cell-named : (job : Job) (i j k : ℕ) → total (shotCount job.coords) (λ s. bit (creditedTo job s i j k)) ≡ bit (solid job i j k)
+cell-named : (job : Job) (i j k : ℕ) → total (shotCount job.coords) (λ s. bit (creditedTo job.edge job.coords s i j k)) ≡ bit (solid job i j k)
 cell-named job i j k = one (lowestCovering job.edge job.coords i j k) refl ∙ ap bit (lowest-covers job.edge job.coords i j k)
   where
     one : (o : Option ℕ) → lowestCovering job.edge job.coords i j k ≡ o → total (shotCount job.coords) (λ s. bit (names (lowestCovering job.edge job.coords i j k) s)) ≡ bit (isSome (lowestCovering job.edge job.coords i j k))
@@ -65,9 +68,9 @@ unfolding volume
 none-at-all F p h = total-none F _ λ i l. total-none F _ λ j m. total-none F _ λ k n. ap bit (h i j k)
 
 -- a shot whose cells earlier shots cover is the lowest covering shot of none
-hidden-credited : (job : Job) (s : ℕ) → Hidden job s → creditOf job s ≡ 0
+hidden-credited : (job : Job) (s : ℕ) → Hidden job s → creditOf job.field job.edge job.coords s ≡ 0
 unfolding creditOf
-hidden-credited job s hidden = none-at-all job.field (creditedTo job s) λ i j k. one i j k (lowestCovering job.edge job.coords i j k) refl
+hidden-credited job s hidden = none-at-all job.field (creditedTo job.edge job.coords s) λ i j k. one i j k (lowestCovering job.edge job.coords i j k) refl
   where
     one : (i j k : ℕ) (o : Option ℕ) → lowestCovering job.edge job.coords i j k ≡ o → names o s ≡ false
     one i j k none e = refl
@@ -84,41 +87,41 @@ module _ {job : Job} {work credits work' credits' : List ℕ} (call : CreditCall
   passed : MeasureAccepts job (length work)
   passed = credit-decides job (length work) (length credits) .accepted .0 (sym (call .answer)) .0
 
-  pub credit-valid : Valid job
-  credit-valid = passed .0
-
-  -- the work slice holds the index
+  -- the list is valid, and the work slice holds the index
   pub credit-holds : Holds job work'
   unfolding workAfter
   credit-holds = record {
-    rest = drop (need job) work;
-    is = call .index ∙ ap (λ c. sliceAfter c work (withIndex job work)) (measure-decides job (length work) .accepted .1 passed);
+    valid = passed .0;
+    rest = drop (length (indexOf job)) work;
+    is = call .index ∙ ap (λ c. ifAccepted c (λ r. work) (inFront (indexOf job) work)) (measure-decides job (length work) .accepted .1 passed);
   }
 
-  pub credits-are : credits' ≡ creditsOf job ++ drop (shotCount coords) credits
+  pub credits-are : credits' ≡ inFront (creditsOf F E coords) credits
   unfolding creditsAfter
-  credits-are = call .credited ∙ ap (λ c. sliceAfter c credits (creditsOf job ++ drop (shotCount coords) credits)) (sym (call .answer))
+  credits-are = call .credited ∙ ap (λ c. ifAccepted c (λ r. credits) (inFront (creditsOf F E coords) credits)) (sym (call .answer))
 
   -- a place for each shot has its credit, and later places keep their values
-  pub credit-at : (s : ℕ) → s < shotCount coords → getD credits' s 0 ≡ creditOf job s
+  pub credit-at : (s : ℕ) → s < shotCount coords → getD credits' s 0 ≡ creditOf F E coords s
   unfolding creditsOf
   credit-at s h =
       ap (λ (l : List ℕ). getD l s 0) credits-are
-      ∙ (List·getD-append (creditsOf job) (drop (shotCount coords) credits) 0 s (omega (arith, h, singles-length (creditOf job) (shotCount coords)))
-      ∙ singles-at (creditOf job) (shotCount coords) s h)
+      ∙ (List·getD-append (creditsOf F E coords) (drop (length (creditsOf F E coords)) credits) 0 s (omega (arith, h, credits-long F E coords))
+      ∙ singles-at (creditOf F E coords) (shotCount coords) s h)
 
   pub credits-kept : drop (shotCount coords) credits' ≡ drop (shotCount coords) credits
-  unfolding creditsOf
-  credits-kept = ap (drop (shotCount coords)) credits-are ∙ drop-at (creditsOf job) (drop (shotCount coords) credits) (shotCount coords) (singles-length (creditOf job) (shotCount coords))
+  credits-kept =
+      ap (drop (shotCount coords)) credits-are
+      ∙ (drop-at (creditsOf F E coords) (drop (length (creditsOf F E coords)) credits) (shotCount coords) (credits-long F E coords)
+      ∙ ap (λ n. drop n credits) (credits-long F E coords))
 
   -- they sum to the volume
   pub credits-sum : total (shotCount coords) (λ s. getD credits' s 0) ≡ volume F (solid job)
   unfolding creditOf volume
   credits-sum =
       total-agree n _ _ credit-at
-      ∙ (total-swap n F (λ s i. total F (λ j. total F (λ k. bit (creditedTo job s i j k))))
-      ∙ total-agree F _ _ (λ i hi. total-swap n F (λ s j. total F (λ k. bit (creditedTo job s i j k)))
-      ∙ total-agree F _ _ (λ j hj. total-swap n F (λ s k. bit (creditedTo job s i j k))
+      ∙ (total-swap n F (λ s i. total F (λ j. total F (λ k. bit (creditedTo E coords s i j k))))
+      ∙ total-agree F _ _ (λ i hi. total-swap n F (λ s j. total F (λ k. bit (creditedTo E coords s i j k)))
+      ∙ total-agree F _ _ (λ j hj. total-swap n F (λ s k. bit (creditedTo E coords s i j k))
       ∙ total-agree F _ _ (λ k hk. cell-named job i j k))))
     where
       n : ℕ
@@ -141,10 +144,10 @@ module _ {job : Job} {work credits work' credits' : List ℕ} (call : CreditCall
     unfolding creditOf
     has-credit i j k s t e zero-credit =
         let h : s < shotCount coords = lowest-shot E coords i j k s e in
-        let in-field = valid-within credit-valid i j k t in
+        let in-field = valid-within (credit-holds .valid) i j k t in
         true≢false
         (sym (ap (λ o. names o s) e ∙ eq-eqb s s refl)
-        ∙ none-in-field F (creditedTo job s) (sym (credit-at s h) ∙ zero-credit) i j k (in-field .0) (in-field .1) (in-field .2))
+        ∙ none-in-field F (creditedTo E coords s) (sym (credit-at s h) ∙ zero-credit) i j k (in-field .0) (in-field .1) (in-field .2))
 
     kept-covers : (i j k : ℕ) → T (solid job i j k) → T (solid kept i j k)
     kept-covers i j k t = one (lowestCovering E coords i j k) refl
@@ -167,7 +170,7 @@ module _ {job : Job} {work credits work' credits' : List ℕ} (call : CreditCall
     -- and is valid, if its numbers are whole shots and not too many
     pub kept-valid : length others % 3 ≡ 0 → shotCount others ≤ 4096 → Valid kept
     kept-valid whole few =
-        let v = credit-valid in
+        let v = credit-holds .valid in
         record {
           threes = whole;
           few = few;
@@ -187,8 +190,8 @@ module _ {job : Job} {work credits work' credits' : List ℕ} (call : CreditCall
     same-solid = fun-ext λ i. fun-ext λ j. fun-ext λ k. kept-cells i j k
 
     -- so they have the same totals and the same listing, whatever the grids
-    module _ {G₁ : ℕ} {work₁ buffer₁ work₁' buffer₁' : List ℕ} {t₁ : Totals} (one : ListCall (jobOf F E G₁ coords) work₁ buffer₁ (Quote t₁) work₁' buffer₁')
-        {G₂ : ℕ} {work₂ buffer₂ work₂' buffer₂' : List ℕ} {t₂ : Totals} (two : ListCall (jobOf F E G₂ others) work₂ buffer₂ (Quote t₂) work₂' buffer₂') where
+    module _ {G₁ : ℕ} {work₁ buffer₁ work₁' buffer₁' : List ℕ} {t₁ : Totals} (one : ListCall (withGrid G₁ job) work₁ buffer₁ (Quote t₁) work₁' buffer₁')
+        {G₂ : ℕ} {work₂ buffer₂ work₂' buffer₂' : List ℕ} {t₂ : Totals} (two : ListCall (withGrid G₂ kept) work₂ buffer₂ (Quote t₂) work₂' buffer₂') where
       pub kept-totals : t₁ ≡ t₂
       kept-totals = list-accepted one .totals-are ∙ ap (λ s. totalsOf F s) same-solid ∙ sym (list-accepted two .totals-are)
 
@@ -206,8 +209,8 @@ module _ {job : Job} {work credits work' credits' : List ℕ} (one : CreditCall 
       credits-sum one ∙ ap (volume job.field) (fun-ext λ i. fun-ext λ j. fun-ext λ k. same i j k) ∙ ap (λ n. volume n (solid job₂)) f ∙ sym (credits-sum two)
 
 -- the grid does not matter
-module _ {F E G G₂ : ℕ} {coords work credits work' credits' : List ℕ} (one : CreditCall (jobOf F E G coords) work credits Accepted work' credits')
-    {work₂ credits₂ work₂' credits₂' : List ℕ} (two : CreditCall (jobOf F E G₂ coords) work₂ credits₂ Accepted work₂' credits₂') where
-  pub credits-any-grid : (s : ℕ) → s < shotCount coords → getD credits' s 0 ≡ getD credits₂' s 0
+module _ {job : Job} {work credits work' credits' : List ℕ} (one : CreditCall job work credits Accepted work' credits')
+    {G₂ : ℕ} {work₂ credits₂ work₂' credits₂' : List ℕ} (two : CreditCall (withGrid G₂ job) work₂ credits₂ Accepted work₂' credits₂') where
+  pub credits-any-grid : (s : ℕ) → s < shotCount job.coords → getD credits' s 0 ≡ getD credits₂' s 0
   unfolding creditOf
   credits-any-grid s h = credit-at one s h ∙ sym (credit-at two s h)

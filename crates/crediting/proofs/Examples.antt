@@ -3,15 +3,14 @@ use mathlib.Core.Path.{_≡_, refl}
 use mathlib.Core.List.{[], _∷_}
 use Rattle.ground.specs.Sums.{total, join}
 use Rattle.lattice.specs.Cells.{volume}
-use Rattle.job.specs.Job.{jobOf}
 use Rattle.ground.specs.Numbers.{upTo}
 use Rattle.grid_cover.specs.Cover.{shotCovers, first, firstCovering, lowestCovering}
 use Rattle.crediting.specs.Credits.{creditOf, creditsOf}
 
-overlap : creditsOf (jobOf 8 2 1 (0 ∷ 0 ∷ 0 ∷ 1 ∷ 1 ∷ 1 ∷ [])) ≡ 8 ∷ 7 ∷ []
+overlap : creditsOf 8 2 (0 ∷ 0 ∷ 0 ∷ 1 ∷ 1 ∷ 1 ∷ []) ≡ 8 ∷ 7 ∷ []
 unfolding creditsOf creditOf volume total join lowestCovering firstCovering first shotCovers upTo
 overlap = refl
 
-twice : creditsOf (jobOf 8 2 1 (1 ∷ 1 ∷ 1 ∷ 1 ∷ 1 ∷ 1 ∷ [])) ≡ 8 ∷ 0 ∷ []
+twice : creditsOf 8 2 (1 ∷ 1 ∷ 1 ∷ 1 ∷ 1 ∷ 1 ∷ []) ≡ 8 ∷ 0 ∷ []
 unfolding creditsOf creditOf volume total join lowestCovering firstCovering first shotCovers upTo
 twice = refl

@@ -12,14 +12,14 @@ use lib.Seq.{drop-cons, drop-length, set-at}
 use lib.Dec.{ltb}
 use borrow.Author.Tests.{ltb-true, ltb-false}
 use Rattle.ground.specs.Sums.{total}
-use Rattle.ground.specs.Numbers.{bit}
 use Rattle.lattice.specs.Cells.{Cells, volume}
+use Rattle.ground.specs.Numbers.{bit}
 use Rattle.job.specs.Job.{Job, shotCount, Valid}
-use Rattle.grid.specs.Grid.{runOf}
-use Rattle.ground.proofs.Bits.{bit-most}
+use Rattle.grid.specs.Grid.{gridCells, runOf}
 use Rattle.ground.proofs.TotalLaws.{total-agree, total-most, total-up, total-front, total-swap, total-digits}
-use Rattle.ground.proofs.JoinLaws.{join-ext}
+use Rattle.ground.proofs.JoinLaws.{join-ext, singles-length}
 use Rattle.ground.proofs.Digits.{digit-high, digit-low}
+use Rattle.ground.proofs.Bits.{bit-most}
 use Rattle.grid.proofs.ShotLaws.{width-times}
 use Rattle.grid_cover.specs.Cover.{firstCovering, names, lowestCovering}
 use Rattle.grid_cover.proofs.CoverRuns.{Near, run-names}
@@ -93,7 +93,7 @@ interval-in G s g h k = omega (arith, mul-le-mul-right {m = g + 1} {n = G} s (om
 module _ {job : Job} (v : Valid job) where
   open Job job using (field as F, edge as E, grid as G, coords)
 
-  pub blocks-fill : (p : Cells) → total (G * G * G) (λ cell. countIn (blockOf F G cell) p) ≡ volume F p
+  pub blocks-fill : (p : Cells) → total (gridCells job) (λ cell. countIn (blockOf F G cell) p) ≡ volume F p
   unfolding countIn volume
   blocks-fill p =
       total-digits (G * G) G (λ cell. countIn (blockOf F G cell) p)
@@ -109,7 +109,7 @@ module _ {job : Job} (v : Valid job) where
       cube : F * (F * (F * 1)) ≤ 1073741824
       cube = let line : F * 1 ≤ 1024 = omega (arith, v .field-most) in mul-le-mul (v .field-most) (mul-le-mul (v .field-most) line)
 
-  module _ (cell : ℕ) (h : cell < G * G * G) where
+  module _ (cell : ℕ) (h : cell < gridCells job) where
     pub block-small : Small (blockOf F G cell)
     block-small =
         let most : G * (F / G) ≤ 1024 = omega (arith, width-times v, v .field-most) in
@@ -134,6 +134,11 @@ module _ {job : Job} (v : Valid job) where
 
     pub cell-credited : {run : List ℕ} → run ≡ runOf job cell → {b : Block} → b ≡ blockOf F G cell → (l : List ℕ) {m : List ℕ} → m ≡ added l (creditsIn E coords run b) → m ≡ added l (cellCredits job cell)
     cell-credited r-is b-is l e = e ∙ rw (r-is, b-is) (added-agree l _ (cellCredits job cell) run-credits)
+
+-- ---- a place a shot
+pub credits-long : (F E : ℕ) (coords : List ℕ) → length (creditsOf F E coords) ≡ shotCount coords
+unfolding creditsOf
+credits-long F E coords = singles-length (creditOf F E coords) (shotCount coords)
 
 -- ---- grid cell by grid cell, from 0 at every place
 
@@ -160,7 +165,7 @@ clear-all l₀ i h k e =
     e ∙ rw (all, drop-length l₀) (append-nil (replicate (length l₀) 0))
 
 module _ {job : Job} (v : Valid job) (n : ℕ) where
-  open Job job using (field as F, grid as G, coords)
+  open Job job using (field as F, edge as E, grid as G, coords)
 
   pub cells-long : (cell : ℕ) {l : List ℕ} → l ≡ added (replicate n 0) (creditsTo job cell) → length l ≡ n
   cells-long cell e = added-keeps (replicate n 0) (creditsTo job cell) e ∙ length-replicate n 0
@@ -174,17 +179,17 @@ module _ {job : Job} (v : Valid job) (n : ℕ) where
   cells-next cell l m e k = rw (k, e, add-one cell) (added-more (replicate n 0) _ _)
 
   -- the credits so far and all cells of the next block are not more than the field has
-  credits-few : (cell : ℕ) → cell < G * G * G → (s : ℕ) → creditsTo job cell s + sizeOf (blockOf F G cell) ≤ 1073741824
+  credits-few : (cell : ℕ) → cell < gridCells job → (s : ℕ) → creditsTo job cell s + sizeOf (blockOf F G cell) ≤ 1073741824
   unfolding cellCredits total
   credits-few cell h s =
-      let all : suc cell + (G * G * G - suc cell) ≡ G * G * G = omega arith in
-      omega (arith, total-up cell _ _ (λ c. count-most (blockOf F G c) (creditedTo job s)), rw all at (total-front (λ c. sizeOf (blockOf F G c)) (suc cell) (G * G * G - suc cell)), blocks-fill v (λ i j k. true), field-few v (λ i j k. true))
+      let all : suc cell + (gridCells job - suc cell) ≡ gridCells job = omega arith in
+      omega (arith, total-up cell _ _ (λ c. count-most (blockOf F G c) (creditedTo E coords s)), rw all at (total-front (λ c. sizeOf (blockOf F G c)) (suc cell) (gridCells job - suc cell)), blocks-fill v (λ i j k. true), field-few v (λ i j k. true))
 
-  pub cell-room : (cell : ℕ) → cell < G * G * G → (l : List ℕ) → l ≡ added (replicate n 0) (creditsTo job cell) → RoomFor (sizeOf (blockOf F G cell)) l
+  pub cell-room : (cell : ℕ) → cell < gridCells job → (l : List ℕ) → l ≡ added (replicate n 0) (creditsTo job cell) → RoomFor (sizeOf (blockOf F G cell)) l
   cell-room cell h l e =
       rw e (room-added 1073741824 (sizeOf (blockOf F G cell)) (replicate n 0) (creditsTo job cell) (credits-few cell h) (record { at = λ s. omega (arith, none-at n s) }))
 
-  pub cells-all : n ≡ shotCount coords → (l : List ℕ) → l ≡ added (replicate n 0) (creditsTo job (G * G * G)) → l ≡ creditsOf job
+  pub cells-all : n ≡ shotCount coords → (l : List ℕ) → l ≡ added (replicate n 0) (creditsTo job (gridCells job)) → l ≡ creditsOf F E coords
   unfolding added creditsOf creditOf cellCredits
   cells-all is l e =
-      e ∙ rw (length-replicate {A = ℕ} n 0, is) (join-ext (shotCount coords) λ s. ap (λ (c : ℕ). c ∷ []) (rw (none-at (shotCount coords) s) (zero-add _ ∙ blocks-fill v (creditedTo job s))))
+      e ∙ rw (length-replicate {A = ℕ} n 0, is) (join-ext (shotCount coords) λ s. ap (λ (c : ℕ). c ∷ []) (rw (none-at (shotCount coords) s) (zero-add _ ∙ blocks-fill v (creditedTo E coords s))))

@@ -1,21 +1,23 @@
 -- When crediting accepts a list and when it refuses it, each exactly, and what a refusal leaves: docs/SCOPE.md, 'When a job is refused'. The
 -- statements speak of a call by what it promises. Assumes nothing.
 use mathlib.Core.Path.{_≡_, sym, ap, _∙_}
-use mathlib.Core.List.{List, _++_}
+use mathlib.Core.List.{List}
 use mathlib.Core.Logic.{_↔_}
 use Prim.Native.Nat.{ℕ}
-use lib.ListN.{length, drop}
+use lib.ListN.{length}
 use Rattle.job.specs.Job.{Job, shotCount}
-use Rattle.job.specs.declared.Refusal.{Refusal}
-use Rattle.job.specs.declared.Refusal.the-variants.{ShortCredits}
-use Rattle.job.specs.declared.Checked.{Checked}
-use Rattle.job.specs.declared.Checked.the-variants.{Accepted, Refused}
-use Rattle.job.specs.Conditions.{Decides}
-use Rattle.job.proofs.Deciding.{decides-more, call-accepts, call-refuses}
-use Rattle.grid.specs.Grid.{withIndex}
-use Rattle.measure_intake.specs.Intake.{measureTests, measureChecked, sliceAfter, workAfter}
+use Rattle.refusals.specs.declared.Refusal.{Refusal}
+use Rattle.refusals.specs.declared.Refusal.the-variants.{ShortCredits}
+use Rattle.refusals.specs.declared.Checked.{Checked}
+use Rattle.refusals.specs.declared.Checked.the-variants.{Accepted, Refused}
+use Rattle.refusals.specs.Deciding.{Decides}
+use Rattle.refusals.proofs.Deciding.{decides-more, call-accepts, call-refuses}
+use Rattle.grid.specs.Grid.{indexOf}
+use Rattle.measure_intake.specs.Intake.{measureChecked, workAfter}
 use Rattle.measure_intake.proofs.Refused.{measure-decides}
-use Rattle.crediting.specs.Credits.{creditsOf, creditTests, creditChecked, creditsAfter, CreditCall, CreditAccepts, CreditRefuses}
+use Rattle.crediting.specs.Credits.{creditsOf, creditTests, creditsAfter, CreditCall, CreditAccepts, CreditRefuses}
+use Rattle.buffer.specs.Wrote.{inFront}
+use Rattle.refusals.specs.Tests.{ifAccepted}
 
 -- ---- the checks
 module _ (job : Job) (entries places : ℕ) where
@@ -40,13 +42,13 @@ module _ {job : Job} {work credits work' credits' : List ℕ} {c : Checked} (cal
   -- a refusal leaves the credits as they were
   pub credit-refused-keeps : (r : Refusal) → c ≡ Refused r → credits' ≡ credits
   unfolding creditsAfter
-  credit-refused-keeps r e = call .credited ∙ ap (λ c. sliceAfter c credits (creditsOf job ++ drop (shotCount coords) credits)) (sym (call .answer) ∙ e)
+  credit-refused-keeps r e = call .credited ∙ ap (λ c. ifAccepted c (λ r. credits) (inFront (creditsOf job.field job.edge job.coords) credits)) (sym (call .answer) ∙ e)
 
   -- one of measuring leaves the work slice as it was, and 16 leaves the finished index in it
   pub refused-index-kept : (r : Refusal) → measureChecked job (length work) ≡ Refused r → work' ≡ work
   unfolding workAfter
-  refused-index-kept r e = call .index ∙ ap (λ c. sliceAfter c work (withIndex job work)) e
+  refused-index-kept r e = call .index ∙ ap (λ c. ifAccepted c (λ r. work) (inFront (indexOf job) work)) e
 
-  pub refused-index-stands : measureChecked job (length work) ≡ Accepted → work' ≡ withIndex job work
+  pub refused-index-stands : measureChecked job (length work) ≡ Accepted → work' ≡ inFront (indexOf job) work
   unfolding workAfter
-  refused-index-stands e = call .index ∙ ap (λ c. sliceAfter c work (withIndex job work)) e
+  refused-index-stands e = call .index ∙ ap (λ c. ifAccepted c (λ r. work) (inFront (indexOf job) work)) e

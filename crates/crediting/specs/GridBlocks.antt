@@ -1,5 +1,4 @@
 -- The field grid cell by grid cell, as blocks of unit cells: the words of the functions that credit them.
-use mathlib.Core.List.{List}
 use Prim.Native.Nat.{ℕ, _+_, _*_, _/_, _%_}
 use Rattle.job.specs.Job.{Job}
 use Rattle.crediting_carving.specs.Blocks.{countIn}
@@ -17,4 +16,4 @@ blockOf F G cell =
 
 -- of how many unit cells of a grid cell shot s is the lowest covering shot
 unfoldable pub cellCredits : Job → ℕ → ℕ → ℕ
-cellCredits job cell s = countIn (blockOf job.field job.grid cell) (creditedTo job s)
+cellCredits job cell s = countIn (blockOf job.field job.grid cell) (creditedTo job.edge job.coords s)

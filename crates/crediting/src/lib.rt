@@ -4,23 +4,23 @@
 // grid cell's block of unit cells is carved by the run of that grid cell, which names the lowest covering shots of its cells. Stands on
 // `measure_intake`, `crediting_carving` and `grid_runs`.
 ghost use mathlib.Core.Path.{_≡_};
-ghost use mathlib.Core.List.{_++_};
 ghost use Prim.Native.Nat.{_+_, _*_, _/_, _≤_, _<_};
-ghost use lib.ListN.{length, drop, replicate};
-ghost use Rattle.job.specs.Job.{jobOf, shotCount, Valid};
+ghost use lib.ListN.{length, replicate};
+ghost use Rattle.job.specs.Job.{jobOf, shotCount};
 ghost use Rattle.grid.specs.Grid.{Holds};
 ghost use Rattle.crediting_carving.specs.Blocks.{added, sizeOf, RoomFor};
 ghost use Rattle.crediting.specs.Credits.{creditsOf, CreditCall};
 ghost use Rattle.crediting.specs.GridBlocks.{intervalOf, blockOf, cellCredits};
+ghost use Rattle.buffer.specs.Wrote.{inFront};
 use crediting_carving::blocks::Block;
 use crediting_carving::blocks::Span;
 use crediting_carving::carve;
 use grid::intervals::cells_of;
 use grid_runs::run_of;
-use job::Checked;
-use job::Refusal;
 use job::shot;
 use measure_intake::indexed;
+use refusals::Checked;
+use refusals::Refusal;
 
 // The unit cells of an interval of an axis.
 fn interval(width: u16, number: usize) -> Span
@@ -62,7 +62,6 @@ fn credit_cell(
     cell: usize,
     credits: &mut [u32],
 )
-    requires { ⌜ Valid (jobOf field edge grid (now coords)) ⌝ }
     requires { ⌜ Holds (jobOf field edge grid (now coords)) (now work) ⌝ }
     requires { ⌜ cell < grid * grid * grid ⌝ }
     requires { ⌜ shotCount (now coords) ≤ length (now credits) ⌝ }
@@ -84,10 +83,9 @@ fn clear(credits: &mut [u32])
 
 // Puts in the credits of a list whose index the work slice holds: a place a shot.
 fn credit_shots(field: u16, edge: u16, grid: u16, coords: &[u16], work: &[u32], credits: &mut [u32])
-    requires { ⌜ Valid (jobOf field edge grid (now coords)) ⌝ }
     requires { ⌜ Holds (jobOf field edge grid (now coords)) (now work) ⌝ }
     requires { ⌜ shotCount (now coords) ≡ length (now credits) ⌝ }
-    ensures { λ _. ⌜ now (credits .exit) ≡ creditsOf (jobOf field edge grid (now (coords .entry))) ⌝ }
+    ensures { λ _. ⌜ now (credits .exit) ≡ creditsOf field edge (now (coords .entry)) ⌝ }
 {
     clear(credits);
     for cell in 0..cells_of(grid) {
@@ -97,10 +95,9 @@ fn credit_shots(field: u16, edge: u16, grid: u16, coords: &[u16], work: &[u32], 
 
 // Puts them into the first places of a slice that has a place for each shot; later places keep their values.
 fn store(field: u16, edge: u16, grid: u16, coords: &[u16], work: &[u32], credits: &mut [u32])
-    requires { ⌜ Valid (jobOf field edge grid (now coords)) ⌝ }
     requires { ⌜ Holds (jobOf field edge grid (now coords)) (now work) ⌝ }
     requires { ⌜ shotCount (now coords) ≤ length (now credits) ⌝ }
-    ensures { λ _. ⌜ now (credits .exit) ≡ creditsOf (jobOf field edge grid (now (coords .entry))) ++ drop (shotCount (now (coords .entry))) (now (credits .entry)) ⌝ }
+    ensures { λ _. ⌜ now (credits .exit) ≡ inFront (creditsOf field edge (now (coords .entry))) (now (credits .entry)) ⌝ }
 {
     let shots = shot::count(coords);
     credit_shots(field, edge, grid, coords, work, &mut credits[..shots]);

@@ -1,7 +1,7 @@
 -- The lines of the credits one after another; and what crediting a list and a file leaves, by what reading the file and crediting its list
 -- answer.
 use mathlib.Core.Path.{_≡_, sym, _∙_, ap, subst}
-use mathlib.Core.List.{List, _++_}
+use mathlib.Core.List.{List}
 use Prim.Native.Nat.{ℕ, zero, suc, _+_, _*_, _≤_, _<_}
 use native.Mathlib.Omega.{arith}
 use lib.ListN.{length, getD, take, drop, length-append}
@@ -9,22 +9,23 @@ use lib.Seq.{take-at, length-take-le}
 use Rattle.buffer.specs.Wrote.{Wrote}
 use Rattle.buffer.proofs.WroteLaws.{wrote-none, wrote-as, wrote-then}
 use Rattle.ground.specs.Sums.{join}
-use Rattle.job.specs.Job.{Job, jobOf, shots, shotCount, firstShots}
-use Rattle.job.specs.declared.Refusal.{Refusal}
-use Rattle.job.specs.declared.Checked.{Checked}
-use Rattle.job.specs.declared.Checked.the-variants.{Accepted, Refused}
-use Rattle.shotfile.specs.Files.{File, file, refused, fileIn}
-use Rattle.shotfile.specs.Calls.{ReadCall}
-use Rattle.shotfile.specs.declared.reader.ReadAnswer.{ReadAnswer}
-use Rattle.shotfile.specs.declared.reader.ReadAnswer.the-variants.{Read, Refused as Unread}
-use Rattle.shotfile.proofs.Accepted.{accepted-file, refused-file}
-use Rattle.ground.proofs.JoinLaws.{join-next, singles-length}
-use Rattle.measure_intake.specs.Intake.{workAfter}
+use Rattle.job.specs.Job.{Job, jobOf, shotCount, firstShots}
+use Rattle.refusals.specs.declared.Refusal.{Refusal}
+use Rattle.refusals.specs.declared.Checked.{Checked}
+use Rattle.refusals.specs.declared.Checked.the-variants.{Accepted, Refused}
+use Rattle.shotfile_reader.specs.Files.{File, file, fileIn}
+use Rattle.shotfile_reader.specs.Calls.{ReadCall}
+use Rattle.shotfile_reader.specs.declared.ReadAnswer.{ReadAnswer}
+use Rattle.shotfile_reader.specs.declared.ReadAnswer.the-variants.{Read, Refused as Unread}
+use Rattle.shotfile_reader.proofs.Accepted.{accepted-file, refused-file}
+use Rattle.ground.proofs.JoinLaws.{join-next}
 use Rattle.text_parts.proofs.LineLaws.{digits-length, line-length}
 use Rattle.text_parts.specs.Decimal.{decimal}
-use Rattle.quoting_text.specs.Quoting.{refusalText, indexAfter}
-use Rattle.crediting.specs.Credits.{creditOf, creditsOf, creditChecked, creditsAfter, CreditCall}
-use Rattle.crediting.proofs.CreditTheorems.{credit-valid, credits-are}
+use Rattle.text_refusal.specs.RefusalLine.{refusalText}
+use Rattle.quoting_text.specs.Quoting.{indexAfter}
+use Rattle.crediting.specs.Credits.{creditsOf, CreditCall}
+use Rattle.crediting.proofs.FieldLaws.{credits-long}
+use Rattle.crediting.proofs.CreditTheorems.{credit-holds, credits-are}
 use Rattle.crediting_text.specs.Credited.{creditLine, creditLines, creditedText, listText, fileText, fileCredits, ListCredited, FileCredited}
 
 -- ---- the lines
@@ -59,35 +60,31 @@ module _ (credits out : List ℕ) where
 -- ---- a list
 
 module _ {job : Job} {work credits work' credits' : List ℕ} {c : Checked} (call : CreditCall job work credits c work' credits') where
-  open Job job using (coords)
+  open Job job using (field as F, edge as E, coords)
 
-  list-is : {n : ℕ} {out out' : List ℕ} → Wrote out out' 0 n (creditedText c (creditsOf job)) → ListCredited job work credits out n work' credits' out'
+  list-is : {n : ℕ} {out out' : List ℕ} → Wrote out out' 0 n (creditedText c (creditsOf F E coords)) → ListCredited job work credits out n work' credits' out'
   unfolding listText
-  list-is w = record { text = wrote-as (ap (λ d. creditedText d (creditsOf job)) (call .answer)) w; index = call .index; credited = call .credited }
+  list-is w = record { text = wrote-as (ap (λ d. creditedText d (creditsOf F E coords)) (call .answer)) w; index = call .index; credited = call .credited }
 
   pub list-refused : (r : Refusal) → c ≡ Refused r → {n : ℕ} {out out' : List ℕ} → Wrote out out' 0 n (refusalText r) → ListCredited job work credits out n work' credits' out'
-  list-refused r e w = list-is (wrote-as (ap (λ d. creditedText d (creditsOf job)) (sym e)) w)
+  list-refused r e w = list-is (wrote-as (ap (λ d. creditedText d (creditsOf F E coords)) (sym e)) w)
 
   module _ (accepted : c ≡ Accepted) where
     taken : CreditCall job work credits Accepted work' credits'
     taken = subst (λ d. CreditCall job work credits d work' credits') accepted call
 
-    credits-long : length (creditsOf job) ≡ shotCount coords
-    unfolding creditsOf
-    credits-long = singles-length (creditOf job) (shotCount coords)
-
     -- the shots' places hold their credits, and there are at most 4,096 shots
     pub shots-there : {n : ℕ} → n ≡ shotCount coords → n ≤ length credits'
-    shots-there e = omega (arith, e, ap length (credits-are taken), length-append (creditsOf job) (drop (shotCount coords) credits), credits-long)
+    shots-there e = omega (arith, e, ap length (credits-are taken), length-append (creditsOf F E coords) (drop (length (creditsOf F E coords)) credits), credits-long F E coords)
 
     pub shots-few : {n : ℕ} → n ≡ shotCount coords → {room : ℕ} → 172032 ≤ room → 42 * length (take n credits') ≤ room
-    shots-few {n} e h = omega (arith, length-take-le n credits' (shots-there e), e, credit-valid taken .few)
+    shots-few {n} e h = omega (arith, length-take-le n credits' (shots-there e), e, credit-holds taken .valid .few)
 
-    front : {n : ℕ} → n ≡ shotCount coords → take n credits' ≡ creditsOf job
-    front {n} e = ap (take n) (credits-are taken) ∙ take-at (creditsOf job) (drop (shotCount coords) credits) n (credits-long ∙ sym e)
+    front : {n : ℕ} → n ≡ shotCount coords → take n credits' ≡ creditsOf F E coords
+    front {n} e = ap (take n) (credits-are taken) ∙ take-at (creditsOf F E coords) (drop (length (creditsOf F E coords)) credits) n (credits-long F E coords ∙ sym e)
 
     pub list-credited : {n : ℕ} → n ≡ shotCount coords → {m : ℕ} {out out' : List ℕ} → Wrote out out' 0 m (creditLines (take n credits')) → ListCredited job work credits out m work' credits' out'
-    list-credited e w = list-is (wrote-as (ap creditLines (front e) ∙ ap (λ d. creditedText d (creditsOf job)) (sym accepted)) w)
+    list-credited e w = list-is (wrote-as (ap creditLines (front e) ∙ ap (λ d. creditedText d (creditsOf F E coords)) (sym accepted)) w)
 
 -- ---- a file
 
@@ -104,13 +101,11 @@ module _ {bytes coords coords' : List ℕ} {a : ReadAnswer} (read : ReadCall byt
 
   pub file-credited : {n : ℕ} {work work' credits credits' list out out' : List ℕ} (F E G shots : ℕ) → a ≡ Read F E G shots → list ≡ firstShots shots coords'
       → ListCredited (jobOf F E G list) work credits out n work' credits' out' → FileCredited bytes coords work credits out n coords' work' credits' out'
-  file-credited {n} {work} {work'} {credits} F E G shots e l q =
-      let f = accepted-file read e in
-      let k = l ∙ f .stored in
-      let is = sym (f .is) in
+  file-credited {n} {work} {work'} {credits} {list = list} F E G shots e l q =
+      let is : file (jobOf F E G list) ≡ fileIn (shotCount coords) bytes = ap (λ (c : List ℕ). file (jobOf F E G c)) l ∙ sym (accepted-file read e .is) in
       record {
-        text = wrote-as (ap (λ c. listText (jobOf F E G c) (length work) (length credits)) k ∙ ap (λ (f : File). fileText f (length work) (length credits)) is) (q .text);
+        text = wrote-as (ap (λ (f : File). fileText f (length work) (length credits)) is) (q .text);
         coordinates = read .coordinates;
-        index = q .index ∙ ap (λ c. workAfter (jobOf F E G c) work) k ∙ ap (λ (f : File). indexAfter f work) is;
-        credited = q .credited ∙ ap (λ c. creditsAfter (jobOf F E G c) (length work) credits) k ∙ ap (λ (f : File). fileCredits f (length work) credits) is;
+        index = q .index ∙ ap (λ (f : File). indexAfter f work) is;
+        credited = q .credited ∙ ap (λ (f : File). fileCredits f (length work) credits) is;
       }

@@ -5,14 +5,15 @@ use Prim.Native.Nat.{ℕ}
 use lib.ListN.{length, getD}
 use Rattle.buffer.specs.Wrote.{Wrote}
 use Rattle.ground.specs.Sums.{join}
-use Rattle.job.specs.Job.{Job, jobOf, shot, shotCount}
-use Rattle.job.specs.declared.Checked.{Checked}
-use Rattle.job.specs.declared.Checked.the-variants.{Accepted, Refused}
-use Rattle.shotfile.specs.Files.{File, file, refused, fileIn}
-use Rattle.shotfile.specs.Calls.{readCoords}
+use Rattle.job.specs.Job.{Job, shotCount}
+use Rattle.refusals.specs.declared.Checked.{Checked}
+use Rattle.refusals.specs.declared.Checked.the-variants.{Accepted, Refused}
+use Rattle.shotfile_reader.specs.Files.{File, file, refused, fileIn}
+use Rattle.shotfile_reader.specs.Calls.{readCoords}
 use Rattle.measure_intake.specs.Intake.{workAfter}
 use Rattle.text_parts.specs.Decimal.{decimal, line}
-use Rattle.quoting_text.specs.Quoting.{refusalText, indexAfter}
+use Rattle.text_refusal.specs.RefusalLine.{refusalText}
+use Rattle.quoting_text.specs.Quoting.{indexAfter}
 use Rattle.crediting.specs.Credits.{creditsOf, creditChecked, creditsAfter}
 
 -- a shot's number, a space, its credit, and the end of the line
@@ -30,16 +31,16 @@ creditedText (Refused r) credits = refusalText r
 
 -- with so many work entries and credit places
 unfoldable pub listText : Job → ℕ → ℕ → List ℕ
-listText job entries places = creditedText (creditChecked job entries places) (creditsOf job)
+listText job entries places = creditedText (creditChecked job entries places) (creditsOf job.field job.edge job.coords)
 
 -- the file is read, and the cells of the list that it holds are credited
 abbrev pub fileText : File → ℕ → ℕ → List ℕ
-fileText (file f coords) entries places = listText (jobOf (f .first) (f .second) (f .third) coords) entries places
+fileText (file job) entries places = listText job entries places
 fileText (refused r) entries places = refusalText r
 
 -- the credit slice then
 abbrev pub fileCredits : File → ℕ → List ℕ → List ℕ
-fileCredits (file f coords) entries credits = creditsAfter (jobOf (f .first) (f .second) (f .third) coords) entries credits
+fileCredits (file job) entries credits = creditsAfter job entries credits
 fileCredits (refused r) entries credits = credits
 
 -- ---- the promises

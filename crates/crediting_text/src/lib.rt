@@ -1,13 +1,14 @@
 // From the bytes of a shot file to the bytes that the program `credits` prints: a line for each shot, its number and its credit, or the line
-// of a refusal. specs/Credited.antt says what the text is. Stands on `crediting`, on `shotfile` and `quoting_text`, and on `text_parts`.
+// of a refusal. specs/Credited.antt says what the text is. Stands on `crediting`, on `shotfile_reader`, on
+// `quoting_text` and `text_refusal`, and on `text_parts`.
 ghost use Prim.Native.Nat.{_+_, _*_, _≤_};
 ghost use lib.ListN.{length};
 ghost use Rattle.job.specs.Job.{jobOf};
 ghost use Rattle.buffer.specs.Wrote.{Wrote};
 ghost use Rattle.crediting_text.specs.Credited.{creditLine, creditLines, ListCredited, FileCredited};
-use job::Checked;
 use job::shot;
-use shotfile::ReadAnswer;
+use refusals::Checked;
+use shotfile_reader::ReadAnswer;
 use text_parts::put_byte;
 use text_parts::put_digits;
 
@@ -54,7 +55,7 @@ fn credit_list(
             let shots = shot::count(coords);
             put_credits(out, &credits[..shots])
         }
-        Checked::Refused(refusal) => quoting_text::refuse(out, refusal),
+        Checked::Refused(refusal) => text_refusal::refuse(out, refusal),
     }
 }
 
@@ -71,7 +72,7 @@ pub fn credit_file(
     ensures { λ r. ⌜ FileCredited (now (bytes .entry)) (now (coords .entry)) (now (work .entry)) (now (credits .entry)) (now (out .entry))
         r (now (coords .exit)) (now (work .exit)) (now (credits .exit)) (now (out .exit)) ⌝ }
 {
-    let read = shotfile::read(bytes, coords);
+    let read = shotfile_reader::read(bytes, coords);
     match read {
         ReadAnswer::Read {
             field,
@@ -82,6 +83,6 @@ pub fn credit_file(
             let list = shot::first(coords, shots);
             credit_list(field, edge, grid, list, work, credits, out)
         }
-        ReadAnswer::Refused(refusal) => quoting_text::refuse(out, refusal),
+        ReadAnswer::Refused(refusal) => text_refusal::refuse(out, refusal),
     }
 }

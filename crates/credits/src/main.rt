@@ -1,9 +1,7 @@
 // The crediting program: reads a shot file from standard input and prints, a line for each shot, its number and of how many cells it is the
 // lowest covering shot; or the line of a refusal, as the quoting program does. What it prints is `crediting_text::credit_file`; here are only
-// the system calls and the sizes.
+// the sizes.
 use input::Filled;
-use libc::STDERR_FILENO;
-use libc::STDOUT_FILENO;
 ghost use Prim.Native.Nat.{_≤_};
 ghost use lib.ListN.{length};
 
@@ -15,12 +13,7 @@ fn print_by(bytes: &[u8], out: &mut [u8])
     let mut work = [0u32; 16384];
     let mut credits = [0u32; 4096];
     let n = crediting_text::credit_file(bytes, &mut coords, &mut work, &mut credits, out);
-    if !io::write_all(STDOUT_FILENO, &out[..n]) {
-        io::write_all(
-            STDERR_FILENO,
-            b"credits: standard output cannot be written\n",
-        );
-    }
+    output::write_text(b"credits", &out[..n]);
 }
 
 // Prints the credits of a file.
@@ -34,8 +27,6 @@ fn main() {
     let filled = input::fill(&mut bytes);
     match filled {
         Filled::Bytes(n) => print_credits(&bytes[..n]),
-        Filled::Failed => {
-            io::write_all(STDERR_FILENO, b"credits: standard input cannot be read\n");
-        }
+        Filled::Failed => output::say_unreadable(b"credits"),
     }
 }

@@ -6,7 +6,7 @@ use lib.ListN.{length}
 use Rattle.ground.specs.Sums.{join}
 use Rattle.job.specs.Job.{Job, shot, shotCount, Valid}
 use Rattle.ground.specs.Numbers.{upTo}
-use Rattle.grid.specs.Grid.{touchesCell, touchesSlab, runOf, slabOf}
+use Rattle.grid.specs.Grid.{gridCells, touchesCell, touchesSlab, runOf, slabOf}
 use Rattle.ground.proofs.JoinLaws.{join-length-most, join-length-up}
 use Rattle.ground.proofs.NumberLaws.{upTo-length, those-length}
 
@@ -27,6 +27,6 @@ module _ (job : Job) (v : Valid job) where
   unfolding slabOf
   slab-few gx = omega (arith, those-length (λ i. touchesSlab (F / G) gx (shot job i)) (upTo (shotCount coords)), upTo-length (shotCount coords), v .few)
 
-  pub runs-few : (c : ℕ) → c ≤ G * G * G → length (join c (runOf job)) ≤ 1073741824
+  pub runs-few : (c : ℕ) → c ≤ gridCells job → length (join c (runOf job)) ≤ 1073741824
   runs-few c h =
-      omega (arith, join-length-up (runOf job) c (G * G * G) h, join-length-most (runOf job) 4096 run-few (G * G * G), cube-most G (v .grid-most))
+      omega (arith, join-length-up (runOf job) c (gridCells job) h, join-length-most (runOf job) 4096 run-few (gridCells job), cube-most G (v .grid-most))

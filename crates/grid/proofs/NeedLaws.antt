@@ -14,10 +14,10 @@ use Rattle.lattice.specs.Shots.{Shot}
 use Rattle.job.specs.Job.{Job, jobOf, shot, shotCount, shotAt, Valid}
 use Rattle.job.proofs.Shots.{stay-at}
 use Rattle.grid.specs.Quotients.{Quotients}
-use Rattle.grid.specs.Grid.{meets, touches, touchesCell, spanOf, pairsOf, pairs, need}
-use Rattle.ground.proofs.TotalLaws.{total-agree, total-most, total-same, total-swap, total-digits, total-triples, count-inside, count-past}
-use Rattle.ground.proofs.Bits.{bit-most}
+use Rattle.grid.specs.Grid.{gridCells, meets, touches, touchesCell, spanOf, pairsOf, pairs, need}
+use Rattle.ground.proofs.TotalLaws.{total-agree, total-most, total-swap, total-digits, total-triples, count-inside, count-past, total-same}
 use Rattle.ground.proofs.Tests.{leb-alike}
+use Rattle.ground.proofs.Bits.{bit-most}
 use Rattle.grid.proofs.QuotientLaws.{quotients-fewer}
 use Rattle.ground.proofs.Digits.{digit-high, digit-low}
 use Rattle.grid.proofs.ShotLaws.{width-times, width-least}
@@ -107,7 +107,7 @@ module _ (job : Job) where
   -- the pairs counted by shots are the pairs counted by grid cells
   pairs-by-shots : total (shotCount coords) (pairsOf job) ≡ pairs job
   unfolding pairs
-  pairs-by-shots = total-swap (shotCount coords) (G * G * G) (λ i cell. bit (touchesCell F G cell (shot job i)))
+  pairs-by-shots = total-swap (shotCount coords) (gridCells job) (λ i cell. bit (touchesCell F G cell (shot job i)))
 
   pub pairs-none : 0 ≡ total 0 (pairsOf job)
   unfolding total
@@ -132,7 +132,7 @@ module _ (job : Job) where
   pub pairs-most : Valid job → pairs job ≤ 1073741824
   pairs-most v = omega (arith, pairs-by-shots, pairs-few (v .grid-most) (shotCount coords), v .few)
 
-  pub need-by-pairs : {cells a : ℕ} → cells ≡ G * G * G → a ≡ pairs job → cells + 1 + a ≡ need job
+  pub need-by-pairs : {cells a : ℕ} → cells ≡ gridCells job → a ≡ pairs job → cells + 1 + a ≡ need job
   unfolding need
   need-by-pairs c p = rw (c, p)
 

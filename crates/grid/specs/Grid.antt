@@ -9,7 +9,7 @@ use lib.ListN.{length, getD, take, drop}
 use Rattle.ground.specs.Sums.{total, join}
 use Rattle.ground.specs.Numbers.{bit, upTo, those}
 use Rattle.lattice.specs.Shots.{Shot}
-use Rattle.job.specs.Job.{Job, shot, shotCount, xAt, yAt, zAt, edgeAt}
+use Rattle.job.specs.Job.{Job, shot, shotCount, xAt, yAt, zAt, edgeAt, Valid}
 
 -- interval g of width s, with both its ends, shares a point with the e units from c, with both their ends
 unfoldable pub meets : ℕ → ℕ → ℕ → ℕ → Bool
@@ -61,10 +61,6 @@ pairs job = total (gridCells job) λ cell. total (shotCount job.coords) λ i. bi
 unfoldable pub need : Job → ℕ
 need job = gridCells job + 1 + pairs job
 
--- a slice with the index at its front: the entries past the index keep their values
-abbrev pub withIndex : Job → List ℕ → List ℕ
-withIndex job work = indexOf job ++ drop (need job) work
-
 -- how many of the G intervals of width s a span meets
 abbrev pub spanOf : ℕ → ℕ → ℕ → ℕ → ℕ
 spanOf G s c e = total G λ g. bit (meets s g c e)
@@ -88,8 +84,9 @@ rowOf job line = shotsThat (λ t. meets (job.field / job.grid) (line / job.grid)
 abbrev pub holding : ℕ → ℕ → ℕ → ℕ → ℕ → ℕ
 holding F G i j k = (i / (F / G) * G + j / (F / G)) * G + k / (F / G)
 
--- a slice that holds the index of a list, and then anything
+-- a valid list whose index stands in the work slice, which has anything after it
 pub record Holds (job : Job) (work : List ℕ) : Type 0 where
+  pub valid : Valid job
   pub rest : List ℕ
   pub is : work ≡ indexOf job ++ rest
 

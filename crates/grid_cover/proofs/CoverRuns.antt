@@ -16,7 +16,7 @@ use Rattle.job.proofs.Shots.{any-at, at-any}
 use Rattle.ground.proofs.Bools.{bool-ext, and-true}
 use Rattle.ground.proofs.AnyLaws.{any-to-ext, any-to-some, any-to-at}
 use Rattle.ground.specs.Numbers.{anyTo, upTo}
-use Rattle.grid.specs.Grid.{meets, touchesCell, runOf, holding}
+use Rattle.grid.specs.Grid.{meets, touchesCell, gridCells, runOf, holding}
 use Rattle.grid_cover.specs.Cover.{shotCovers, isSome, firstCovering, lowestCovering, runCovers}
 use Rattle.ground.proofs.Digits.{digit-high, digit-low, digits-below}
 use Rattle.grid.proofs.ShotLaws.{width-times, width-least}
@@ -92,7 +92,7 @@ module _ {job : Job} (v : Valid job) where
   interval-below i h = div-lt-iff-lt-mul {k = F / G} {x = i} {y = G} (width-least v) .1 (omega (arith, h, width-times v))
 
   module _ (i j k : ℕ) (hi : i < F) (hj : j < F) (hk : k < F) where
-    pub holding-in : holding F G i j k < G * G * G
+    pub holding-in : holding F G i j k < gridCells job
     holding-in = digits-below G _ _ (interval-below k hk) (G * G) (digits-below G _ _ (interval-below j hj) G (interval-below i hi))
 
     -- its run names the list's lowest covering shot of the unit cell

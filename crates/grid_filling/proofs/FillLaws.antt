@@ -8,7 +8,7 @@ use lib.ListN.{length, set}
 use Rattle.job.specs.Job.{Job, shotCount, Valid}
 use Rattle.buffer.specs.Wrote.{Wrote}
 use Rattle.ground.specs.Numbers.{upTo, AllBelow}
-use Rattle.grid.specs.Grid.{meetsOn, runOf, rowOf, slabOf}
+use Rattle.grid.specs.Grid.{gridCells, meetsOn, runOf, rowOf, slabOf}
 use Rattle.grid_filling.specs.Filling.{narrowed, Ready, Grew}
 use Rattle.ground.proofs.NumberLaws.{upTo-length, those-length, below-upTo}
 use Rattle.ground.proofs.Digits.{digits-below}
@@ -21,24 +21,24 @@ use Rattle.grid_filling.proofs.NarrowLaws.{slab-narrow, row-narrow, run
 module _ (job : Job) (v : Valid job) (line : ℕ) (within : line < job.grid * job.grid) where
   open Job job using (field as F, edge as E, grid as G, coords)
 
-  cell-below : (gz : ℕ) → gz < G → line * G + gz < G * G * G
+  cell-below : (gz : ℕ) → gz < G → line * G + gz < gridCells job
   cell-below gz h = digits-below G line gz h (G * G) within
 
   pub cell-number : (gz : ℕ) → gz < G → line * G + gz < 262144
   cell-number gz h = omega (arith, cell-below gz h, cube-most G (v .grid-most))
 
-  module _ {at : ℕ} {w₀ : List ℕ} (p : Ready (runOf job) (G * G * G) (line * G) at w₀) where
-    pub cells-none : Grew (runOf job) (G * G * G) (line * G) (line * G + 0) w₀ w₀ at
-    cells-none = rw (add-zero (line * G)) (grew-none (runOf job) (G * G * G) (line * G) at w₀ p)
+  module _ {at : ℕ} {w₀ : List ℕ} (p : Ready (runOf job) (gridCells job) (line * G) at w₀) where
+    pub cells-none : Grew (runOf job) (gridCells job) (line * G) (line * G + 0) w₀ w₀ at
+    cells-none = rw (add-zero (line * G)) (grew-none (runOf job) (gridCells job) (line * G) at w₀ p)
 
-    module _ (row : List ℕ) (is : row ≡ rowOf job line) (gz : ℕ) (h : gz < G) {w : List ℕ} {next : ℕ} (a : Grew (runOf job) (G * G * G) (line * G) (line * G + gz) w₀ w next) where
-      ready : Ready (runOf job) (G * G * G) (line * G + gz) next w
-      ready = ready-after (runOf job) (G * G * G) p a
+    module _ (row : List ℕ) (is : row ≡ rowOf job line) (gz : ℕ) (h : gz < G) {w : List ℕ} {next : ℕ} (a : Grew (runOf job) (gridCells job) (line * G) (line * G + gz) w₀ w next) where
+      ready : Ready (runOf job) (gridCells job) (line * G + gz) next w
+      ready = ready-after (runOf job) (gridCells job) p a
 
       run-is : runOf job (line * G + gz) ≡ narrowed 2 (F / G) gz E coords row
       run-is = rw is (run-narrow job line gz h)
 
-      pub cell-asked : {cells room : ℕ} → cells ≡ G * G * G → length row ≤ room → (line * G + gz < cells + 1) × (cells + 1 ≤ next × (next < 4294967296 × (AllBelow (shotCount coords) row × (length row ≤ room × next + length (narrowed 2 (F / G) gz E coords row) ≤ length w))))
+      pub cell-asked : {cells room : ℕ} → cells ≡ gridCells job → length row ≤ room → (line * G + gz < cells + 1) × (cells + 1 ≤ next × (next < 4294967296 × (AllBelow (shotCount coords) row × (length row ≤ room × next + length (narrowed 2 (F / G) gz E coords row) ≤ length w))))
       cell-asked e fits = (
         omega (arith, cell-below gz h),
         (
@@ -47,16 +47,16 @@ module _ (job : Job) (v : Valid job) (line : ℕ) (within : line < job.grid * jo
             place-fits job v (line * G + gz) next (omega (arith, cell-below gz h)) ready,
             (
               rw is (row-below job line),
-              (fits, omega (arith, ready-room (runOf job) (G * G * G) (line * G + gz) (cell-below gz h) ready, ap length run-is)),
+              (fits, omega (arith, ready-room (runOf job) (gridCells job) (line * G + gz) (cell-below gz h) ready, ap length run-is)),
             ),
           ),
         ),
       )
 
-      pub cell-turn : {cells r : ℕ} {w' : List ℕ} → cells ≡ G * G * G → Wrote (set w (line * G + gz) (next - (cells + 1))) w' next r (narrowed 2 (F / G) gz E coords row) → Grew (runOf job) (G * G * G) (line * G) (line * G + (gz + 1)) w₀ w' r
+      pub cell-turn : {cells r : ℕ} {w' : List ℕ} → cells ≡ gridCells job → Wrote (set w (line * G + gz) (next - (cells + 1))) w' next r (narrowed 2 (F / G) gz E coords row) → Grew (runOf job) (gridCells job) (line * G) (line * G + (gz + 1)) w₀ w' r
       cell-turn {cells} {r} {w'} e b =
           rw (← add-assoc (line * G) gz 1)
-          (grew-then (runOf job) (G * G * G) a (grew-cell (runOf job) (G * G * G) (line * G + gz) next (cell-below gz h) ready (rw (e, ← run-is) at b)))
+          (grew-then (runOf job) (gridCells job) a (grew-cell (runOf job) (gridCells job) (line * G + gz) next (cell-below gz h) ready (rw (e, ← run-is) at b)))
 
 -- ---- the rows of a slab
 
@@ -84,37 +84,37 @@ module _ (job : Job) (v : Valid job) (gx : ℕ) (within : gx < job.grid) where
   pub slab-is : (all : List ℕ) → all ≡ upTo (shotCount coords) → narrowed 0 (F / G) gx E coords all ≡ slabOf job gx
   slab-is all is = rw is (sym (slab-narrow job gx))
 
-module _ (job : Job) (gx : ℕ) {at : ℕ} {w₀ : List ℕ} (p : Ready (runOf job) (job.grid * job.grid * job.grid) (gx * job.grid * job.grid) at w₀) where
+module _ (job : Job) (gx : ℕ) {at : ℕ} {w₀ : List ℕ} (p : Ready (runOf job) (gridCells job) (gx * job.grid * job.grid) at w₀) where
   open Job job using (grid as G)
 
-  pub rows-none : Grew (runOf job) (G * G * G) (gx * G * G) ((gx * G + 0) * G) w₀ w₀ at
-  rows-none = rw (add-zero (gx * G)) (grew-none (runOf job) (G * G * G) (gx * G * G) at w₀ p)
+  pub rows-none : Grew (runOf job) (gridCells job) (gx * G * G) ((gx * G + 0) * G) w₀ w₀ at
+  rows-none = rw (add-zero (gx * G)) (grew-none (runOf job) (gridCells job) (gx * G * G) at w₀ p)
 
-  module _ (gy : ℕ) {w : List ℕ} {next : ℕ} (a : Grew (runOf job) (G * G * G) (gx * G * G) ((gx * G + gy) * G) w₀ w next) where
-    pub row-ready : Ready (runOf job) (G * G * G) ((gx * G + gy) * G) next w
-    row-ready = ready-after (runOf job) (G * G * G) p a
+  module _ (gy : ℕ) {w : List ℕ} {next : ℕ} (a : Grew (runOf job) (gridCells job) (gx * G * G) ((gx * G + gy) * G) w₀ w next) where
+    pub row-ready : Ready (runOf job) (gridCells job) ((gx * G + gy) * G) next w
+    row-ready = ready-after (runOf job) (gridCells job) p a
 
-    pub row-turn : {w' : List ℕ} {r : ℕ} → Grew (runOf job) (G * G * G) ((gx * G + gy) * G) ((gx * G + gy) * G + G) w w' r → Grew (runOf job) (G * G * G) (gx * G * G) ((gx * G + (gy + 1)) * G) w₀ w' r
+    pub row-turn : {w' : List ℕ} {r : ℕ} → Grew (runOf job) (gridCells job) ((gx * G + gy) * G) ((gx * G + gy) * G + G) w w' r → Grew (runOf job) (gridCells job) (gx * G * G) ((gx * G + (gy + 1)) * G) w₀ w' r
     row-turn b =
         let e : (gx * G + (gy + 1)) * G ≡ (gx * G + gy) * G + G = rw (← add-assoc (gx * G) gy 1, add-mul (gx * G + gy) 1 G, one-mul G) in
-        rw e (grew-then (runOf job) (G * G * G) a b)
+        rw e (grew-then (runOf job) (gridCells job) a b)
 
-    pub rows-all : gy ≡ G → Grew (runOf job) (G * G * G) (gx * G * G) ((gx + 1) * G * G) w₀ w next
+    pub rows-all : gy ≡ G → Grew (runOf job) (gridCells job) (gx * G * G) ((gx + 1) * G * G) w₀ w next
     rows-all e =
         let f : (gx + 1) * G ≡ gx * G + gy = rw (add-mul gx 1 G, one-mul G, e) in
         rw f a
 
 -- ---- the slabs
 
-module _ (job : Job) {at : ℕ} {w₀ : List ℕ} (p : Ready (runOf job) (job.grid * job.grid * job.grid) 0 at w₀) where
+module _ (job : Job) {at : ℕ} {w₀ : List ℕ} (p : Ready (runOf job) (gridCells job) 0 at w₀) where
   open Job job using (grid as G)
 
-  pub slabs-none : Grew (runOf job) (G * G * G) 0 (0 * G * G) w₀ w₀ at
-  slabs-none = rw (zero-mul G, zero-mul G) (grew-none (runOf job) (G * G * G) 0 at w₀ p)
+  pub slabs-none : Grew (runOf job) (gridCells job) 0 (0 * G * G) w₀ w₀ at
+  slabs-none = rw (zero-mul G, zero-mul G) (grew-none (runOf job) (gridCells job) 0 at w₀ p)
 
-  module _ (gx : ℕ) {w : List ℕ} {next : ℕ} (a : Grew (runOf job) (G * G * G) 0 (gx * G * G) w₀ w next) where
-    pub slab-ready : Ready (runOf job) (G * G * G) (gx * G * G) next w
-    slab-ready = ready-after (runOf job) (G * G * G) p a
+  module _ (gx : ℕ) {w : List ℕ} {next : ℕ} (a : Grew (runOf job) (gridCells job) 0 (gx * G * G) w₀ w next) where
+    pub slab-ready : Ready (runOf job) (gridCells job) (gx * G * G) next w
+    slab-ready = ready-after (runOf job) (gridCells job) p a
 
-    pub slab-turn : {w' : List ℕ} {r : ℕ} → Grew (runOf job) (G * G * G) (gx * G * G) ((gx + 1) * G * G) w w' r → Grew (runOf job) (G * G * G) 0 ((gx + 1) * G * G) w₀ w' r
-    slab-turn b = grew-then (runOf job) (G * G * G) a b
+    pub slab-turn : {w' : List ℕ} {r : ℕ} → Grew (runOf job) (gridCells job) (gx * G * G) ((gx + 1) * G * G) w w' r → Grew (runOf job) (gridCells job) 0 ((gx + 1) * G * G) w₀ w' r
+    slab-turn b = grew-then (runOf job) (gridCells job) a b

@@ -6,7 +6,7 @@ use Prim.Native.Nat.{ℕ, _+_, _*_, _/_, _%_, _≤_, _<_}
 use native.Mathlib.Omega.{arith}
 use Rattle.job.specs.Job.{Job, shotCount, Valid}
 use Rattle.ground.specs.Numbers.{upTo, AllBelow}
-use Rattle.grid.specs.Grid.{meetsOn, runOf, rowOf, slabOf}
+use Rattle.grid.specs.Grid.{gridCells, meetsOn, runOf, rowOf, slabOf}
 use Rattle.grid_filling.specs.Filling.{narrowed, Ready}
 use Rattle.ground.proofs.NumberLaws.{those-those, those-agree, below-upTo, below-those}
 use Rattle.ground.proofs.Digits.{digit-high, digit-low}
@@ -47,5 +47,5 @@ module _ (job : Job) where
 module _ (job : Job) (v : Valid job) where
   open Job job using (grid as G)
 
-  pub place-fits : (c at : ℕ) {w : List ℕ} → c ≤ G * G * G → Ready (runOf job) (G * G * G) c at w → at < 4294967296
+  pub place-fits : (c at : ℕ) {w : List ℕ} → c ≤ gridCells job → Ready (runOf job) (gridCells job) c at w → at < 4294967296
   place-fits c at h p = omega (arith, p .next, runs-few job v c h, cube-most G (v .grid-most))

@@ -8,8 +8,8 @@ ghost use Prim.Native.Nat.{_+_, _-_, _*_, _≤_, _<_};
 ghost use lib.ListN.{length, set};
 ghost use Rattle.ground.specs.Numbers.{bit, upTo, AllBelow};
 ghost use Rattle.job.specs.Job.{jobOf, shotCount, Valid};
-ghost use Rattle.buffer.specs.Wrote.{Wrote};
-ghost use Rattle.grid.specs.Grid.{runOf, rowOf, slabOf, need, withIndex};
+ghost use Rattle.buffer.specs.Wrote.{Wrote, inFront};
+ghost use Rattle.grid.specs.Grid.{runOf, rowOf, slabOf, need, indexOf};
 ghost use Rattle.grid_filling.specs.Filling.{Front, narrowed, Ready, Grew};
 use grid::intervals::cells_of;
 use grid::intervals::shot_meets;
@@ -256,7 +256,7 @@ fn number(places: &mut [u32])
 pub fn build(field: u16, edge: u16, grid: u16, coords: &[u16], work: &mut [u32])
     requires { ⌜ Valid (jobOf field edge grid (now coords)) ⌝ }
     requires { ⌜ need (jobOf field edge grid (now coords)) ≤ length (now work) ⌝ }
-    ensures { λ _. ⌜ now (work .exit) ≡ withIndex (jobOf field edge grid (now (coords .entry))) (now (work .entry)) ⌝ }
+    ensures { λ _. ⌜ now (work .exit) ≡ inFront (indexOf (jobOf field edge grid (now (coords .entry)))) (now (work .entry)) ⌝ }
 {
     let mut all: [u32; 4096] = [0; 4096];
     number(&mut all);

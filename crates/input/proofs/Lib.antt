@@ -1,1 +1,1 @@
-pub mod FilledLaws
+pub mod FilledLaws  -- the bytes that are there fit the slice

@@ -7,14 +7,15 @@ use lib.Dec.{ltb}
 use lib.ListN.{length}
 use borrow.Author.Tests.{lt-ltb, le-ltb, eq-eqb, ne-eqb}
 use Rattle.lattice.specs.Shots.{any}
-use Rattle.job.specs.declared.Refusal.{Refusal}
-use Rattle.job.specs.declared.Refusal.the-variants.{BrokenShot, TooManyShots, FieldRange, EdgeRange, GridRange, OutsideField}
-use Rattle.job.specs.declared.Checked.{Checked}
-use Rattle.job.specs.declared.Checked.the-variants.{Accepted, Refused}
+use Rattle.refusals.specs.declared.Refusal.{Refusal}
+use Rattle.refusals.specs.declared.Refusal.the-variants.{BrokenShot, TooManyShots, FieldRange, EdgeRange, GridRange, OutsideField}
+use Rattle.refusals.specs.declared.Checked.{Checked}
+use Rattle.refusals.specs.declared.Checked.the-variants.{Accepted, Refused}
 use Rattle.job.specs.Job.{Job, shots, shotsOf, shotCount}
-use Rattle.job.specs.Checking.{outside, leaves, firstLeaving, firstOf, settingTests, shotTests, tests, Checks}
+use Rattle.job.specs.Checking.{outside, leaves, firstLeaving, settingTests, shotTests, tests}
+use Rattle.refusals.specs.Tests.{firstOf, Checks}
 use Rattle.job.proofs.Shots.{shots-count, any-leaves}
-use Rattle.job.proofs.Places.{checks, first-passed, first-stopped}
+use Rattle.refusals.proofs.FirstOf.{checks, first-passed, first-stopped}
 
 -- ---- the settings
 module _ (job : Job) where

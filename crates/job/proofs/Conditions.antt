@@ -1,8 +1,8 @@
 -- Each refusal of the checks is given if its condition holds and no earlier one does, and never otherwise; a list is accepted if
--- and only if none holds, which is to say that it is valid; and a valid list's cells lie in the field. Assumes nothing.
+-- and only if none holds, which is to say that it is valid (`job-decides`). The two halves of the checks decide so too, for a call that has
+-- tests of its own between them. A valid list's cells lie in the field. Assumes nothing.
 use mathlib.Core.Path.{_≡_, refl, sym, _∙_}
 use mathlib.Core.Bool.{Bool, true, false, not, _||_, true≢false}
-use mathlib.Core.List.{List}
 use mathlib.Core.Logic.{_↔_, _⊎_, inl, inr, ⊎-elim}
 use Prim.Native.Nat.{ℕ, _%_, _<_}
 use native.Mathlib.Omega.{arith}
@@ -12,17 +12,19 @@ use borrow.Author.Tests.{ltb-true, ltb-false, lt-ltb, eqb-false, ne-eqb}
 use Rattle.lattice.specs.Cells.{Within}
 use Rattle.lattice.specs.Shots.{cells, any}
 use Rattle.lattice.proofs.ShotLaws.{cells-within}
-use Rattle.job.specs.declared.Refusal.{Refusal}
-use Rattle.job.specs.declared.Refusal.the-variants.{BrokenShot, TooManyShots, FieldRange, EdgeRange, GridRange, OutsideField}
-use Rattle.job.specs.declared.Checked.the-variants.{Accepted, Refused}
+use Rattle.refusals.specs.declared.Refusal.{Refusal}
+use Rattle.refusals.specs.declared.Refusal.the-variants.{BrokenShot, TooManyShots, FieldRange, EdgeRange, GridRange, OutsideField}
+use Rattle.refusals.specs.declared.Checked.the-variants.{Accepted}
 use Rattle.job.specs.Job.{Job, shots, shot, shotCount, Valid}
 use Rattle.job.specs.Checking.{outside, leaves, firstLeaving, settingTests, shotTests, tests, checked}
-use Rattle.job.specs.Conditions.{FirstOutside, Condition, broken-shot, too-many-shots, field-range, edge-range, grid-range, outside-field, Each, Says, First}
-use Rattle.ground.proofs.Bools.{or-false, or-true, or-true-left, or-true-right}
-use Rattle.ground.proofs.Tests.{settled}
+use Rattle.job.specs.Conditions.{FirstOutside, Condition, broken-shot, too-many-shots, field-range, edge-range, grid-range, outside-field, None}
+use Rattle.refusals.specs.Deciding.{Each, Says, First, Decides}
 use Rattle.job.proofs.Tests.{within, out, is-out}
+use Rattle.ground.proofs.Tests.{settled}
+use Rattle.ground.proofs.Bools.{or-false, or-true, or-true-left, or-true-right}
 use Rattle.job.proofs.Shots.{shots-count, shots-at, any-leaves, stays, stays-not, all-stay, first-leaves, earlier-stays, stay-at}
-use Rattle.job.proofs.Places.{passes, first-iff, none-each, none-iff}
+use Rattle.refusals.proofs.FirstOf.{passes, none-each, none-iff}
+use Rattle.refusals.proofs.Deciding.{decides-by, decides-then, decides-as}
 
 module _ (job : Job) where
   open Job job using (field as F, edge as E, grid as G, coords)
@@ -96,13 +98,24 @@ module _ (job : Job) where
       from : Condition job (OutsideField found) → any (leaves F) (shots job) ≡ true
       from (outside-field f) = leaving ∙ lt-ltb found (shotCount coords) (f .is-shot)
 
+  settings-say : Each (Says (Condition job)) (settingTests job)
+  unfolding settingTests
+  settings-say = (says-broken, (says-many, (says-field, (says-edge, (says-grid, tt)))))
+
+  shots-say : Each (Says (Condition job)) (shotTests F (shots job))
+  unfolding shotTests
+  shots-say = (says-outside, tt)
+
   pub tests-say : Each (Says (Condition job)) (tests job)
   unfolding tests settingTests shotTests
   tests-say = (says-broken, (says-many, (says-field, (says-edge, (says-grid, (says-outside, tt))))))
 
-  -- a refusal is given if and only if its condition holds and that of no test before it does
-  pub refused-iff : (r : Refusal) → (checked job ≡ Refused r) ↔ First (Condition job) (tests job) r
-  refused-iff r = first-iff (Condition job) (tests job) tests-say r
+  -- ---- the two halves of the checks
+  pub settings-decide : Decides (settingTests job) (None job (settingTests job)) (First (Condition job) (settingTests job))
+  settings-decide = decides-by (Condition job) (settingTests job) settings-say
+
+  pub shots-decide : Decides (shotTests F (shots job)) (None job (shotTests F (shots job))) (First (Condition job) (shotTests F (shots job)))
+  shots-decide = decides-by (Condition job) (shotTests F (shots job)) shots-say
 
   -- ---- a list is accepted if and only if it is valid
   valid-if : checked job ≡ Accepted → Valid job
@@ -135,12 +148,23 @@ module _ (job : Job) where
   valid-none v q (grid-range h) = ⊎-elim (λ m. omega (arith, v .grid-least)) (⊎-elim (λ m. omega (arith, v .grid-most)) (λ n. n (v .grid-divides))) h
   valid-none v q (outside-field f) = f .leaves-field (stay-at F E coords (v .inside) _ (f .is-shot))
 
-  pub accepted-valid : (checked job ≡ Accepted) ↔ Valid job
-  accepted-valid = (valid-if, λ v. none-iff (Condition job) (tests job) tests-say .1 (none-each (Condition job) (valid-none v) (tests job)))
+  -- a list is valid if and only if the condition of no test holds, of the settings and of the shots
+  pub valid-halves : Valid job ↔ (None job (settingTests job) × None job (shotTests F (shots job)))
+  unfolding tests
+  valid-halves =
+      let d = decides-then settings-decide shots-decide .accepted in
+      (λ v. (none-each (Condition job) (valid-none v) (settingTests job), none-each (Condition job) (valid-none v) (shotTests F (shots job))), λ n. valid-if (d .1 n))
 
-  -- a list is accepted if and only if no condition holds
-  pub accepted-iff : (checked job ≡ Accepted) ↔ ((q : Refusal) → ¬ Condition job q)
-  accepted-iff = (λ e. valid-none (valid-if e), λ n. none-iff (Condition job) (tests job) tests-say .1 (none-each (Condition job) n (tests job)))
+  -- the checks accept a list if and only if it is valid, and a refusal is given if and only if its condition holds and that of no test
+  -- before it does
+  pub job-decides : Decides (tests job) (Valid job) (First (Condition job) (tests job))
+  job-decides =
+      decides-as (decides-by (Condition job) (tests job) tests-say)
+      ((λ n. valid-if (none-iff (Condition job) (tests job) tests-say .1 n), λ v. none-each (Condition job) (valid-none v) (tests job)))
+      (λ r. (λ f. f, λ f. f))
+
+  pub accepted-valid : (checked job ≡ Accepted) ↔ Valid job
+  accepted-valid = job-decides .accepted
 
 -- the cells of a valid list lie in the field
 pub valid-within : {job : Job} → Valid job → Within job.field (cells (shots job))

@@ -1,8 +1,10 @@
-pub mod Tests
-pub mod Shots
-pub mod Storing
-pub mod Places
-pub mod Answers
+-- when the checks refuse a list, each exactly, and that an accepted list is valid
 pub mod Conditions
-pub mod OneMore
-pub mod Deciding
+-- what the checks answer, one way out after the other
+pub mod Answers
+-- the shots of a coordinate list, by number
+pub mod Shots
+-- a shot stored into a coordinate slice
+pub mod Storing
+-- what tests of numbers say
+pub mod Tests

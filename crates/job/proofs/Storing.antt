@@ -8,9 +8,9 @@ use lib.Seq.{sets-eq}
 use Rattle.buffer.specs.Wrote.{Wrote}
 use Rattle.job.specs.Job.{shotCount, placeOf, numbersOf}
 
-pub stored : (l : List ℕ) (i x y z : ℕ) → i < shotCount l
+pub shot-stored : (l : List ℕ) (i x y z : ℕ) → i < shotCount l
     → Wrote l (set (set (set l (3 * i) x) (3 * i + 1) y) (3 * i + 2) z) (placeOf i) (placeOf (i + 1)) (numbersOf x y z)
-stored l i x y z h =
+shot-stored l i x y z h =
     let e₁ : 3 * i + 1 ≡ suc (3 * i) = omega arith in
     let e₂ : 3 * i + 2 ≡ suc (suc (3 * i)) = omega arith in
     let e₃ : 3 * (i + 1) ≡ 3 * i + 3 = omega arith in

@@ -1,18 +1,15 @@
 -- The checks that every call on a list shares, in their order: refusals 1, 2, 6, 7, 8, 9 of docs/SCOPE.md, 'When a job is refused'.
 -- What is earlier is a matter of place in a call's list of tests, not of number.
 use mathlib.Core.Bool.{Bool, not, cond, _||_}
-use mathlib.Core.Path.{_≡_}
 use mathlib.Core.List.{List, [], _∷_, _++_}
 use Prim.Native.Nat.{ℕ, suc, _+_, _%_}
 use lib.Dec.{eqb, ltb}
 use lib.ListN.{length}
 use Rattle.lattice.specs.Shots.{Shot, any}
-use Rattle.job.specs.declared.Refusal.{Refusal}
-use Rattle.job.specs.declared.Refusal.the-variants.{BrokenShot, TooManyShots, FieldRange, EdgeRange, GridRange, OutsideField}
-use Rattle.job.specs.declared.Checked.{Checked}
-use Rattle.job.specs.declared.Checked.the-variants.{Accepted, Refused}
+use Rattle.refusals.specs.declared.Refusal.the-variants.{BrokenShot, TooManyShots, FieldRange, EdgeRange, GridRange, OutsideField}
+use Rattle.refusals.specs.declared.Checked.{Checked}
+use Rattle.refusals.specs.Tests.{Test, firstOf}
 use Rattle.job.specs.Job.{Job, shots, shotCount}
-use Rattle.job.specs.Refusals.{numberOf, detailOf, Numbers, checkedNumbers}
 
 -- a is below least or above most
 abbrev pub outside : ℕ → ℕ → ℕ → Bool
@@ -30,16 +27,6 @@ leaves F t = past F (t .edge) (t .x) || (past F (t .edge) (t .y) || past F (t .e
 unfoldable pub firstLeaving : ℕ → List Shot → ℕ
 firstLeaving F [] = 0
 firstLeaving F (t ∷ ts) = cond (leaves F t) 0 (suc (firstLeaving F ts))
-
--- a test: whether its condition holds, and the refusal that it gives
-pub record Test : Type 0 where
-  pub holds : Bool
-  pub gives : Refusal
-
--- a refusal is given if its condition holds and no earlier one does: of a list of tests, the first that holds decides
-unfoldable pub firstOf : List Test → Checked
-firstOf [] = Accepted
-firstOf (t ∷ ts) = cond (t .holds) (Refused (t .gives)) (firstOf ts)
 
 -- the tests of the settings and of the coordinates' count: 1, 2, 6, 7, 8
 unfoldable pub settingTests : Job → List Test
@@ -61,14 +48,3 @@ tests job = settingTests job ++ shotTests job.field (shots job)
 
 abbrev pub checked : Job → Checked
 checked job = firstOf (tests job)
-
--- ---- what is answered
--- the number and detail of the first test that holds; 0 and 0 where none does
-unfoldable pub firstNumbers : List Test → Numbers
-firstNumbers [] = record { number = 0; detail = 0 }
-firstNumbers (t ∷ ts) = cond (t .holds) (record { number = numberOf (t .gives); detail = detailOf (t .gives) }) (firstNumbers ts)
-
--- what a call that runs these tests answers
-pub record Checks (ts : List Test) (r : Checked) : Type 0 where
-  pub answer : r ≡ firstOf ts
-  pub numbers : checkedNumbers r ≡ firstNumbers ts

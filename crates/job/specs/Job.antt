@@ -15,6 +15,10 @@ pub record Job : Type 0 where
 abbrev pub jobOf : ℕ → ℕ → ℕ → List ℕ → Job
 jobOf F E G coords = record { field = F; edge = E; grid = G; coords = coords }
 
+-- the same list in another grid
+abbrev pub withGrid : ℕ → Job → Job
+withGrid G job = jobOf job.field job.edge G job.coords
+
 -- the shots of a coordinate list: today every shot has the list's edge
 unfoldable pub shotsOf : ℕ → List ℕ → List Shot
 shotsOf e [] = []

@@ -1,4 +1,3 @@
 pub mod Job
-pub mod Refusals
 pub mod Checking
 pub mod Conditions

@@ -1,143 +1,22 @@
-// A list with its settings: the door to its shots, the refusals, and the checks that every call on a list shares. docs/SCOPE.md, 'The
-// job' and 'When a job is refused'. specs/Job.antt says what a valid list is, specs/Refusals.antt numbers the refusals,
-// specs/Checking.antt is what `check` answers; proofs/Conditions.antt when, exactly. Stands on `buffer`, and on `lattice`, whose shots
-// and cells the definitions use.
+// A job, which is a list with its settings: the door to its shots, and the checks that every call on a list shares. docs/SCOPE.md, 'The job'
+// and 'When a job is refused'. specs/Job.antt says what a job is, what its shots are and when it is valid: what is said of a whole list takes
+// the job as one value, while functions and their loops take field, edge, grid and coordinates apart. specs/Checking.antt is what `check`
+// answers; proofs/Conditions.antt when, exactly. Stands on `buffer`, on `lattice`, whose shots and cells the definitions use, and on
+// `refusals`.
 ghost use mathlib.Core.Path.{_≡_};
 ghost use Rattle.job.specs.Job.{jobOf, shotsOf};
-ghost use Rattle.job.specs.Refusals.{numberOf, detailOf, metAt};
-ghost use Rattle.job.specs.Checking.{outside, past, leaves, firstLeaving, settingTests, shotTests, tests, Checks};
+ghost use Rattle.job.specs.Checking.{outside, past, leaves, firstLeaving, settingTests, shotTests, tests};
+ghost use Rattle.refusals.specs.Tests.{Checks};
 
 pub mod shot;
 
+use refusals::Checked;
+use refusals::Refusal;
 use shot::count;
 use shot::edge_of;
 use shot::x_of;
 use shot::y_of;
 use shot::z_of;
-
-// Why a call is refused, in the order of their numbers, with the detail where there is one.
-pub enum Refusal {
-    // The coordinates' count is not a multiple of three.
-    BrokenShot,
-    // There are more than 4,096 shots; `at` is the place of the map where a reader met the first one too many, and 0 elsewhere.
-    TooManyShots { at: usize },
-    // The reader has no place for the shot whose map is at `at`.
-    NoPlace { at: usize },
-    // The map at `at` has a bit that has no meaning.
-    UnknownBit { at: usize },
-    // The file ends before a field of the map at `at`, or has no header map.
-    CutShort { at: usize },
-    // The field side is outside its range.
-    FieldRange,
-    // The shot edge is outside its range.
-    EdgeRange,
-    // The grid size is outside its range, or does not divide the field side.
-    GridRange,
-    // This shot, and none before it, leaves the field.
-    OutsideField { shot: usize },
-    // The work slice is shorter than these entries.
-    ShortWork { entries: usize },
-    // The listing buffer is shorter than the records of these corners.
-    ShortListing { corners: usize },
-    // The byte buffer is shorter than the file of these bytes.
-    ShortFile { bytes: usize },
-    // Where the mark of a VOX file or a chunk is required, at `at`, there is another or none.
-    NotVox { at: usize },
-    // The chunk at `at` is cut short, or a size of it overruns or does not match.
-    BrokenChunk { at: usize },
-    // The SIZE chunk at `at` has a side outside its range, or the voxel at `at` is outside SIZE or has colour 0.
-    VoxelRange { at: usize },
-    // The credit slice has fewer places than these shots.
-    ShortCredits { shots: usize },
-}
-
-// What the checks of a list and its settings find.
-pub enum Checked {
-    Accepted,
-    Refused(Refusal),
-}
-
-// Where a refusal is met; the refusal's detail says at which one.
-pub enum Place {
-    // At a byte of a file, where the faulty record, mark, chunk or voxel begins.
-    Byte,
-    // At a shot of the list.
-    Shot,
-    // Nowhere in particular.
-    Nowhere,
-}
-
-// The number of a refusal.
-pub fn number(refusal: Refusal) -> u8
-    ensures { λ r. ⌜ r ≡ numberOf refusal ⌝ }
-{
-    match refusal {
-        Refusal::BrokenShot => 1,
-        Refusal::TooManyShots { at: _ } => 2,
-        Refusal::NoPlace { at: _ } => 3,
-        Refusal::UnknownBit { at: _ } => 4,
-        Refusal::CutShort { at: _ } => 5,
-        Refusal::FieldRange => 6,
-        Refusal::EdgeRange => 7,
-        Refusal::GridRange => 8,
-        Refusal::OutsideField { shot: _ } => 9,
-        Refusal::ShortWork { entries: _ } => 10,
-        Refusal::ShortListing { corners: _ } => 11,
-        Refusal::ShortFile { bytes: _ } => 12,
-        Refusal::NotVox { at: _ } => 13,
-        Refusal::BrokenChunk { at: _ } => 14,
-        Refusal::VoxelRange { at: _ } => 15,
-        Refusal::ShortCredits { shots: _ } => 16,
-    }
-}
-
-// The detail of a refusal: 0 where it has none.
-pub fn detail(refusal: Refusal) -> usize
-    ensures { λ r. ⌜ r ≡ detailOf refusal ⌝ }
-{
-    match refusal {
-        Refusal::BrokenShot => 0,
-        Refusal::TooManyShots { at } => at,
-        Refusal::NoPlace { at } => at,
-        Refusal::UnknownBit { at } => at,
-        Refusal::CutShort { at } => at,
-        Refusal::FieldRange => 0,
-        Refusal::EdgeRange => 0,
-        Refusal::GridRange => 0,
-        Refusal::OutsideField { shot } => shot,
-        Refusal::ShortWork { entries } => entries,
-        Refusal::ShortListing { corners } => corners,
-        Refusal::ShortFile { bytes } => bytes,
-        Refusal::NotVox { at } => at,
-        Refusal::BrokenChunk { at } => at,
-        Refusal::VoxelRange { at } => at,
-        Refusal::ShortCredits { shots } => shots,
-    }
-}
-
-// Whether a refusal is met at a byte, at a shot or nowhere in particular.
-pub fn met_at(refusal: Refusal) -> Place
-    ensures { λ r. ⌜ r ≡ metAt refusal ⌝ }
-{
-    match refusal {
-        Refusal::BrokenShot => Place::Nowhere,
-        Refusal::TooManyShots { at: _ } => Place::Byte,
-        Refusal::NoPlace { at: _ } => Place::Byte,
-        Refusal::UnknownBit { at: _ } => Place::Byte,
-        Refusal::CutShort { at: _ } => Place::Byte,
-        Refusal::FieldRange => Place::Nowhere,
-        Refusal::EdgeRange => Place::Nowhere,
-        Refusal::GridRange => Place::Nowhere,
-        Refusal::OutsideField { shot: _ } => Place::Shot,
-        Refusal::ShortWork { entries: _ } => Place::Nowhere,
-        Refusal::ShortListing { corners: _ } => Place::Nowhere,
-        Refusal::ShortFile { bytes: _ } => Place::Nowhere,
-        Refusal::NotVox { at: _ } => Place::Byte,
-        Refusal::BrokenChunk { at: _ } => Place::Byte,
-        Refusal::VoxelRange { at: _ } => Place::Byte,
-        Refusal::ShortCredits { shots: _ } => Place::Nowhere,
-    }
-}
 
 // A cube from `at` on an axis passes the side of the field.
 fn passes(field: u16, edge: u16, at: u16) -> bool

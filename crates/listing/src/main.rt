@@ -1,28 +1,8 @@
 // The listing program: reads a shot file from standard input and writes the corner listing of its list, 7 bytes a corner, to standard
 // output. A refusal gives one line on standard error and no listing. docs/SCOPE.md, 'Corner points'. What it writes is
-// `listing_file::list_file`; here are the system calls, the sizes and the sentence.
+// `listing_file::list_file`; here are only the sizes.
 use input::Filled;
-use job::Refusal;
-use libc::STDERR_FILENO;
-use libc::STDOUT_FILENO;
 use measure_intake::Measured;
-
-fn say(words: &[u8]) {
-    io::write_all(STDERR_FILENO, words);
-}
-
-// The number and the detail of a refusal, and its sentence.
-fn tell_refusal(refusal: Refusal) {
-    say(b"refused ");
-    io::print_decimal(STDERR_FILENO, job::number(refusal) as u64);
-    say(b" ");
-    io::print_decimal(STDERR_FILENO, job::detail(refusal) as u64);
-    say(b": ");
-    let mut sentence = [0u8; 64];
-    let n = text_wording::put_sentence(&mut sentence, 0, refusal);
-    say(&sentence[..n]);
-    say(b"\n");
-}
 
 // Writes the listing of a file, which is made in the buffer.
 fn print_listing(bytes: &[u8], buffer: &mut [u8]) {
@@ -33,11 +13,9 @@ fn print_listing(bytes: &[u8], buffer: &mut [u8]) {
         Measured::Quote(totals) => {
             let corners = totals.corners;
             let n = 7 * corners;
-            if !io::write_all(STDOUT_FILENO, &buffer[..n]) {
-                say(b"listing: standard output cannot be written\n");
-            }
+            output::write_text(b"listing", &buffer[..n]);
         }
-        Measured::Refused(refusal) => tell_refusal(refusal),
+        Measured::Refused(refusal) => output::say_refusal(refusal),
     }
 }
 
@@ -52,8 +30,6 @@ fn main() {
     let filled = input::fill(&mut bytes);
     match filled {
         Filled::Bytes(n) => print_with_room(&bytes[..n]),
-        Filled::Failed => {
-            say(b"listing: standard input cannot be read\n");
-        }
+        Filled::Failed => output::say_unreadable(b"listing"),
     }
 }

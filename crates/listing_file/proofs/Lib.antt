@@ -1,1 +1,2 @@
+-- what listing a file leaves, and that it fits
 pub mod ListingLaws

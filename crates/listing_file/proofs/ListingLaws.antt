@@ -6,16 +6,16 @@ use native.Mathlib.Omega.{arith}
 use lib.ListN.{length}
 use Rattle.lattice_sums.specs.declared.sums.Totals.{Totals}
 use Rattle.job.specs.Job.{jobOf, shotCount, firstShots}
-use Rattle.job.specs.declared.Refusal.{Refusal}
-use Rattle.shotfile.specs.Files.{File, file, refused, fileIn}
-use Rattle.shotfile.specs.Calls.{ReadCall}
-use Rattle.shotfile.specs.declared.reader.ReadAnswer.{ReadAnswer}
-use Rattle.shotfile.specs.declared.reader.ReadAnswer.the-variants.{Read, Refused as Unread}
-use Rattle.shotfile.proofs.Accepted.{accepted-file, refused-file}
-use Rattle.measure_intake.specs.Intake.{measuredNumbers, workAfter}
+use Rattle.refusals.specs.declared.Refusal.{Refusal}
+use Rattle.shotfile_reader.specs.Files.{File, file, refused, fileIn}
+use Rattle.shotfile_reader.specs.Calls.{ReadCall}
+use Rattle.shotfile_reader.specs.declared.ReadAnswer.{ReadAnswer}
+use Rattle.shotfile_reader.specs.declared.ReadAnswer.the-variants.{Read, Refused as Unread}
+use Rattle.shotfile_reader.proofs.Accepted.{accepted-file, refused-file}
+use Rattle.measure_intake.specs.Intake.{measuredNumbers}
 use Rattle.measure_intake.specs.declared.Measured.{Measured}
 use Rattle.measure_intake.specs.declared.Measured.the-variants.{Quote, Refused}
-use Rattle.measure.specs.Answers.{listAnswer, listNumbers, listingAfter, ListCall}
+use Rattle.measure.specs.Answers.{ListCall}
 use Rattle.measure.proofs.Refused.{listing-fits}
 use Rattle.quoting_text.specs.Quoting.{indexAfter}
 use Rattle.listing_file.specs.Listing.{listedAnswer, listedNumbers, listedAfter, FileListed}
@@ -36,16 +36,14 @@ module _ {bytes coords coords' : List ℕ} {a : ReadAnswer} (read : ReadCall byt
 
   pub file-listed : {work work' buffer buffer' list : List ℕ} {m : Measured} (F E G shots : ℕ) → a ≡ Read F E G shots → list ≡ firstShots shots coords'
       → ListCall (jobOf F E G list) work buffer m work' buffer' → FileListed bytes coords work buffer m coords' work' buffer'
-  file-listed {work} {work'} {buffer} F E G shots e l q =
-      let f = accepted-file read e in
-      let k = l ∙ f .stored in
-      let is = sym (f .is) in
+  file-listed {work} {work'} {buffer} {list = list} F E G shots e l q =
+      let is : file (jobOf F E G list) ≡ fileIn (shotCount coords) bytes = ap (λ (c : List ℕ). file (jobOf F E G c)) l ∙ sym (accepted-file read e .is) in
       record {
-        answer = q .answer ∙ ap (λ c. listAnswer (jobOf F E G c) (length work) (length buffer)) k ∙ ap (λ (f : File). listedAnswer f (length work) (length buffer)) is;
-        numbers = q .numbers ∙ ap (λ c. listNumbers (jobOf F E G c) (length work) (length buffer)) k ∙ ap (λ (f : File). listedNumbers f (length work) (length buffer)) is;
+        answer = q .answer ∙ ap (λ (f : File). listedAnswer f (length work) (length buffer)) is;
+        numbers = q .numbers ∙ ap (λ (f : File). listedNumbers f (length work) (length buffer)) is;
         coordinates = read .coordinates;
-        index = q .index ∙ ap (λ c. workAfter (jobOf F E G c) work) k ∙ ap (λ (f : File). indexAfter f work) is;
-        listing = q .listing ∙ ap (λ c. listingAfter (jobOf F E G c) (length work) buffer) k ∙ ap (λ (f : File). listedAfter f (length work) buffer) is;
+        index = q .index ∙ ap (λ (f : File). indexAfter f work) is;
+        listing = q .listing ∙ ap (λ (f : File). listedAfter f (length work) buffer) is;
       }
 
 -- the listing of a file that is accepted fits the buffer
@@ -53,5 +51,5 @@ pub listed-fits : {bytes coords work buffer coords' work' buffer' : List ℕ} {m
 listed-fits {bytes} {coords} {work} {buffer} call {t} k = go (fileIn (shotCount coords) bytes) (sym k ∙ call .answer)
   where
     go : (f : File) → Quote t ≡ listedAnswer f (length work) (length buffer) → 7 * t .corners ≤ length buffer
-    go (file f cs) e = listing-fits (jobOf (f .first) (f .second) (f .third) cs) (length work) (length buffer) e
+    go (file job) e = listing-fits job (length work) (length buffer) e
     go (refused r) e = let z : _≡_ {A = ℕ} 0 1 = cc in absurd (omega arith)

@@ -4,9 +4,9 @@ use mathlib.Core.Path.{_≡_}
 use mathlib.Core.List.{List}
 use Prim.Native.Nat.{ℕ}
 use lib.ListN.{length}
-use Rattle.job.specs.Job.{jobOf, shotCount}
-use Rattle.shotfile.specs.Files.{File, file, refused, fileIn}
-use Rattle.shotfile.specs.Calls.{readCoords}
+use Rattle.job.specs.Job.{shotCount}
+use Rattle.shotfile_reader.specs.Files.{File, file, refused, fileIn}
+use Rattle.shotfile_reader.specs.Calls.{readCoords}
 use Rattle.measure_intake.specs.Intake.{MeasuredNumbers, measuredNumbers, refusedNumbers}
 use Rattle.measure_intake.specs.declared.Measured.{Measured}
 use Rattle.measure_intake.specs.declared.Measured.the-variants.{Refused}
@@ -15,15 +15,15 @@ use Rattle.quoting_text.specs.Quoting.{indexAfter}
 
 -- with so many work entries and bytes of the buffer; a file that is refused is not listed
 abbrev pub listedAnswer : File → ℕ → ℕ → Measured
-listedAnswer (file f coords) entries room = listAnswer (jobOf (f .first) (f .second) (f .third) coords) entries room
+listedAnswer (file job) entries room = listAnswer job entries room
 listedAnswer (refused r) entries room = Refused r
 
 abbrev pub listedNumbers : File → ℕ → ℕ → MeasuredNumbers
-listedNumbers (file f coords) entries room = listNumbers (jobOf (f .first) (f .second) (f .third) coords) entries room
+listedNumbers (file job) entries room = listNumbers job entries room
 listedNumbers (refused r) entries room = refusedNumbers r
 
 abbrev pub listedAfter : File → ℕ → List ℕ → List ℕ
-listedAfter (file f coords) entries buffer = listingAfter (jobOf (f .first) (f .second) (f .third) coords) entries buffer
+listedAfter (file job) entries buffer = listingAfter job entries buffer
 listedAfter (refused r) entries buffer = buffer
 
 -- ---- the promise

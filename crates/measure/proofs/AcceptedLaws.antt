@@ -8,19 +8,21 @@ use Rattle.lattice.specs.Cells.{Cells}
 use Rattle.lattice.specs.Listing.{listing}
 use Rattle.lattice_sums.specs.CornerSums.{totalsOf}
 use Rattle.lattice_sums.specs.declared.sums.Totals.{Totals}
-use Rattle.job.specs.Job.{Job, Valid}
-use Rattle.job.specs.declared.Checked.{Checked}
-use Rattle.job.specs.declared.Checked.the-variants.{Accepted as Passed}
-use Rattle.grid.specs.Grid.{need, withIndex, Holds}
-use Rattle.measure_intake.specs.Intake.{solid, measureChecked, measureAnswer, measuredNumbers, numbersAfter, measureNumbers, sliceAfter, workAfter, MeasureCall}
+use Rattle.job.specs.Job.{Job}
+use Rattle.refusals.specs.declared.Checked.{Checked}
+use Rattle.refusals.specs.declared.Checked.the-variants.{Accepted as Passed}
+use Rattle.grid.specs.Grid.{indexOf, Holds}
+use Rattle.measure_intake.specs.Intake.{solid, measureChecked, measureAnswer, measuredNumbers, numbersAfter, measureNumbers, workAfter, MeasureCall}
 use Rattle.measure_intake.specs.declared.Measured.the-variants.{Quote}
 use Rattle.measure_intake.proofs.Refused.{answer-accepted, measure-decides}
 use Rattle.measure.proofs.Refused.{list-decides}
-use Rattle.measure.specs.Answers.{listChecked, listAnswer, listNumbers, listingOver, listingAfter, ListCall}
+use Rattle.measure.specs.Answers.{listChecked, listAnswer, listNumbers, listingAfter, ListCall}
+use Rattle.buffer.specs.Wrote.{inFront}
+use Rattle.refusals.specs.Tests.{ifAccepted}
+use Rattle.lattice.proofs.ListingLaws.{length-listing}
 
 -- an accepted list, with these totals and this work slice
 pub record Accepted (job : Job) (t : Totals) (work' : List ℕ) : Type 0 where
-  pub valid : Valid job
   pub totals-are : t ≡ totalsOf job.field (solid job)
   pub holds-index : Holds job work'
 
@@ -33,8 +35,9 @@ passed-totals n s e k = ap (λ m. m .totals) (e ∙ ap (λ c. numbersAfter c n s
 passed-holds : (job : Job) (work : List ℕ) {work' : List ℕ} → work' ≡ workAfter job work → measureChecked job (length work) ≡ Passed → Holds job work'
 unfolding workAfter
 passed-holds job work e k = record {
-  rest = drop (need job) work;
-  is = e ∙ ap (λ c. sliceAfter c work (withIndex job work)) k;
+  valid = measure-decides job (length work) .accepted .0 k .0;
+  rest = drop (length (indexOf job)) work;
+  is = e ∙ ap (λ c. ifAccepted c (λ r. work) (inFront (indexOf job) work)) k;
 }
 
 pub measure-accepted : {job : Job} {work work' : List ℕ} {t : Totals} → MeasureCall job work (Quote t) work' → Accepted job t work'
@@ -42,7 +45,6 @@ unfolding measureAnswer measureNumbers
 measure-accepted {job} {work} {work'} {t} call =
     let k = answer-accepted (measureChecked job (length work)) job.field (solid job) .0 (t, sym (call .answer)) in
     record {
-      valid = measure-decides job (length work) .accepted .0 k .0;
       totals-are = passed-totals job.field (solid job) (call .numbers) k;
       holds-index = passed-holds job work (call .index) k;
     }
@@ -59,7 +61,6 @@ module _ {job : Job} {work buffer work' buffer' : List ℕ} {t : Totals} (call :
   list-accepted =
       let a = list-decides job (length work) (length buffer) .accepted .0 passed .0 in
       record {
-        valid = a .0;
         totals-are = passed-totals F (solid job) (call .numbers) passed;
         holds-index = passed-holds job work (call .index) (measure-decides job (length work) .accepted .1 a);
       }
@@ -69,5 +70,5 @@ module _ {job : Job} {work buffer work' buffer' : List ℕ} {t : Totals} (call :
   unfolding listingAfter totalsOf
   list-stored =
       call .listing
-      ∙ ap (λ c. sliceAfter c buffer (listingOver F (solid job) buffer)) passed
-      ∙ ap (λ n. listing F (solid job) ++ drop (7 * n) buffer) (sym (ap (λ (t : Totals). t .corners) (list-accepted .totals-are)))
+      ∙ ap (λ c. ifAccepted c (λ r. buffer) (inFront (listing F (solid job)) buffer)) passed
+      ∙ ap (λ n. listing F (solid job) ++ drop n buffer) (length-listing F (solid job) ∙ ap (λ n. 7 * n) (sym (ap (λ (t : Totals). t .corners) (list-accepted .totals-are))))

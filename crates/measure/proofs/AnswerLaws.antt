@@ -11,21 +11,22 @@ use Rattle.lattice_sums.specs.CornerSums.{sumsOf, totalsOf, Whole}
 use Rattle.lattice_sums.specs.declared.sums.CornerSums.{CornerSums}
 use Rattle.lattice_sums.specs.declared.sums.Totals.{Totals}
 use Rattle.lattice_sums.proofs.CornerSumLaws.{sums-whole, whole-same}
-use Rattle.lattice.proofs.ListingLaws.{length-corners}
-use Rattle.job.specs.Checking.{firstOf}
-use Rattle.job.specs.declared.Refusal.{Refusal}
-use Rattle.job.specs.declared.Refusal.the-variants.{ShortListing}
-use Rattle.job.specs.declared.Checked.{Checked}
-use Rattle.job.specs.declared.Checked.the-variants.{Accepted, Refused}
-use Rattle.job.proofs.Places.{first-passed, first-stopped}
+use Rattle.lattice.proofs.ListingLaws.{length-bytes, length-corners}
+use Rattle.refusals.specs.Tests.{ifAccepted, firstOf}
+use Rattle.refusals.specs.declared.Refusal.{Refusal}
+use Rattle.refusals.specs.declared.Refusal.the-variants.{ShortListing}
+use Rattle.refusals.specs.declared.Checked.{Checked}
+use Rattle.refusals.specs.declared.Checked.the-variants.{Accepted, Refused}
+use Rattle.refusals.proofs.FirstOf.{first-passed, first-stopped}
 use Rattle.sweep_tally.specs.Found.{state, found}
 use Rattle.sweep_tally.proofs.Result.{found-sums, found-bytes}
-use Rattle.measure_intake.specs.Intake.{solid, measureTests, answerOf, measuredNumbers, sliceAfter, IndexCall}
+use Rattle.measure_intake.specs.Intake.{solid, measureTests, answerOf, measuredNumbers, IndexCall}
 use Rattle.measure_intake.proofs.IntakeLaws.{answer-numbers}
-use Rattle.job.proofs.OneMore.{too-short, long-enough}
-use Rattle.measure.specs.Answers.{shortListing, listTests, listChecked, listAnswer, listNumbers, listingOver, listingAfter, CornersListed, ListCall}
+use Rattle.refusals.proofs.OneMore.{too-short, long-enough}
+use Rattle.measure.specs.Answers.{shortListing, listTests, listChecked, listAnswer, listNumbers, listingAfter, CornersListed, ListCall}
 use Rattle.measure_intake.specs.declared.Measured.{Measured}
 use Rattle.measure_intake.specs.declared.Measured.the-variants.{Quote, Refused as Unmeasured}
+use Rattle.buffer.specs.Wrote.{inFront}
 
 -- ---- the sums of a sweep are the totals
 module _ (n : ℕ) (s : Cells) (within : Within n s) where
@@ -40,17 +41,17 @@ pub swept-sums : {t : CornerSums} {after : List ℕ} (before : List ℕ) (n : �
 swept-sums before n s e = ap (λ f. f .sums) e ∙ found-sums (corners n s) before
 
 pub swept-listing : {t : CornerSums} {after : List ℕ} (before : List ℕ) (n : ℕ) (s : Cells) → 7 * cornerCount n s ≤ length before → state t after ≡ found (state (sumsOf []) before) (corners n s)
-    → after ≡ listingOver n s before
+    → after ≡ inFront (listing n s) before
 swept-listing before n s h e =
     ap (λ f. f .bytes) e
     ∙ found-bytes (corners n s) before (subst (λ (k : ℕ). 7 * k ≤ length before) (sym (length-corners n s)) h)
-    ∙ ap (λ k. listing n s ++ drop (7 * k) before) (length-corners n s)
+    ∙ ap (λ k. listing n s ++ drop k before) (sym (length-bytes (corners n s)))
 
 -- ---- a listing buffer that is too short or long enough
 module _ (n : ℕ) (s : Cells) (before : List ℕ) where
   -- the buffer after these checks
   left : Checked → List ℕ
-  left c = sliceAfter c before (listingOver n s before)
+  left c = ifAccepted c (λ r. before) (inFront (listing n s) before)
 
   pub short-listing : {c : ℕ} → c ≡ cornerCount n s → length before / 7 < c → CornersListed n s before (Unmeasured (ShortListing c)) before
   unfolding left firstOf
@@ -58,7 +59,7 @@ module _ (n : ℕ) (s : Cells) (before : List ℕ) where
       let l = sym (too-short [] (length before) (7 * cornerCount n s) (ShortListing (cornerCount n s)) refl (omega (arith, e))) in
       record { answer = ap (λ c. Unmeasured (ShortListing c)) e ∙ ap (λ c. answerOf c n s) l; listing = ap left l }
 
-  pub long-listing : {t : Totals} {after : List ℕ} → 7 * cornerCount n s ≤ length before → t ≡ totalsOf n s → after ≡ listingOver n s before → CornersListed n s before (Quote t) after
+  pub long-listing : {t : Totals} {after : List ℕ} → 7 * cornerCount n s ≤ length before → t ≡ totalsOf n s → after ≡ inFront (listing n s) before → CornersListed n s before (Quote t) after
   unfolding left firstOf
   long-listing h e k =
       let l = sym (long-enough [] (length before) (7 * cornerCount n s) (ShortListing (cornerCount n s)) refl h) in

@@ -14,7 +14,7 @@ use lib.Dec.{T}
 use lib.IntN.{natAbs, _+ℤ_}
 use lib.ListN.{length, take, drop}
 use lib.Seq.{take-at}
-use Rattle.job.specs.Job.{Job, jobOf}
+use Rattle.job.specs.Job.{withGrid, Job}
 use Rattle.lattice.specs.Cells.{Cells, Within, lengthBy, eitherEdge}
 use Rattle.lattice.specs.Figures.{Figure, EdgeLength, InnerLength, term}
 use Rattle.lattice.specs.Shots.{Shot, covers}
@@ -41,7 +41,7 @@ module _ {job : Job} {work' : List ℕ} {t : Totals} (a : Accepted job t work') 
   open Job job using (field as F)
 
   within : Within F (solid job)
-  within = valid-within (a .valid)
+  within = valid-within (a .holds-index .valid)
 
   value-sums : (f : Figure) → value f t ≡ cornerSum (term f) (corners F (solid job))
   unfolding sumsOf
@@ -131,15 +131,14 @@ module _ {job : Job} {work' : List ℕ} {t : Totals} (one : Accepted job t work'
   pub count-same : t .corners ≡ t₂ .corners
   count-same = count-corners one ∙ ap length corners-same ∙ sym (count-corners two)
 
--- the grid does not matter: one field, edge and shots, in any two grids that a call accepts, have the same totals and corner count, and
--- the same listing bytes
-module _ {F E G : ℕ} {coords work work' : List ℕ} {t : Totals} (one : MeasureCall (jobOf F E G coords) work (Quote t) work')
-    {G₂ : ℕ} {work₂ work₂' : List ℕ} {t₂ : Totals} (two : MeasureCall (jobOf F E G₂ coords) work₂ (Quote t₂) work₂') where
+-- the grid does not matter: a list, in any two grids that a call accepts, has the same totals and corner count, and the same listing bytes
+module _ {job : Job} {work work' : List ℕ} {t : Totals} (one : MeasureCall job work (Quote t) work')
+    {G₂ : ℕ} {work₂ work₂' : List ℕ} {t₂ : Totals} (two : MeasureCall (withGrid G₂ job) work₂ (Quote t₂) work₂') where
   pub measured-any-grid : t ≡ t₂
   measured-any-grid = measure-accepted one .totals-are ∙ sym (measure-accepted two .totals-are)
 
-module _ {F E G : ℕ} {coords work buffer work' buffer' : List ℕ} {t : Totals} (one : ListCall (jobOf F E G coords) work buffer (Quote t) work' buffer')
-    {G₂ : ℕ} {work₂ buffer₂ work₂' buffer₂' : List ℕ} {t₂ : Totals} (two : ListCall (jobOf F E G₂ coords) work₂ buffer₂ (Quote t₂) work₂' buffer₂') where
+module _ {job : Job} {work buffer work' buffer' : List ℕ} {t : Totals} (one : ListCall job work buffer (Quote t) work' buffer')
+    {G₂ : ℕ} {work₂ buffer₂ work₂' buffer₂' : List ℕ} {t₂ : Totals} (two : ListCall (withGrid G₂ job) work₂ buffer₂ (Quote t₂) work₂' buffer₂') where
   pub totals-any-grid : t ≡ t₂
   totals-any-grid = list-accepted one .totals-are ∙ sym (list-accepted two .totals-are)
 

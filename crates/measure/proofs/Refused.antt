@@ -6,20 +6,21 @@ use mathlib.Core.Logic.{_↔_}
 use Prim.Native.Nat.{ℕ, _*_, _≤_}
 use lib.ListN.{length}
 use Rattle.job.specs.Job.{Job}
-use Rattle.lattice.specs.Listing.{cornerCount}
+use Rattle.lattice.specs.Listing.{cornerCount, listing}
 use Rattle.lattice_sums.specs.CornerSums.{totalsOf}
 use Rattle.lattice_sums.specs.declared.sums.Totals.{Totals}
-use Rattle.job.specs.declared.Refusal.{Refusal}
-use Rattle.job.specs.declared.Refusal.the-variants.{ShortListing}
-use Rattle.job.specs.declared.Checked.the-variants.{Accepted, Refused}
-use Rattle.grid.specs.Grid.{withIndex}
-use Rattle.measure_intake.specs.Intake.{solid, measureTests, measureChecked, answerOf, sliceAfter, workAfter, MeasureAccepts, MeasureRefuses}
+use Rattle.refusals.specs.declared.Refusal.{Refusal}
+use Rattle.refusals.specs.declared.Refusal.the-variants.{ShortListing}
+use Rattle.grid.specs.Grid.{indexOf}
+use Rattle.measure_intake.specs.Intake.{solid, answerOf, workAfter, MeasureAccepts, MeasureRefuses}
 use Rattle.measure_intake.specs.declared.Measured.{Measured}
 use Rattle.measure_intake.specs.declared.Measured.the-variants.{Quote, Refused as Unmeasured}
-use Rattle.job.specs.Conditions.{Decides}
-use Rattle.job.proofs.Deciding.{decides-more}
+use Rattle.refusals.specs.Deciding.{Decides}
+use Rattle.refusals.proofs.Deciding.{decides-more}
 use Rattle.measure_intake.proofs.Refused.{answer-refused, answer-accepted, measure-decides}
-use Rattle.measure.specs.Answers.{listTests, listChecked, listAnswer, listingOver, listingAfter, ListCall, ListAccepts, ListRefuses}
+use Rattle.measure.specs.Answers.{listTests, listChecked, listAnswer, listingAfter, ListCall, ListAccepts, ListRefuses}
+use Rattle.buffer.specs.Wrote.{inFront}
+use Rattle.refusals.specs.Tests.{ifAccepted}
 
 -- ---- the checks of listing
 module _ (job : Job) (entries room : ℕ) where
@@ -63,15 +64,15 @@ module _ {job : Job} {work buffer work' buffer' : List ℕ} {m : Measured} (call
   unfolding listAnswer listingAfter
   list-refused-keeps r e =
       let k = answer-refused (listChecked job (length work) (length buffer)) F (solid job) r .0 (sym (call .answer) ∙ e) in
-      call .listing ∙ ap (λ c. sliceAfter c buffer (listingOver F (solid job) buffer)) k
+      call .listing ∙ ap (λ c. ifAccepted c (λ r. buffer) (inFront (listing F (solid job)) buffer)) k
 
   -- and the work slice too, but where measuring accepts, as at 11: then it holds the finished index
   pub list-work-kept : (r : Refusal) → MeasureRefuses job (length work) r → work' ≡ work
   unfolding workAfter
   list-work-kept r h =
-      call .index ∙ ap (λ c. sliceAfter c work (withIndex job work)) (measure-decides job (length work) .refused r .1 h)
+      call .index ∙ ap (λ c. ifAccepted c (λ r. work) (inFront (indexOf job) work)) (measure-decides job (length work) .refused r .1 h)
 
-  pub list-work-done : MeasureAccepts job (length work) → work' ≡ withIndex job work
+  pub list-work-done : MeasureAccepts job (length work) → work' ≡ inFront (indexOf job) work
   unfolding workAfter
   list-work-done h =
-      call .index ∙ ap (λ c. sliceAfter c work (withIndex job work)) (measure-decides job (length work) .accepted .1 h)
+      call .index ∙ ap (λ c. ifAccepted c (λ r. work) (inFront (indexOf job) work)) (measure-decides job (length work) .accepted .1 h)

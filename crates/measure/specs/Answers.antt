@@ -4,22 +4,23 @@ use mathlib.Core.Path.{_≡_}
 use mathlib.Core.List.{List, [], _∷_, _++_}
 use mathlib.Core.Logic.{_⊎_}
 use Prim.Native.Nat.{ℕ, _*_, _≤_, _<_}
-use lib.Dec.{ltb}
-use lib.ListN.{length, drop}
+use lib.ListN.{length}
 use Rattle.job.specs.Job.{Job}
 use Rattle.lattice.specs.Cells.{Cells}
 use Rattle.lattice.specs.Listing.{cornerCount, listing}
-use Rattle.job.specs.Checking.{Test, firstOf}
-use Rattle.job.specs.declared.Refusal.{Refusal}
-use Rattle.job.specs.declared.Refusal.the-variants.{ShortListing}
-use Rattle.job.specs.declared.Checked.{Checked}
-use Rattle.measure_intake.specs.Intake.{solid, measureTests, answerOf, MeasuredNumbers, measuredNumbers, numbersAfter, sliceAfter, workAfter, MeasureAccepts, MeasureRefuses}
+use Rattle.refusals.specs.Tests.{lengthTest, ifAccepted, Test, firstOf}
+use Rattle.refusals.specs.declared.Refusal.{Refusal}
+use Rattle.refusals.specs.declared.Refusal.the-variants.{ShortListing}
+use Rattle.refusals.specs.declared.Checked.{Checked}
+use Rattle.measure_intake.specs.Intake.{solid, measureTests, answerOf, MeasuredNumbers, measuredNumbers, numbersAfter, workAfter, MeasureAccepts, MeasureRefuses}
 use Rattle.measure_intake.specs.declared.Measured.{Measured}
+use Rattle.buffer.specs.Wrote.{inFront}
+use Rattle.refusals.specs.Deciding.{Gives}
 
 -- ---- the checks
 -- refusal 11: a listing buffer of so many bytes is shorter than 7 times the corner count
 abbrev pub shortListing : ℕ → Cells → ℕ → Test
-shortListing F s room = record { holds = ltb room (7 * cornerCount F s); gives = ShortListing (cornerCount F s) }
+shortListing F s room = lengthTest room (7 * cornerCount F s) (ShortListing (cornerCount F s))
 
 -- the tests of listing: those of measuring, and then 11
 unfoldable pub listTests : Job → ℕ → ℕ → List Test
@@ -39,19 +40,16 @@ listAnswer job entries room = answerOf (listChecked job entries room) job.field 
 unfoldable pub listNumbers : Job → ℕ → ℕ → MeasuredNumbers
 listNumbers job entries room = numbersAfter (listChecked job entries room) job.field (solid job)
 
--- the listing, and the bytes after the last record as they were
-abbrev pub listingOver : ℕ → Cells → List ℕ → List ℕ
-listingOver F s buffer = listing F s ++ drop (7 * cornerCount F s) buffer
-
+-- the buffer: the listing, and the bytes after the last record as they were
 unfoldable pub listingAfter : Job → ℕ → List ℕ → List ℕ
 listingAfter job entries buffer =
-    sliceAfter (listChecked job entries (length buffer)) buffer (listingOver job.field (solid job) buffer)
+    ifAccepted (listChecked job entries (length buffer)) (λ r. buffer) (inFront (listing job.field (solid job)) buffer)
 
 -- ---- the promises
 -- listing the cells of an accepted list: refusal 11, or the totals and the listing
 pub record CornersListed (F : ℕ) (s : Cells) (buffer : List ℕ) (r : Measured) (buffer' : List ℕ) : Type 0 where
   pub answer : r ≡ answerOf (roomChecked F s (length buffer)) F s
-  pub listing : buffer' ≡ sliceAfter (roomChecked F s (length buffer)) buffer (listingOver F s buffer)
+  pub listing : buffer' ≡ ifAccepted (roomChecked F s (length buffer)) (λ r. buffer) (inFront (listing F s) buffer)
 
 -- listing a list
 pub record ListCall (job : Job) (work buffer : List ℕ) (r : Measured) (work' buffer' : List ℕ) : Type 0 where
@@ -69,4 +67,4 @@ abbrev pub ListRefuses : Job → ℕ → ℕ → Refusal → Type 0
 ListRefuses job entries room r =
     MeasureRefuses job entries r
     ⊎ (MeasureAccepts job entries
-    × (room < 7 * cornerCount job.field (solid job)) × (ShortListing (cornerCount job.field (solid job)) ≡ r))
+    × Gives (room < 7 * cornerCount job.field (solid job)) (ShortListing (cornerCount job.field (solid job))) r)

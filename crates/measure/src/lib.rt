@@ -7,21 +7,22 @@
 ghost use mathlib.Core.Path.{_≡_};
 ghost use Prim.Native.Nat.{_*_, _≤_};
 ghost use lib.ListN.{length};
-ghost use Rattle.lattice.specs.Listing.{cornerCount};
+ghost use Rattle.lattice.specs.Listing.{listing, cornerCount};
 ghost use Rattle.lattice_sums.specs.CornerSums.{totalsOf};
-ghost use Rattle.job.specs.Job.{jobOf, Valid};
+ghost use Rattle.job.specs.Job.{jobOf};
 ghost use Rattle.grid.specs.Grid.{Holds};
 ghost use Rattle.measure_intake.specs.Intake.{solid, MeasureCall};
-ghost use Rattle.measure.specs.Answers.{listingOver, CornersListed, ListCall};
-use job::Checked;
-use job::Refusal;
+ghost use Rattle.measure.specs.Answers.{CornersListed, ListCall};
+ghost use Rattle.buffer.specs.Wrote.{inFront};
 use lattice_sums::sums::Totals;
 use measure_intake::Measured;
 use measure_intake::indexed;
+use refusals::Checked;
+use refusals::Refusal;
 
 // The totals of a valid list whose index stands in the work slice.
 fn count(field: u16, edge: u16, grid: u16, coords: &[u16], work: &[u32]) -> Totals
-    requires { ⌜ Valid (jobOf field edge grid (now coords)) × Holds (jobOf field edge grid (now coords)) (now work) ⌝ }
+    requires { ⌜ Holds (jobOf field edge grid (now coords)) (now work) ⌝ }
     ensures { λ r. ⌜ r ≡ totalsOf field (solid (jobOf field edge grid (now (coords .entry)))) ⌝ }
 {
     let mut no_room = [0u8; 1];
@@ -31,9 +32,9 @@ fn count(field: u16, edge: u16, grid: u16, coords: &[u16], work: &[u32]) -> Tota
 
 // Puts the listing of a valid list whose index stands in the work slice into a buffer that has room for it.
 fn store(field: u16, edge: u16, grid: u16, coords: &[u16], work: &[u32], buffer: &mut [u8])
-    requires { ⌜ Valid (jobOf field edge grid (now coords)) × Holds (jobOf field edge grid (now coords)) (now work) ⌝ }
+    requires { ⌜ Holds (jobOf field edge grid (now coords)) (now work) ⌝ }
     requires { ⌜ 7 * cornerCount field (solid (jobOf field edge grid (now coords))) ≤ length (now buffer) ⌝ }
-    ensures { λ _. ⌜ now (buffer .exit) ≡ listingOver field (solid (jobOf field edge grid (now (coords .entry)))) (now (buffer .entry)) ⌝ }
+    ensures { λ _. ⌜ now (buffer .exit) ≡ inFront (listing field (solid (jobOf field edge grid (now (coords .entry))))) (now (buffer .entry)) ⌝ }
 {
     sweep::sweep(field, edge, grid, coords, work, buffer);
 }
@@ -47,7 +48,7 @@ fn list_corners(
     work: &[u32],
     buffer: &mut [u8],
 ) -> Measured
-    requires { ⌜ Valid (jobOf field edge grid (now coords)) × Holds (jobOf field edge grid (now coords)) (now work) ⌝ }
+    requires { ⌜ Holds (jobOf field edge grid (now coords)) (now work) ⌝ }
     ensures { λ r. ⌜ CornersListed field (solid (jobOf field edge grid (now (coords .entry)))) (now (buffer .entry)) r (now (buffer .exit)) ⌝ }
 {
     let totals = count(field, edge, grid, coords, work);

@@ -25,7 +25,7 @@ use Rattle.grid_cover.proofs.CoverLaws.{run-none}
 use Rattle.grid_cover.proofs.CoverRuns.{OnInterval, run-around}
 use Rattle.measure_tallies.specs.Tallies.{atPattern, plus}
 use Rattle.measure_lines.specs.Lines.{reachesLine}
-use Rattle.measure_cells.specs.Points.{lineTo, lineFrom, quad, InInterval, Between}
+use Rattle.measure_cells.specs.Points.{lineTo, lineFrom, quad, InInterval, PointsInInterval}
 use Rattle.measure_lines.proofs.LineLaws.{narrowed-around}
 use Rattle.measure_cells.proofs.SumLaws.{sums-none, sums-turn, sums-add, sum-agree}
 
@@ -155,13 +155,13 @@ module _ (job : Job) (v : Valid job) (x y gx gy gz : ℕ) (hx : InInterval (job.
           on : {g x : ℕ} → InInterval (F / G) G g x → OnInterval (F / G) g x
           on i = record { low = i .low; high = i .high }
 
-      pub points-are : (from points : ℕ) → Between (F / G) G gz from points → {few : List ℕ} → few ≡ those (reachesLine E coords x y) run → (t : Totals) {r : Totals} → r ≡ plus t (lineFrom (runCovers E coords few) x y from points) → r ≡ plus t (lineFrom (cells (shots job)) x y from points)
+      pub points-are : (from points : ℕ) → PointsInInterval (F / G) G gz from points → {few : List ℕ} → few ≡ those (reachesLine E coords x y) run → (t : Totals) {r : Totals} → r ≡ plus t (lineFrom (runCovers E coords few) x y from points) → r ≡ plus t (lineFrom (cells (shots job)) x y from points)
       points-are from points b ef t k =
           k ∙ rw ef (ap (plus t) (sum-agree points _ _ λ i l. ap atPattern (point-pattern (from + i) (record { low = omega (arith, b .low); high = omega (arith, b .high) }))))
 
 -- the points of an interval are below 1,025
-pub between-most : {job : Job} → Valid job → (g from points : ℕ) → Between (job.field / job.grid) job.grid g from points → from + points ≤ 1025
-between-most {job} v g from points b = omega (arith, b .high, mul-le-mul-right {m = g + 1} {n = job.grid} (job.field / job.grid) (omega (arith, b .below)), width-times v, v .field-most)
+pub interval-points-most : {job : Job} → Valid job → (g from points : ℕ) → PointsInInterval (job.field / job.grid) job.grid g from points → from + points ≤ 1025
+interval-points-most {job} v g from points b = omega (arith, b .high, mul-le-mul-right {m = g + 1} {n = job.grid} (job.field / job.grid) (omega (arith, b .below)), width-times v, v .field-most)
 
 -- ---- interval by interval
 
@@ -174,12 +174,12 @@ module _ {job : Job} (v : Valid job) (g : ℕ) (h : g < job.grid) where
   pub interval-fits : g * (F / G) ≤ 1024
   interval-fits = omega (arith, interval-ends, v .field-most)
 
-  pub interval-between : Between (F / G) G g (g * (F / G)) (F / G)
-  interval-between = record { below = h; low = omega arith; high = omega (arith, add-mul g 1 (F / G), one-mul (F / G)) }
+  pub interval-points : PointsInInterval (F / G) G g (g * (F / G)) (F / G)
+  interval-points = record { below = h; low = omega arith; high = omega (arith, add-mul g 1 (F / G), one-mul (F / G)) }
 
 -- the point of the far side
-pub last-between : {job : Job} → Valid job → Between (job.field / job.grid) job.grid (job.grid - 1) job.field 1
-last-between {job} v =
+pub last-interval-points : {job : Job} → Valid job → PointsInInterval (job.field / job.grid) job.grid (job.grid - 1) job.field 1
+last-interval-points {job} v =
     let g : job.grid - 1 + 1 ≡ job.grid = omega (arith, v .grid-least) in
     record {
       below = omega (arith, v .grid-least);

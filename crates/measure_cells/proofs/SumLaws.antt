@@ -8,7 +8,7 @@ use Rattle.lattice.specs.Cells.{Cells}
 use Rattle.lattice.specs.Pattern.{Pattern, around}
 use Rattle.lattice_sums.specs.declared.sums.Totals.{Totals}
 use Rattle.measure_tallies.specs.Tallies.{atPattern, nothing, plus, AtMost}
-use Rattle.measure_cells.specs.Points.{sumTo, lineTo, planeTo, fieldTo}
+use Rattle.measure_cells.specs.Points.{sumTo, lineTo, planeTo, fieldTo, beforeLine, beforePlane}
 use Rattle.measure_tallies.proofs.TallyLaws.{pattern-most}
 
 plus-assoc : (t u v : Totals) → plus (plus t u) v ≡ plus t (plus u v)
@@ -112,8 +112,8 @@ module _ (s : Cells) where
   field-most : (n m l : ℕ) → n ≤ 1025 → m ≤ 1025 → l ≤ 1025 → AtMost 6461343750 (fieldTo s n m l)
   field-most n m l h k i = weaker (l * 6303750) 6461343750 _ (omega arith) (sum-most 6303750 (λ x. planeTo s n m x) (λ x. plane-most n m h k x) l)
 
-  pub plane-low : (n m x : ℕ) → n ≤ 1025 → m ≤ 1025 → (t₀ : Totals) {t : Totals} → AtMost 576460752303423488 t₀ → t ≡ plus t₀ (planeTo s n m x) → AtMost 1152921504606846976 t
-  plane-low n m x h i t₀ k e = rw e (plus-most 576460752303423488 6303750 1152921504606846976 t₀ (planeTo s n m x) k (plane-most n m h i x) (omega arith))
+  pub plane-low : (n m x : ℕ) → n ≤ 1025 → m ≤ 1025 → (t₀ : Totals) {t : Totals} → AtMost beforePlane t₀ → t ≡ plus t₀ (planeTo s n m x) → AtMost beforeLine t
+  plane-low n m x h i t₀ k e = rw e (plus-most beforePlane 6303750 beforeLine t₀ (planeTo s n m x) k (plane-most n m h i x) (omega arith))
 
-  pub field-low : (n m l : ℕ) → n ≤ 1025 → m ≤ 1025 → l ≤ 1025 → {t : Totals} → t ≡ fieldTo s n m l → AtMost 576460752303423488 t
-  field-low n m l h i k e = rw e (weaker 6461343750 576460752303423488 _ (omega arith) (field-most n m l h i k))
+  pub field-low : (n m l : ℕ) → n ≤ 1025 → m ≤ 1025 → l ≤ 1025 → {t : Totals} → t ≡ fieldTo s n m l → AtMost beforePlane t
+  field-low n m l h i k e = rw e (weaker 6461343750 beforePlane _ (omega arith) (field-most n m l h i k))

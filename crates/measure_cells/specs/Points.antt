@@ -37,7 +37,7 @@ pub record InInterval (s G g x : ℕ) : Type 0 where
   pub high : x ≤ (g + 1) * s
 
 -- the points from one on are in interval g of G intervals of width s, ends included
-pub record Between (s G g from points : ℕ) : Type 0 where
+pub record PointsInInterval (s G g from points : ℕ) : Type 0 where
   pub below : g < G
   pub low : g * s ≤ from
   pub high : from + points ≤ (g + 1) * s + 1
@@ -45,3 +45,14 @@ pub record Between (s G g from points : ℕ) : Type 0 where
 -- the planes of points of a field before x
 abbrev pub planesTo : ℕ → Cells → ℕ → Totals
 planesTo F s x = fieldTo s (F + 1) (F + 1) x
+
+-- the most that a figure may be before points of a line are added, before lines of a plane, and before planes of a field: 2⁶¹, 2⁶⁰ and 2⁵⁹,
+-- each half of the one before, since what is added is less than the half that is left
+abbrev pub beforePoints : ℕ
+beforePoints = 2305843009213693952
+
+abbrev pub beforeLine : ℕ
+beforeLine = 1152921504606846976
+
+abbrev pub beforePlane : ℕ
+beforePlane = 576460752303423488

@@ -7,9 +7,9 @@ pub mod points;
 ghost use Rattle.job.specs.Job.{jobOf};
 ghost use Rattle.measure_intake.specs.Intake.{MeasureCall};
 use crate::points::count_field;
-use job::Checked;
 use measure_intake::Measured;
 use measure_intake::indexed;
+use refusals::Checked;
 
 // Counts a list: the answer and the index of the measuring call, by counting.
 pub fn recount(field: u16, edge: u16, grid: u16, coords: &[u16], work: &mut [u32]) -> Measured

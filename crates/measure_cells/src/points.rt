@@ -8,11 +8,11 @@ ghost use Rattle.ground.specs.Numbers.{bit};
 ghost use Rattle.lattice.specs.Cells.{below};
 ghost use Rattle.lattice.specs.Shots.{cells};
 ghost use Rattle.lattice_sums.specs.CornerSums.{totalsOf};
-ghost use Rattle.job.specs.Job.{jobOf, shotsOf, Valid};
+ghost use Rattle.job.specs.Job.{jobOf, shotsOf};
 ghost use Rattle.grid.specs.Grid.{Holds};
 ghost use Rattle.grid_cover.specs.Cover.{runCovers};
 ghost use Rattle.measure_tallies.specs.Tallies.{plus, AtMost};
-ghost use Rattle.measure_cells.specs.Points.{lineFrom, lineTo, planeTo, planesTo, quad, InInterval, Between};
+ghost use Rattle.measure_cells.specs.Points.{lineFrom, lineTo, planeTo, planesTo, quad, InInterval, PointsInInterval, beforePoints, beforeLine, beforePlane};
 use grid::intervals::cells_of;
 use grid_cover::Covering;
 use grid_cover::first_covering;
@@ -72,7 +72,7 @@ fn count_points(
     requires { ⌜ x ≤ 1024 ⌝ }
     requires { ⌜ y ≤ 1024 ⌝ }
     requires { ⌜ from + points ≤ 1025 ⌝ }
-    requires { ⌜ AtMost 2305843009213693952 t ⌝ }
+    requires { ⌜ AtMost beforePoints t ⌝ }
     ensures { λ r. ⌜ r ≡ plus t (lineFrom (runCovers edge (now (coords .entry)) (now (run .entry))) x y from points) ⌝ }
 {
     let mut sums = t;
@@ -115,13 +115,12 @@ fn count_interval(
     few: &mut [u32],
     t: Totals,
 ) -> Totals
-    requires { ⌜ Valid (jobOf field edge grid (now coords)) ⌝ }
     requires { ⌜ Holds (jobOf field edge grid (now coords)) (now work) ⌝ }
     requires { ⌜ x ≤ field ⌝ }
     requires { ⌜ y ≤ field ⌝ }
-    requires { ⌜ Between (field / grid) grid gz from points ⌝ }
+    requires { ⌜ PointsInInterval (field / grid) grid gz from points ⌝ }
     requires { ⌜ length (now few) ≡ 4096 ⌝ }
-    requires { ⌜ AtMost 2305843009213693952 t ⌝ }
+    requires { ⌜ AtMost beforePoints t ⌝ }
     ensures { λ r. ⌜ r ≡ plus t (lineFrom (cells (shotsOf edge (now (coords .entry)))) x y from points) ⌝ }
 {
     let gx = interval_at(field, grid, x) as usize;
@@ -145,12 +144,11 @@ fn count_intervals(
     few: &mut [u32],
     t: Totals,
 ) -> Totals
-    requires { ⌜ Valid (jobOf field edge grid (now coords)) ⌝ }
     requires { ⌜ Holds (jobOf field edge grid (now coords)) (now work) ⌝ }
     requires { ⌜ x ≤ field ⌝ }
     requires { ⌜ y ≤ field ⌝ }
     requires { ⌜ length (now few) ≡ 4096 ⌝ }
-    requires { ⌜ AtMost 1152921504606846976 t ⌝ }
+    requires { ⌜ AtMost beforeLine t ⌝ }
     ensures { λ r. ⌜ r ≡ plus t (lineTo (cells (shotsOf edge (now (coords .entry)))) field x y) ⌝ }
 {
     let width = field / grid;
@@ -186,12 +184,11 @@ fn count_line(
     few: &mut [u32],
     t: Totals,
 ) -> Totals
-    requires { ⌜ Valid (jobOf field edge grid (now coords)) ⌝ }
     requires { ⌜ Holds (jobOf field edge grid (now coords)) (now work) ⌝ }
     requires { ⌜ x ≤ field ⌝ }
     requires { ⌜ y ≤ field ⌝ }
     requires { ⌜ length (now few) ≡ 4096 ⌝ }
-    requires { ⌜ AtMost 1152921504606846976 t ⌝ }
+    requires { ⌜ AtMost beforeLine t ⌝ }
     ensures { λ r. ⌜ r ≡ plus t (lineTo (cells (shotsOf edge (now (coords .entry)))) (field + 1) x y) ⌝ }
 {
     let sums = count_intervals(field, edge, grid, coords, work, x, y, few, t);
@@ -222,11 +219,10 @@ fn count_plane(
     few: &mut [u32],
     t: Totals,
 ) -> Totals
-    requires { ⌜ Valid (jobOf field edge grid (now coords)) ⌝ }
     requires { ⌜ Holds (jobOf field edge grid (now coords)) (now work) ⌝ }
     requires { ⌜ x ≤ field ⌝ }
     requires { ⌜ length (now few) ≡ 4096 ⌝ }
-    requires { ⌜ AtMost 576460752303423488 t ⌝ }
+    requires { ⌜ AtMost beforePlane t ⌝ }
     ensures { λ r. ⌜ r ≡ plus t (planeTo (cells (shotsOf edge (now (coords .entry)))) (field + 1) (field + 1) x) ⌝ }
 {
     let mut sums = t;
@@ -249,7 +245,6 @@ pub fn count_planes(
     to: u16,
     t: Totals,
 ) -> Totals
-    requires { ⌜ Valid (jobOf field edge grid (now coords)) ⌝ }
     requires { ⌜ Holds (jobOf field edge grid (now coords)) (now work) ⌝ }
     requires { ⌜ from ≤ to ⌝ }
     requires { ⌜ to ≤ field + 1 ⌝ }
@@ -266,7 +261,6 @@ pub fn count_planes(
 
 // The totals and the corner count of a list whose index the work slice holds.
 pub fn count_field(field: u16, edge: u16, grid: u16, coords: &[u16], work: &[u32]) -> Totals
-    requires { ⌜ Valid (jobOf field edge grid (now coords)) ⌝ }
     requires { ⌜ Holds (jobOf field edge grid (now coords)) (now work) ⌝ }
     ensures { λ r. ⌜ r ≡ totalsOf field (cells (shotsOf edge (now (coords .entry)))) ⌝ }
 {

@@ -1,6 +1,6 @@
 -- How the promises follow from the checks, the length of the work slice and the index, and what is known of an accepted list.
 use mathlib.Core.Path.{_≡_, refl, sym, _∙_, ap}
-use mathlib.Core.List.{List, [], _∷_, _++_}
+use mathlib.Core.List.{List, [], _∷_}
 use Prim.Native.Nat.{ℕ, _≤_, _<_}
 use native.Mathlib.Omega.{arith}
 use lib.ListN.{length, drop}
@@ -9,25 +9,27 @@ use Rattle.lattice_sums.specs.CornerSums.{totalsOf}
 use Rattle.lattice_sums.specs.declared.sums.Totals.{Totals}
 use Rattle.job.specs.Job.{Job, Valid}
 use Rattle.job.specs.Checking.{tests, checked}
-use Rattle.job.specs.declared.Refusal.{Refusal}
-use Rattle.job.specs.declared.Refusal.the-variants.{ShortWork}
-use Rattle.job.specs.declared.Checked.{Checked}
-use Rattle.job.specs.declared.Checked.the-variants.{Accepted, Refused}
+use Rattle.refusals.specs.declared.Refusal.{Refusal}
+use Rattle.refusals.specs.declared.Refusal.the-variants.{ShortWork}
+use Rattle.refusals.specs.declared.Checked.{Checked}
+use Rattle.refusals.specs.declared.Checked.the-variants.{Accepted, Refused}
 use Rattle.job.proofs.Conditions.{accepted-valid}
-use Rattle.job.proofs.Places.{first-stopped, checks}
-use Rattle.grid.specs.Grid.{need, withIndex, Holds}
-use Rattle.measure_intake.specs.Intake.{solid, shortWork, measureTests, measureChecked, answerOf, measureAnswer, measuredNumbers, numbersAfter, measureNumbers, sliceAfter, workAfter, IndexCall, MeasureCall}
+use Rattle.refusals.proofs.FirstOf.{first-stopped, checks}
+use Rattle.grid.specs.Grid.{indexOf, need, Holds}
+use Rattle.measure_intake.specs.Intake.{solid, shortWork, measureTests, measureChecked, answerOf, measureAnswer, measuredNumbers, numbersAfter, measureNumbers, workAfter, IndexCall, MeasureCall}
 use Rattle.measure_intake.specs.declared.Measured.{Measured}
 use Rattle.measure_intake.specs.declared.Measured.the-variants.{Quote, Refused as Unmeasured}
-use Rattle.job.proofs.OneMore.{too-short, long-enough}
-use Rattle.job.proofs.Deciding.{call-accepts}
+use Rattle.refusals.proofs.OneMore.{too-short, long-enough}
+use Rattle.refusals.proofs.Deciding.{call-accepts}
 use Rattle.measure_intake.proofs.Refused.{measure-decides}
+use Rattle.buffer.specs.Wrote.{inFront}
+use Rattle.refusals.specs.Tests.{ifAccepted}
 
 -- ---- the intake
 module _ (job : Job) (work : List ℕ) where
   -- the work slice after these checks
   left : Checked → List ℕ
-  left c = sliceAfter c work (withIndex job work)
+  left c = ifAccepted c (λ r. work) (inFront (indexOf job) work)
 
   intake-is : {c : Checked} {work' : List ℕ} → c ≡ measureChecked job (length work) → work' ≡ left c → IndexCall job work c work'
   unfolding workAfter left
@@ -49,20 +51,18 @@ module _ (job : Job) (work : List ℕ) where
     short-intake e h =
         intake-is (ap (λ n. Refused (ShortWork n)) e ∙ sym (too-short (tests job) (length work) (need job) (ShortWork (need job)) accepted (omega (arith, e)))) refl
 
-    pub long-intake : {n : ℕ} {work' : List ℕ} → n ≡ need job → n ≤ length work → work' ≡ withIndex job work
+    pub long-intake : {n : ℕ} {work' : List ℕ} → n ≡ need job → n ≤ length work → work' ≡ inFront (indexOf job) work
         → IndexCall job work Accepted work'
     unfolding measureTests left
     long-intake e h k = intake-is (sym (long-enough (tests job) (length work) (need job) (ShortWork (need job)) accepted (omega (arith, e)))) k
 
--- ---- an accepted list: it is valid, and the work slice holds its index
+-- ---- an accepted list is valid, and the work slice holds its index
 module _ {job : Job} {work work' : List ℕ} {c : Checked} (call : IndexCall job work c work') (k : c ≡ Accepted) where
-  pub accepted-list : Valid job
-  accepted-list = call-accepts (measure-decides job (length work)) (call .answer) .0 k .0
-
   pub accepted-holds : Holds job work'
   unfolding workAfter left
   accepted-holds = record {
-    rest = drop (need job) work;
+    valid = call-accepts (measure-decides job (length work)) (call .answer) .0 k .0;
+    rest = drop (length (indexOf job)) work;
     is = call .index ∙ ap (left job work) (sym (call .answer) ∙ k);
   }
 

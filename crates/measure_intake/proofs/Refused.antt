@@ -10,16 +10,19 @@ use Rattle.job.specs.Job.{Job}
 use Rattle.lattice.specs.Cells.{Cells}
 use Rattle.lattice_sums.specs.CornerSums.{totalsOf}
 use Rattle.lattice_sums.specs.declared.sums.Totals.{Totals}
-use Rattle.job.specs.Conditions.{Decides}
-use Rattle.job.proofs.Deciding.{job-decides, decides-more, call-accepts, call-refuses}
-use Rattle.job.specs.declared.Refusal.{Refusal}
-use Rattle.job.specs.declared.Refusal.the-variants.{ShortWork}
-use Rattle.job.specs.declared.Checked.{Checked}
-use Rattle.job.specs.declared.Checked.the-variants.{Accepted, Refused}
-use Rattle.grid.specs.Grid.{need, withIndex}
-use Rattle.measure_intake.specs.Intake.{solid, measureTests, measureChecked, answerOf, measureAnswer, sliceAfter, workAfter, IndexCall, MeasureCall, MeasureAccepts, MeasureRefuses}
+use Rattle.refusals.specs.Deciding.{Decides}
+use Rattle.job.proofs.Conditions.{job-decides}
+use Rattle.refusals.proofs.Deciding.{decides-more, call-accepts, call-refuses}
+use Rattle.refusals.specs.declared.Refusal.{Refusal}
+use Rattle.refusals.specs.declared.Refusal.the-variants.{ShortWork}
+use Rattle.refusals.specs.declared.Checked.{Checked}
+use Rattle.refusals.specs.declared.Checked.the-variants.{Accepted, Refused}
+use Rattle.grid.specs.Grid.{indexOf, need}
+use Rattle.measure_intake.specs.Intake.{solid, measureTests, measureChecked, answerOf, measureAnswer, workAfter, IndexCall, MeasureCall, MeasureAccepts, MeasureRefuses}
 use Rattle.measure_intake.specs.declared.Measured.{Measured}
 use Rattle.measure_intake.specs.declared.Measured.the-variants.{Quote, Refused as Unmeasured}
+use Rattle.buffer.specs.Wrote.{inFront}
+use Rattle.refusals.specs.Tests.{ifAccepted}
 
 -- an answer is a refusal if and only if the checks give it, and a quote if and only if they pass
 pub answer-refused : (c : Checked) (F : ℕ) (s : Cells) (r : Refusal) → (answerOf c F s ≡ Unmeasured r) ↔ (c ≡ Refused r)
@@ -74,4 +77,4 @@ module _ {job : Job} {work work' : List ℕ} {m : Measured} (call : MeasureCall 
   unfolding measureAnswer workAfter
   measure-refused-keeps r e =
       let k = answer-refused (measureChecked job (length work)) F (solid job) r .0 (sym (call .answer) ∙ e) in
-      call .index ∙ ap (λ c. sliceAfter c work (withIndex job work)) k
+      call .index ∙ ap (λ c. ifAccepted c (λ r. work) (inFront (indexOf job) work)) k

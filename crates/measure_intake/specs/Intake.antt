@@ -5,21 +5,22 @@ use mathlib.Core.Path.{_≡_}
 use mathlib.Core.List.{List, [], _∷_, _++_}
 use mathlib.Core.Logic.{_⊎_}
 use Prim.Native.Nat.{ℕ, _≤_, _<_}
-use lib.Dec.{ltb}
 use lib.ListN.{length}
 use Rattle.lattice.specs.Cells.{Cells}
 use Rattle.lattice.specs.Shots.{cells}
 use Rattle.lattice_sums.specs.CornerSums.{totalsOf}
 use Rattle.lattice_sums.specs.declared.sums.Totals.{Totals}
 use Rattle.job.specs.Job.{Job, shots, Valid}
-use Rattle.job.specs.Refusals.{numberOf, detailOf, checkedNumbers}
-use Rattle.job.specs.Checking.{Test, firstOf, firstNumbers, tests}
-use Rattle.job.specs.Conditions.{Condition, First}
-use Rattle.job.specs.declared.Refusal.{Refusal}
-use Rattle.job.specs.declared.Refusal.the-variants.{ShortWork}
-use Rattle.job.specs.declared.Checked.{Checked}
-use Rattle.job.specs.declared.Checked.the-variants.{Accepted, Refused}
-use Rattle.grid.specs.Grid.{need, withIndex}
+use Rattle.refusals.specs.Refusals.{numberOf, detailOf, checkedNumbers}
+use Rattle.refusals.specs.Tests.{Test, lengthTest, firstOf, firstNumbers, ifAccepted}
+use Rattle.job.specs.Checking.{tests}
+use Rattle.job.specs.Conditions.{Condition}
+use Rattle.refusals.specs.Deciding.{First, Gives}
+use Rattle.refusals.specs.declared.Refusal.{Refusal}
+use Rattle.refusals.specs.declared.Refusal.the-variants.{ShortWork}
+use Rattle.refusals.specs.declared.Checked.{Checked}
+use Rattle.buffer.specs.Wrote.{inFront}
+use Rattle.grid.specs.Grid.{indexOf, need}
 use Rattle.measure_intake.specs.declared.Measured.{Measured}
 use Rattle.measure_intake.specs.declared.Measured.the-variants.{Quote, Refused as Unmeasured}
 
@@ -49,7 +50,7 @@ measuredNumbers (Unmeasured r) = refusedNumbers r
 -- ---- the checks
 -- refusal 10: a work slice of so many entries is shorter than needed
 abbrev pub shortWork : Job → ℕ → Test
-shortWork job entries = record { holds = ltb entries (need job); gives = ShortWork (need job) }
+shortWork job entries = lengthTest entries (need job) (ShortWork (need job))
 
 -- the tests of measuring: 1, 2, 6, 7, 8, 9 of the list, and then 10
 unfoldable pub measureTests : Job → ℕ → List Test
@@ -61,18 +62,11 @@ measureChecked job entries = firstOf (measureTests job entries)
 -- ---- what is answered and left, by the checks
 -- a refusal, or the totals
 abbrev pub answerOf : Checked → ℕ → Cells → Measured
-answerOf Accepted F s = Quote (totalsOf F s)
-answerOf (Refused r) F s = Unmeasured r
+answerOf c F s = ifAccepted c Unmeasured (Quote (totalsOf F s))
 
 -- and the numbers: of a refusal its own, otherwise the cell counts and the corner count
 abbrev pub numbersAfter : Checked → ℕ → Cells → MeasuredNumbers
-numbersAfter Accepted F s = quoteNumbers (totalsOf F s)
-numbersAfter (Refused r) F s = refusedNumbers r
-
--- a lent slice: as it was after a refusal, and done otherwise
-abbrev pub sliceAfter : Checked → List ℕ → List ℕ → List ℕ
-sliceAfter Accepted kept done = done
-sliceAfter (Refused r) kept done = kept
+numbersAfter c F s = ifAccepted c refusedNumbers (quoteNumbers (totalsOf F s))
 
 unfoldable pub measureAnswer : Job → ℕ → Measured
 measureAnswer job entries = answerOf (measureChecked job entries) job.field (solid job)
@@ -80,9 +74,9 @@ measureAnswer job entries = answerOf (measureChecked job entries) job.field (sol
 unfoldable pub measureNumbers : Job → ℕ → MeasuredNumbers
 measureNumbers job entries = numbersAfter (measureChecked job entries) job.field (solid job)
 
--- the finished index and the entries past it; refusal 11 comes after it
+-- the work slice: the finished index and the entries past it, or as it was; 11 and 16 come after the index
 unfoldable pub workAfter : Job → List ℕ → List ℕ
-workAfter job work = sliceAfter (measureChecked job (length work)) work (withIndex job work)
+workAfter job work = ifAccepted (measureChecked job (length work)) (λ r. work) (inFront (indexOf job) work)
 
 -- ---- the promises
 -- the intake of a list: what it answers of the list and a work slice, and what the slice is then
@@ -105,4 +99,4 @@ MeasureAccepts job entries = Valid job × (need job ≤ entries)
 abbrev pub MeasureRefuses : Job → ℕ → Refusal → Type 0
 MeasureRefuses job entries r =
     First (Condition job) (tests job) r
-    ⊎ (Valid job × (entries < need job) × (ShortWork (need job) ≡ r))
+    ⊎ (Valid job × Gives (entries < need job) (ShortWork (need job)) r)

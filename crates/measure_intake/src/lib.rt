@@ -4,9 +4,9 @@
 // list covers, or the first refusal of 1, 2, 6, 7, 8, 9, 10. Stands on `job`, `grid` and `grid_filling`.
 ghost use Rattle.job.specs.Job.{jobOf};
 ghost use Rattle.measure_intake.specs.Intake.{IndexCall};
-use job::Checked;
-use job::Refusal;
 use lattice_sums::sums::Totals;
+use refusals::Checked;
+use refusals::Refusal;
 
 // The totals of a list and its corner count, or why there are none.
 pub enum Measured {

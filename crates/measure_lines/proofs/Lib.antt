@@ -1,1 +1,1 @@
-pub mod LineLaws
+pub mod LineLaws  -- a run narrowed to a line covers what the whole run does

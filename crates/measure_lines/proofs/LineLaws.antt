@@ -1,5 +1,5 @@
 -- A run narrowed to the shots that reach a line of points covers the cells about the line as the whole run does.
-use mathlib.Core.Path.{_≡_, refl, ap, fun-ext}
+use mathlib.Core.Path.{_≡_, ap, fun-ext}
 use mathlib.Core.Bool.{Bool, true, false, _&&_}
 use mathlib.Core.List.{List}
 use Prim.Native.Nat.{ℕ, suc, _+_, _≤_, _<_}
@@ -17,22 +17,22 @@ use Rattle.ground.proofs.NumberLaws.{those-length}
 use Rattle.grid_cover.specs.Cover.{shotCovers, isSome, firstCovering, runCovers}
 use Rattle.grid_cover.proofs.CoverLaws.{first-among}
 use Rattle.grid_cover.proofs.CoverRuns.{below-agree}
-use Rattle.measure_lines.specs.Lines.{reaches, reachesLine}
+use Rattle.measure_lines.specs.Lines.{reachesPlace, reachesLine}
 
 -- ---- the two tests
 
-pub reach-not : (e a x : ℕ) → x < a → false ≡ reaches e a x
+pub reach-not : (e a x : ℕ) → x < a → false ≡ reachesPlace e a x
 reach-not e a x h = rw (lt-leb a x h)
 
-pub reach-if : (e a x : ℕ) → a ≤ x → leb x (a + e) ≡ reaches e a x
+pub reach-if : (e a x : ℕ) → a ≤ x → leb x (a + e) ≡ reachesPlace e a x
 reach-if e a x h = rw (le-leb a x h)
 
 -- the coordinates and the edge of a shot, read one by one
 module _ (E : ℕ) (coords : List ℕ) (x y s : ℕ) {edge a : ℕ} (is : edge ≡ edgeAt E coords s) (x-is : a ≡ xAt coords s) where
-  pub line-not-x : reaches edge a x ≡ false → false ≡ reachesLine E coords x y s
+  pub line-not-x : reachesPlace edge a x ≡ false → false ≡ reachesLine E coords x y s
   line-not-x h = rw (← is, ← x-is, h)
 
-  pub line-by-y : {b : ℕ} → b ≡ yAt coords s → reaches edge a x ≡ true → reaches edge b y ≡ reachesLine E coords x y s
+  pub line-by-y : {b : ℕ} → b ≡ yAt coords s → reachesPlace edge a x ≡ true → reachesPlace edge b y ≡ reachesLine E coords x y s
   line-by-y y-is h = rw (← is, ← x-is, ← y-is, h)
 
 pub line-room : (p : ℕ → Bool) (run : List ℕ) {n : ℕ} → length run ≤ n → 0 + length (those p run) ≤ n
@@ -40,7 +40,7 @@ line-room p run h = omega (arith, those-length p run)
 
 -- ---- what covers a cell about the line reaches the line
 
-span-reaches : (e a i x : ℕ) → i ≤ x → x ≤ i + 1 → spans e a i ≡ true → reaches e a x ≡ true
+span-reaches : (e a i x : ℕ) → i ≤ x → x ≤ i + 1 → spans e a i ≡ true → reachesPlace e a x ≡ true
 span-reaches e a i x low high h =
     let c : leb a i ≡ true = and-true (leb a i) (ltb i (a + e)) h .0 in
     let d : ltb i (a + e) ≡ true = and-true (leb a i) (ltb i (a + e)) h .1 in

@@ -1,17 +1,19 @@
 // The shots that reach a line of lattice points: a run narrowed to them covers the cells about the line as the whole run does.
+mod put;
+
 ghost use mathlib.Core.Path.{_≡_};
 ghost use Prim.Native.Nat.{_≤_, _<_};
 ghost use lib.ListN.{length};
 ghost use Rattle.buffer.specs.Wrote.{Wrote};
 ghost use Rattle.job.specs.Job.{shotCount};
 ghost use Rattle.ground.specs.Numbers.{AllBelow, those};
-ghost use Rattle.measure_lines.specs.Lines.{reaches, reachesLine};
-use grid::put::put_if;
+ghost use Rattle.measure_lines.specs.Lines.{reachesPlace, reachesLine};
+use crate::put::put_if;
 use job::shot;
 
 // Whether the edge of a shot from a coordinate on holds a place of the axis, ends included.
 fn reaches_place(edge: u16, at: u16, place: u16) -> bool
-    ensures { λ r. ⌜ r ≡ reaches edge at place ⌝ }
+    ensures { λ r. ⌜ r ≡ reachesPlace edge at place ⌝ }
 {
     if place < at {
         return false;

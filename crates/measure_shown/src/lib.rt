@@ -5,15 +5,15 @@ ghost use mathlib.Core.Path.{_≡_};
 ghost use Prim.Native.Nat.{_+_, _≤_, _<_};
 ghost use Rattle.lattice.specs.Shots.{cells};
 ghost use Rattle.lattice_sums.specs.CornerSums.{totalsOf};
-ghost use Rattle.job.specs.Job.{jobOf, shotsOf, Valid};
+ghost use Rattle.job.specs.Job.{jobOf, shotsOf};
 ghost use Rattle.grid.specs.Grid.{Holds};
 ghost use Rattle.measure_intake.specs.Intake.{MeasureCall};
-use job::Checked;
 use lattice_sums::sums::Totals;
 use libc::STDERR_FILENO;
 use measure_cells::points::count_planes;
 use measure_intake::Measured;
 use measure_intake::indexed;
+use refusals::Checked;
 use text_parts::put_digits;
 
 // Writes a number to standard error.
@@ -78,7 +78,6 @@ fn count_shown(
     coords: &[u16],
     work: &[u32],
 ) -> Totals
-    requires { ⌜ Valid (jobOf field edge grid (now coords)) ⌝ }
     requires { ⌜ Holds (jobOf field edge grid (now coords)) (now work) ⌝ }
     ensures { λ r. ⌜ r ≡ totalsOf field (cells (shotsOf edge (now (coords .entry)))) ⌝ }
 {

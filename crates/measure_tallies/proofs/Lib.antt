@@ -1,1 +1,1 @@
-pub mod TallyLaws
+pub mod TallyLaws  -- what a pattern byte counts, bit by bit

@@ -44,3 +44,7 @@ pub record AtMost (k : ℕ) (t : Totals) : Type 0 where
   pub edge-in : t .edge ≤ k
   pub inner-in : t .inner ≤ k
   pub corners-in : t .corners ≤ k
+
+-- the most that a figure may be before a point is added: 2⁶². What is left up to 2⁶⁴ is more than a point counts
+abbrev pub beforePoint : ℕ
+beforePoint = 4611686018427387904

@@ -1,7 +1,7 @@
 // What one lattice point counts, from its pattern byte.
 ghost use mathlib.Core.Path.{_≡_};
 ghost use Rattle.lattice.specs.Pattern.{ofByte};
-ghost use Rattle.measure_tallies.specs.Tallies.{atPattern, plus, AtMost, differs};
+ghost use Rattle.measure_tallies.specs.Tallies.{atPattern, plus, AtMost, beforePoint, differs};
 use lattice_edges::UnitEdge;
 use lattice_edges::is_corner;
 use lattice_edges::unit_edge;
@@ -61,7 +61,7 @@ fn corners(p: u8) -> usize
 
 // The figures with those of a point of pattern p, each counted.
 fn tally_each(t: Totals, p: u8) -> Totals
-    requires { ⌜ AtMost 4611686018427387904 t ⌝ }
+    requires { ⌜ AtMost beforePoint t ⌝ }
     ensures { λ r. ⌜ r ≡ plus t (atPattern (ofByte p)) ⌝ }
 {
     Totals {
@@ -75,7 +75,7 @@ fn tally_each(t: Totals, p: u8) -> Totals
 
 // The figures with those of a point of pattern p: nothing where no cell about it is covered, and one cell where all are.
 pub fn tally(t: Totals, p: u8) -> Totals
-    requires { ⌜ AtMost 4611686018427387904 t ⌝ }
+    requires { ⌜ AtMost beforePoint t ⌝ }
     ensures { λ r. ⌜ r ≡ plus t (atPattern (ofByte p)) ⌝ }
 {
     if p == 0 {

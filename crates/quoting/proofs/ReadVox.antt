@@ -1,12 +1,12 @@
 -- What quoting a VOX file leaves, by what reading the file and measuring its list answer.
-use mathlib.Core.Path.{_≡_, ap}
+use mathlib.Core.Path.{ap}
 use mathlib.Core.List.{List}
 use Prim.Native.Nat.{ℕ}
 use Rattle.buffer.specs.Wrote.{Wrote}
 use Rattle.buffer.proofs.WroteLaws.{wrote-as}
 use Rattle.job.specs.Job.{shotCount}
-use Rattle.shotfile.specs.declared.reader.ReadAnswer.{ReadAnswer}
-use Rattle.shotfile.proofs.Accepted.{FileRead}
+use Rattle.shotfile_reader.specs.declared.ReadAnswer.{ReadAnswer}
+use Rattle.shotfile_reader.proofs.Accepted.{FileRead}
 use Rattle.vox.specs.Vox.{voxIn, VoxCall}
 use Rattle.vox.proofs.Fits.{vox-fits}
 use Rattle.measure_intake.specs.declared.Measured.{Measured}

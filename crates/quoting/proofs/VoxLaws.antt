@@ -9,9 +9,9 @@ use Rattle.buffer.specs.Wrote.{Wrote}
 use Rattle.buffer.proofs.WroteLaws.{wrote-as}
 use Rattle.lattice_sums.specs.CornerSums.{totalsOf}
 use Rattle.job.specs.Job.{Job, shotCount, Valid}
-use Rattle.job.specs.declared.Checked.{Checked}
+use Rattle.refusals.specs.declared.Checked.{Checked}
 use Rattle.grid.specs.Grid.{need}
-use Rattle.shotfile.specs.Files.{settingFields, File, file}
+use Rattle.shotfile_reader.specs.Files.{File, file}
 use Rattle.vox.specs.Vox.{voxIn}
 use Rattle.vox.proofs.Voxels.{vox-list}
 use Rattle.measure_intake.specs.Intake.{solid, answerOf, measureAnswer}
@@ -27,7 +27,7 @@ unfolding measureAnswer
 measure-quotes job entries v h = ap (λ (c : Checked). answerOf c job.field (solid job)) (measure-decides job entries .accepted .1 (v, h))
 
 -- the text of an accepted file is the quote of its cells
-pub vox-text : (places : ℕ) (bytes : List ℕ) {job : Job} → voxIn places bytes ≡ file (settingFields job.field job.edge job.grid) job.coords
+pub vox-text : (places : ℕ) (bytes : List ℕ) {job : Job} → voxIn places bytes ≡ file job
     → (entries : ℕ) → 4098 ≤ entries → voxText bytes places entries ≡ quoteLines (totalsOf job.field (solid job))
 unfolding voxText answerText
 vox-text places bytes {job} is entries enough =
@@ -37,6 +37,6 @@ vox-text places bytes {job} is entries enough =
 
 -- so the call puts that quote to the front
 pub vox-always : {bytes lent work out coords' work' out' : List ℕ} {r : ℕ} → VoxQuoted bytes lent work out r coords' work' out'
-    → {job : Job} → voxIn (shotCount lent) bytes ≡ file (settingFields job.field job.edge job.grid) job.coords
+    → {job : Job} → voxIn (shotCount lent) bytes ≡ file job
     → 4098 ≤ length work → Wrote out out' 0 r (quoteLines (totalsOf job.field (solid job)))
 vox-always {bytes} {lent} {work} call is enough = wrote-as (vox-text (shotCount lent) bytes is (length work) enough) (call .text)

@@ -5,7 +5,7 @@ use Prim.Native.Nat.{ℕ}
 use lib.ListN.{length}
 use Rattle.buffer.specs.Wrote.{Wrote}
 use Rattle.job.specs.Job.{shotCount}
-use Rattle.shotfile.specs.Calls.{readCoords}
+use Rattle.shotfile_reader.specs.Calls.{readCoords}
 use Rattle.vox.specs.Vox.{voxIn}
 use Rattle.quoting_text.specs.Quoting.{quotedText, indexAfter}
 

@@ -1,12 +1,12 @@
 // From the bytes of a shot file or a VOX file to the bytes that a program prints: its quote. The programs `quote` and `quote_vox` only move
-// these bytes in and out. Stands on `shotfile`, `vox`, `measure` and `quoting_text`, which has the text.
+// these bytes in and out. Stands on `shotfile_reader`, `vox`, `measure` and `quoting_text`, which has the text.
 ghost use Prim.Native.Nat.{_≤_};
 ghost use lib.ListN.{length};
 ghost use Rattle.quoting_text.specs.Quoting.{FileQuoted};
 ghost use Rattle.quoting_text.specs.Answered.{ShotsThere, answeredFile, FileMeasured};
 ghost use Rattle.quoting.specs.VoxQuoting.{VoxQuoted};
 use measure_intake::Measured;
-use shotfile::ReadAnswer;
+use shotfile_reader::ReadAnswer;
 
 // Goes on from what reading a file answers: measures the list that stands in the coordinates.
 fn measure_read(read: ReadAnswer, coords: &[u16], work: &mut [u32]) -> Measured
@@ -34,7 +34,7 @@ pub fn quote(bytes: &[u8], coords: &mut [u16], work: &mut [u32], out: &mut [u8])
     ensures { λ r. ⌜ FileQuoted (now (bytes .entry)) (now (coords .entry)) (now (work .entry)) (now (out .entry))
         r (now (coords .exit)) (now (work .exit)) (now (out .exit)) ⌝ }
 {
-    let read = shotfile::read(bytes, coords);
+    let read = shotfile_reader::read(bytes, coords);
     let measured = measure_read(read, coords, work);
     quoting_text::put_answer(out, measured)
 }

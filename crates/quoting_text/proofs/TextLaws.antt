@@ -6,12 +6,12 @@ use Prim.Native.Nat.{ℕ, _/_, _≤_}
 use Rattle.buffer.specs.Wrote.{Wrote}
 use Rattle.buffer.proofs.WroteLaws.{wrote-as}
 use Rattle.job.specs.Job.{jobOf, shotCount, firstShots}
-use Rattle.job.specs.declared.Refusal.{Refusal}
-use Rattle.shotfile.specs.Files.{settingFields, File, file}
-use Rattle.shotfile.specs.Calls.{ReadCall}
-use Rattle.shotfile.specs.declared.reader.ReadAnswer.{ReadAnswer}
-use Rattle.shotfile.specs.declared.reader.ReadAnswer.the-variants.{Read, Refused}
-use Rattle.shotfile.proofs.Accepted.{FileRead, stored-list, stored-none, file-read}
+use Rattle.refusals.specs.declared.Refusal.{Refusal}
+use Rattle.shotfile_reader.specs.Files.{File, file}
+use Rattle.shotfile_reader.specs.Calls.{ReadCall}
+use Rattle.shotfile_reader.specs.declared.ReadAnswer.{ReadAnswer}
+use Rattle.shotfile_reader.specs.declared.ReadAnswer.the-variants.{Read, Refused}
+use Rattle.shotfile_reader.proofs.Accepted.{FileRead, stored-list, stored-none, file-read}
 use Rattle.measure_intake.specs.Intake.{MeasureCall}
 use Rattle.measure_intake.specs.declared.Measured.{Measured}
 use Rattle.measure_intake.specs.declared.Measured.the-variants.{Refused as Unmeasured}
@@ -30,7 +30,7 @@ module _ (coords : List ℕ) {a : ReadAnswer} where
   pub answer-measured : {m : Measured} {work work' list : List ℕ} (F E G shots : ℕ) → a ≡ Read F E G shots → list ≡ firstShots shots coords
       → MeasureCall (jobOf F E G list) work m work' → FileMeasured (answeredFile a coords) work m work'
   answer-measured F E G shots e l q =
-      measured-as (ap (file (settingFields F E G)) l ∙ ap (λ (b : ReadAnswer). answeredFile b coords) (sym e)) (record { answer = q .answer; index = q .index })
+      measured-as (ap (λ (c : List ℕ). file (jobOf F E G c)) l ∙ ap (λ (b : ReadAnswer). answeredFile b coords) (sym e)) (record { answer = q .answer; index = q .index })
 
 -- ---- a file that is read
 module _ {k : File} {coords coords' : List ℕ} where
@@ -41,7 +41,7 @@ module _ {k : File} {coords coords' : List ℕ} where
 
   -- so that the answer and the slice say what the file says
   pub answered-is : (a : ReadAnswer) → FileRead k coords a coords' → answeredFile a coords' ≡ k
-  answered-is (Read F E G n) read = let f = stored-list k read refl in ap (file (settingFields F E G)) (f .stored) ∙ sym (f .is)
+  answered-is (Read F E G n) read = sym (stored-list k read refl .is)
   answered-is (Refused r) read = sym (stored-none k read refl .0)
 
 -- ---- a shot file

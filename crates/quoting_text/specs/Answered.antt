@@ -4,10 +4,10 @@ use mathlib.Core.Path.{_≡_}
 use mathlib.Core.List.{List}
 use Prim.Native.Nat.{ℕ, _≤_}
 use lib.ListN.{length}
-use Rattle.job.specs.Job.{shotCount, firstShots}
-use Rattle.shotfile.specs.Files.{settingFields, File, file, refused}
-use Rattle.shotfile.specs.declared.reader.ReadAnswer.{ReadAnswer}
-use Rattle.shotfile.specs.declared.reader.ReadAnswer.the-variants.{Read, Refused as Unread}
+use Rattle.job.specs.Job.{jobOf, shotCount, firstShots}
+use Rattle.shotfile_reader.specs.Files.{File, file, refused}
+use Rattle.shotfile_reader.specs.declared.ReadAnswer.{ReadAnswer}
+use Rattle.shotfile_reader.specs.declared.ReadAnswer.the-variants.{Read, Refused as Unread}
 use Rattle.measure_intake.specs.declared.Measured.{Measured}
 use Rattle.quoting_text.specs.Quoting.{measuredFile, indexAfter}
 
@@ -18,7 +18,7 @@ ShotsThere (Unread r) coords = Unit {0}
 
 -- its settings and its list, or its refusal
 abbrev pub answeredFile : ReadAnswer → List ℕ → File
-answeredFile (Read F E G n) coords = file (settingFields F E G) (firstShots n coords)
+answeredFile (Read F E G n) coords = file (jobOf F E G (firstShots n coords))
 answeredFile (Unread r) coords = refused r
 
 -- measuring what a file says

@@ -1,20 +1,11 @@
 // What is printed for an answer of measuring: the lines of its quote, or the line of its refusal. specs/Quoting.antt has the text of a file's
-// list, and proofs/TextLaws.antt what a call leaves that reads a file, measures its list and puts the text. Stands on `text_report`, and on
-// the answers of `shotfile` and `measure_intake`.
+// list, and proofs/TextLaws.antt what a call leaves that reads a file, measures its list and puts the text. Stands on `text_report`
+// and `text_refusal`, and on the answers of `shotfile_reader` and `measure_intake`.
 ghost use Prim.Native.Nat.{_≤_};
 ghost use lib.ListN.{length};
 ghost use Rattle.buffer.specs.Wrote.{Wrote};
-ghost use Rattle.quoting_text.specs.Quoting.{refusalText, answerText};
-use job::Refusal;
+ghost use Rattle.quoting_text.specs.Quoting.{answerText};
 use measure_intake::Measured;
-
-// Puts the line of a refusal to the front.
-pub fn refuse(out: &mut [u8], refusal: Refusal) -> usize
-    requires { ⌜ 128 ≤ length (now out) ⌝ }
-    ensures { λ r. ⌜ Wrote (now (out .entry)) (now (out .exit)) 0 r (refusalText refusal) ⌝ }
-{
-    text_report::refusal_line(out, job::number(refusal), job::detail(refusal))
-}
 
 // Puts what is printed for an answer to the front.
 pub fn put_answer(out: &mut [u8], measured: Measured) -> usize
@@ -23,6 +14,6 @@ pub fn put_answer(out: &mut [u8], measured: Measured) -> usize
 {
     match measured {
         Measured::Quote(totals) => text_report::quote_lines(out, totals),
-        Measured::Refused(refusal) => refuse(out, refusal),
+        Measured::Refused(refusal) => text_refusal::refuse(out, refusal),
     }
 }

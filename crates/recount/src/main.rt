@@ -1,9 +1,7 @@
 // The second opinion for a disputed quote: reads a shot file from standard input, as the quoting program does, and prints the same lines
 // from totals that are counted again, cell by cell. That takes some seconds in a large field, so it says on standard error which plane
-// it is at. What it prints is `recounting::recount`; here are only the system calls and the sizes.
+// it is at. What it prints is `recounting::recount`; here are only the sizes.
 use input::Filled;
-use libc::STDERR_FILENO;
-use libc::STDOUT_FILENO;
 
 // Prints what is to be printed for the first n bytes.
 fn print_recount(bytes: &[u8]) {
@@ -11,12 +9,7 @@ fn print_recount(bytes: &[u8]) {
     let mut work = [0u32; 16384];
     let mut out = [0u8; 256];
     let n = recounting::recount(bytes, &mut coords, &mut work, &mut out);
-    if !io::write_all(STDOUT_FILENO, &out[..n]) {
-        io::write_all(
-            STDERR_FILENO,
-            b"recount: standard output cannot be written\n",
-        );
-    }
+    output::write_text(b"recount", &out[..n]);
 }
 
 fn main() {
@@ -24,8 +17,6 @@ fn main() {
     let filled = input::fill(&mut bytes);
     match filled {
         Filled::Bytes(n) => print_recount(&bytes[..n]),
-        Filled::Failed => {
-            io::write_all(STDERR_FILENO, b"recount: standard input cannot be read\n");
-        }
+        Filled::Failed => output::say_unreadable(b"recount"),
     }
 }

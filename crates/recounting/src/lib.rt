@@ -1,11 +1,11 @@
 // The second opinion: from the bytes of a shot file to the quote that `quoting::quote` promises, from totals that are counted again, cell by
-// cell. Uses nothing of the sweep. Stands on `shotfile`, `measure_shown` and `quoting_text`.
+// cell. Uses nothing of the sweep. Stands on `shotfile_reader`, `measure_shown` and `quoting_text`.
 ghost use Prim.Native.Nat.{_≤_};
 ghost use lib.ListN.{length};
 ghost use Rattle.quoting_text.specs.Quoting.{FileQuoted};
 ghost use Rattle.quoting_text.specs.Answered.{ShotsThere, answeredFile, FileMeasured};
 use measure_intake::Measured;
-use shotfile::ReadAnswer;
+use shotfile_reader::ReadAnswer;
 
 // Goes on from what reading a file answers: counts the list that stands in the coordinates.
 fn recount_read(read: ReadAnswer, coords: &[u16], work: &mut [u32]) -> Measured
@@ -33,7 +33,7 @@ pub fn recount(bytes: &[u8], coords: &mut [u16], work: &mut [u32], out: &mut [u8
     ensures { λ r. ⌜ FileQuoted (now (bytes .entry)) (now (coords .entry)) (now (work .entry)) (now (out .entry))
         r (now (coords .exit)) (now (work .exit)) (now (out .exit)) ⌝ }
 {
-    let read = shotfile::read(bytes, coords);
+    let read = shotfile_reader::read(bytes, coords);
     let measured = recount_read(read, coords, work);
     quoting_text::put_answer(out, measured)
 }

@@ -4,11 +4,12 @@ use mathlib.Core.List.{List, [], _∷_}
 use Prim.Native.Nat.{ℕ}
 use Rattle.job.specs.Job.{jobOf, shotsOf}
 use Rattle.shotfile_records.specs.Records.{headerAbsent, fieldAt, fieldsAt, recordAt, bitOf, fieldOf, recordOf}
-use Rattle.shotfile.specs.Files.{settingFields, stepAt, shotsFrom, file, fileIn, shotRecords, fileOf}
+use Rattle.shotfile_reader.specs.Files.{stepAt, shotsFrom, file, fileIn}
+use Rattle.shotfile_writer.specs.Files.{shotRecords, fileOf}
 
 -- these bytes are the file of these settings and no shots, and they are read as that
 abbrev writtenAs : ℕ → ℕ → ℕ → List ℕ → Type 0
-writtenAs F E G bytes = (fileOf (jobOf F E G []) ≡ bytes) × (fileIn 0 bytes ≡ file (settingFields F E G) [])
+writtenAs F E G bytes = (fileOf (jobOf F E G []) ≡ bytes) × (fileIn 0 bytes ≡ file (jobOf F E G []))
 
 -- a grid of 16 is left out, and one of 8 is named
 pub known-files :

@@ -8,36 +8,41 @@ use lib.Dec.{eqb}
 use lib.ListN.{length, getD}
 use borrow.Author.Tests.{eqb-true, eqb-false}
 use Rattle.lattice.specs.Shots.{Shot}
-use Rattle.job.specs.Job.{jobOf, shotsOf}
+use Rattle.job.specs.Job.{Job, shots, shotsOf}
 use Rattle.shotfile_records.specs.declared.Fields.{Fields}
 use Rattle.shotfile_records.specs.declared.Taken.the-variants.{Whole}
-use Rattle.shotfile.specs.declared.reader.Cursor.{Cursor}
-use Rattle.shotfile.specs.declared.reader.Step.{Step}
-use Rattle.shotfile.specs.declared.reader.Step.the-variants.{Shot as Stepped}
-use Rattle.shotfile_records.specs.Records.{headerAbsent, firstAbsent, wordAt, fieldAt, secondAt, thirdAt, fieldsAt, recordAt, bitOf, fieldOf, recordOf, needless, tight}
-use Rattle.shotfile.specs.Files.{shotFields, stepAt, file, fileIn, onShot, shotRecords, fileOf, tightFrom, tightRest, shortest}
+use Rattle.shotfile_reader.specs.declared.Cursor.{Cursor}
+use Rattle.shotfile_reader.specs.declared.Step.{Step}
+use Rattle.shotfile_reader.specs.declared.Step.the-variants.{Shot as Stepped}
+use Rattle.shotfile_records.specs.Records.{headerAbsent, firstAbsent, fieldNumber, fieldAt, secondAt, thirdAt, fieldsAt, recordAt, bitOf, fieldOf, recordOf, needless, tight}
+use Rattle.shotfile_records.specs.Numbers.{settingFields, shotFields}
+use Rattle.shotfile_reader.specs.Files.{stepAt, file, fileIn, onShot}
+use Rattle.shotfile_writer.specs.Files.{shotRecords, fileOf}
+use Rattle.shotfile.specs.Shortest.{tightFrom, tightRest, shortest}
 use Rattle.shotfile_records.proofs.Taking.{field-there}
 use Rattle.shotfile_records.proofs.Putting.{bit-absent, bit-small, field-size, record-size}
-use Rattle.shotfile.proofs.Coords.{shots-none, shots-more}
-use Rattle.shotfile.proofs.Steps.{step-end, step-on}
-use Rattle.shotfile.proofs.ShotsRead.{Reads, done, shot, reads-whole, reads-room, reads-few}
+use Rattle.shotfile_reader.proofs.Coords.{shots-none, shots-more}
+use Rattle.shotfile_reader.proofs.Steps.{step-end, step-on}
+use Rattle.shotfile_reader.proofs.ShotsRead.{Reads, done, shot, reads-whole, reads-room, reads-few}
 use Rattle.shotfile.proofs.ReadBack.{SmallFields, SmallShots, file-read}
-use Rattle.shotfile.proofs.WriteBack.{Bytes, Parts, parts, bit-least, record-least}
-use Rattle.shotfile.proofs.Shortest.{file-parts, more-length, shots-least, file-size}
+use Rattle.shotfile.proofs.WriteBack.{Bytes, bit-least, record-least}
+use Rattle.shotfile_records.proofs.Parts.{Parts, parts}
+use Rattle.shotfile_reader.proofs.FileParts.{file-parts}
+use Rattle.shotfile.proofs.Shortest.{more-length, shots-least, file-size}
 use Rattle.shotfile.proofs.Tight.{end-tight}
 
 -- ---- a record that is as short as the shortest is that: no field of it is needless
 -- a bit that stands in the shortest form too
 needed : (s : List ℕ) (at b absent : ℕ) → b ≤ bitOf absent (fieldAt s at b absent) → needless s at b absent ≡ false
 unfolding needless
-needed s at b absent h = go (eqb b 0) refl (eqb (wordAt s at) absent) refl
+needed s at b absent h = go (eqb b 0) refl (eqb (fieldNumber s at) absent) refl
   where
-    go : (t : Bool) → eqb b 0 ≡ t → (u : Bool) → eqb (wordAt s at) absent ≡ u → (not t && u) ≡ false
+    go : (t : Bool) → eqb b 0 ≡ t → (u : Bool) → eqb (fieldNumber s at) absent ≡ u → (not t && u) ≡ false
     go true e u q = refl
     go false e false q = refl
     go false e true q =
         let n = eqb-false b 0 e in
-        absurd (omega (arith, h, n, bit-absent absent (fieldAt s at b absent) (sym (field-there s at b absent n) ∙ eqb-true (wordAt s at) absent q)))
+        absurd (omega (arith, h, n, bit-absent absent (fieldAt s at b absent) (sym (field-there s at b absent n) ∙ eqb-true (fieldNumber s at) absent q)))
 
 module _ (s : List ℕ) (at : ℕ) (absent f : Fields) (end : ℕ) (p : Parts s at absent f end) where
   record-tight : end ≤ at + length (recordOf absent f) → tight s at absent ≡ true
@@ -89,23 +94,23 @@ shots-tight e {s} {left} {places} {c} (shot {f = f} {end = end} {coords = coords
     ap (λ (b : Bool). b && onShot (stepAt s c) true (tightFrom n s)) here
     ∙ (ap (λ (k : Step). onShot k true (tightFrom n s)) step ∙ shots-tight e r (p .room) (omega (arith, l, least, size)) n)
 
-pub file-fewest : (s : List ℕ) (places : ℕ) {f : Fields} {coords : List ℕ} → fileIn places s ≡ file f coords → length s ≤ length (fileOf (jobOf (f .first) (f .second) (f .third) coords)) → shortest s ≡ true
+pub file-fewest : (s : List ℕ) (places : ℕ) {job : Job} → fileIn places s ≡ file job → length s ≤ length (fileOf job) → shortest s ≡ true
 unfolding shortest
-file-fewest s places {f} {coords} e l =
+file-fewest s places {job} e l =
     let q = file-parts s places e in
     let p = parts s 0 headerAbsent (q .header) in
-    let least = record-least s 0 headerAbsent f (q .end) p in
-    let rest = shots-least (f .second) (q .rest) (p .room) in
-    let here : tight s 0 headerAbsent ≡ true = record-tight s 0 headerAbsent f (q .end) p (omega (arith, l, rest, file-size f coords)) in
+    let least = record-least s 0 headerAbsent (settingFields job) (q .end) p in
+    let rest = shots-least job.edge (q .rest) (p .room) in
+    let here : tight s 0 headerAbsent ≡ true = record-tight s 0 headerAbsent (settingFields job) (q .end) p (omega (arith, l, rest, file-size job)) in
     ap (λ (b : Bool). b && tightRest s (recordAt s 0 headerAbsent)) here
-    ∙ (ap (tightRest s) (q .header) ∙ shots-tight (f .second) (q .rest) (p .room) (omega (arith, l, least, file-size f coords)) (length s))
+    ∙ (ap (tightRest s) (q .header) ∙ shots-tight job.edge (q .rest) (p .room) (omega (arith, l, least, file-size job)) (length s))
 
 -- ---- what is read from bytes is of 16 bits
 field-small : (s : List ℕ) (at b absent : ℕ) → Bytes s → absent < 65536 → fieldAt s at b absent < 65536
 unfolding fieldAt
 field-small s at b absent bytes h = go (eqb b 0)
   where
-    go : (t : Bool) → cond t absent (wordAt s at) < 65536
+    go : (t : Bool) → cond t absent (fieldNumber s at) < 65536
     go true = h
     go false = omega (arith, bytes at, bytes (at + 1))
 
@@ -160,8 +165,8 @@ records-bytes last [] h = tt
 records-bytes last (t ∷ ts) h = all-append (recordOf last (shotFields t)) (shotRecords (shotFields t) ts) (record-bytes last (shotFields t) (h .0)) (records-bytes (shotFields t) ts (h .1))
 
 -- ---- the file that is written from what was read
-module _ (s : List ℕ) (places : ℕ) {f : Fields} {coords : List ℕ} (b : Bytes s) (e : fileIn places s ≡ file f coords) where
-  header-small : SmallFields f
+module _ (s : List ℕ) (places : ℕ) {job : Job} (b : Bytes s) (e : fileIn places s ≡ file job) where
+  header-small : SmallFields (settingFields job)
   unfolding headerAbsent
   header-small =
       let q = file-parts s places e in
@@ -170,19 +175,22 @@ module _ (s : List ℕ) (places : ℕ) {f : Fields} {coords : List ℕ} (b : Byt
       absent-small : SmallFields headerAbsent
       absent-small = record { first-small = omega arith; second-small = omega arith; third-small = omega arith }
 
-  list-small : SmallShots (shotsOf (f .second) coords)
+  list-small : SmallShots (shots job)
   unfolding firstAbsent
-  list-small = shots-small (f .second) (file-parts s places e .rest) b zeros-small
+  list-small = shots-small job.edge (file-parts s places e .rest) b zeros-small
     where
       zeros-small : SmallFields firstAbsent
       zeros-small = record { first-small = omega arith; second-small = omega arith; third-small = omega arith }
 
   -- is made of bytes, and is read to the same
-  pub again-bytes : Bytes (fileOf (jobOf (f .first) (f .second) (f .third) coords))
+  pub again-bytes : Bytes (fileOf job)
   unfolding fileOf
-  again-bytes = all-bytes (fileOf (jobOf (f .first) (f .second) (f .third) coords)) (all-append (recordOf headerAbsent f) (shotRecords firstAbsent (shotsOf (f .second) coords)) (record-bytes headerAbsent f header-small) (records-bytes firstAbsent (shotsOf (f .second) coords) list-small))
+  again-bytes =
+      let header = recordOf headerAbsent (settingFields job) in
+      all-bytes (fileOf job)
+      (all-append header (shotRecords firstAbsent (shots job)) (record-bytes headerAbsent (settingFields job) header-small) (records-bytes firstAbsent (shots job) list-small))
 
-  pub again-read : fileIn places (fileOf (jobOf (f .first) (f .second) (f .third) coords)) ≡ file f coords
+  pub again-read : fileIn places (fileOf job) ≡ file job
   again-read =
       let r = file-parts s places e .rest in
-      file-read (jobOf (f .first) (f .second) (f .third) coords) places header-small list-small (reads-whole r) (reads-few r) (reads-room r)
+      file-read job places header-small list-small (reads-whole r) (reads-few r) (reads-room r)

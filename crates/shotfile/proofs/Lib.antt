@@ -1,16 +1,14 @@
-pub mod Coords
-pub mod Steps
-pub mod Storing
-pub mod ShotsRead
-pub mod Reading
-pub mod Writing
-pub mod ReadBack
-pub mod WriteBack
-pub mod Shortest
-pub mod Tight
-pub mod Fewest
-pub mod Accepted
-pub mod Faults
-pub mod Conditions
+-- reading and writing undo one another
 pub mod RoundTrip
+-- what is written is read back
+pub mod ReadBack
+-- what is written is in its shortest form
+pub mod Tight
+-- a record with no needless field is the shortest
+pub mod WriteBack
+-- no file of the same list is shorter
+pub mod Shortest
+-- a file with the fewest bytes is in its shortest form
+pub mod Fewest
+-- small files, by computation
 pub mod Examples

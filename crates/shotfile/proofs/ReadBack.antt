@@ -9,16 +9,18 @@ use lib.ListN.{length, getD, length-append}
 use lib.Seq.{getD-append-seam, getD-append-add}
 use borrow.Author.Tests.{eqb-true, eqb-false}
 use Rattle.lattice.specs.Shots.{Shot}
-use Rattle.job.specs.Job.{Job, shotsOf, shotCount, placeOf}
+use Rattle.job.specs.Job.{Job, shots, shotsOf, shotCount, placeOf}
 use Rattle.job.proofs.Shots.{shots-count}
 use Rattle.shotfile_records.specs.declared.Fields.{Fields}
 use Rattle.shotfile_records.specs.declared.Taken.the-variants.{Whole}
-use Rattle.shotfile.specs.declared.reader.Step.the-variants.{Shot as Stepped}
+use Rattle.shotfile_reader.specs.declared.Step.the-variants.{Shot as Stepped}
 use Rattle.shotfile_records.specs.Records.{headerAbsent, firstAbsent, fieldAt, recordAt, bitOf, fieldOf, mapOf, recordOf}
-use Rattle.shotfile.specs.Files.{settingFields, shotFields, shotNumbers, stepAt, shots, withShot, onStep, shotsFrom, file, withSettings, firstShot, onHeader, fileIn, shotRecords, fileOf}
+use Rattle.shotfile_records.specs.Numbers.{settingFields, shotFields, shotNumbers}
+use Rattle.shotfile_reader.specs.Files.{stepAt, coordinates, withShot, onStep, shotsFrom, file, withSettings, firstShot, onHeader, fileIn}
+use Rattle.shotfile_writer.specs.Files.{shotRecords, fileOf}
 use Rattle.shotfile_records.proofs.Taking.{field-absent, field-there, taken-whole}
-use Rattle.shotfile.proofs.Coords.{shots-more, allNumbers, all-numbers}
-use Rattle.shotfile.proofs.Steps.{step-on, shots-end, shots-on}
+use Rattle.shotfile_reader.proofs.Coords.{shots-more, allNumbers, all-numbers}
+use Rattle.shotfile_reader.proofs.Steps.{step-on, shots-end, shots-on}
 use Rattle.shotfile_records.proofs.Putting.{bit-absent, bit-there, bit-small, field-some, field-size, record-size}
 
 -- the numbers are of 16 bits
@@ -185,7 +187,7 @@ module _ (s : List ℕ) where
       → length ts ≤ left
       → length ts ≤ places
       → SmallShots ts
-      → shotsFrom left places s (record { at = length pre; last = p }) ≡ shots (allNumbers ts)
+      → shotsFrom left places s (record { at = length pre; last = p }) ≡ coordinates (allNumbers ts)
   unfolding shotRecords
   shots-read left places pre p [] e l r small = shots-end s (record { at = length pre; last = p }) left places (omega (arith, ap length e, length-append pre []))
   shots-read zero places pre p (t ∷ ts) e l r small = absurd (omega arith)
@@ -197,22 +199,22 @@ module _ (s : List ℕ) where
       (shots-read left places (pre ++ recordOf p f) f ts (e ∙ sym (append-assoc pre (recordOf p f) (shotRecords f ts))) (omega arith) (omega arith) (small .1))
 
 -- the whole file
-pub file-read : (job : Job) (places : ℕ) → SmallFields (settingFields job.field job.edge job.grid) → SmallShots (shotsOf job.edge job.coords)
+pub file-read : (job : Job) (places : ℕ) → SmallFields (settingFields job) → SmallShots (shots job)
     → length job.coords ≡ placeOf (shotCount job.coords) → shotCount job.coords ≤ 4096 → shotCount job.coords ≤ places
-    → fileIn places (fileOf job) ≡ file (settingFields job.field job.edge job.grid) job.coords
+    → fileIn places (fileOf job) ≡ file job
 unfolding fileIn fileOf
 file-read job places header-small small t l r = ap (λ t. onHeader t (λ end. shotsFrom 4096 places s (firstShot end))) header ∙ ap (withSettings f) rest
   where
     f : Fields
-    f = settingFields job.field job.edge job.grid
+    f = settingFields job
 
     s : List ℕ
     s = fileOf job
 
     header : recordAt s 0 headerAbsent ≡ Whole f (length (recordOf headerAbsent f))
-    header = placed-read (placed [] (shotRecords firstAbsent (shotsOf job.edge job.coords)) headerAbsent f header-small) ∙ ap (Whole f) (omega arith)
+    header = placed-read (placed [] (shotRecords firstAbsent (shots job)) headerAbsent f header-small) ∙ ap (Whole f) (omega arith)
 
-    rest : shotsFrom 4096 places s (firstShot (length (recordOf headerAbsent f))) ≡ shots job.coords
+    rest : shotsFrom 4096 places s (firstShot (length (recordOf headerAbsent f))) ≡ coordinates job.coords
     rest =
-        shots-read s 4096 places (recordOf headerAbsent f) firstAbsent (shotsOf job.edge job.coords) refl (omega (arith, shots-count job.edge job.coords)) (omega (arith, shots-count job.edge job.coords)) small
-        ∙ ap shots (all-numbers job.edge job.coords t)
+        shots-read s 4096 places (recordOf headerAbsent f) firstAbsent (shots job) refl (omega (arith, shots-count job.edge job.coords)) (omega (arith, shots-count job.edge job.coords)) small
+        ∙ ap coordinates (all-numbers job.edge job.coords t)

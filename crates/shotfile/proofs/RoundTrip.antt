@@ -14,22 +14,27 @@ use lib.ListN.{length, take, drop}
 use lib.Seq.{take-at}
 use Rattle.buffer.specs.Wrote.{inFront}
 use Rattle.lattice.specs.Shots.{Shot, AllInField}
-use Rattle.job.specs.Job.{Job, jobOf, shotCount, firstShots, Valid, shotsOf}
+use Rattle.job.specs.Job.{Job, jobOf, shots, shotCount, firstShots, Valid}
 use Rattle.job.proofs.Conditions.{accepted-valid}
-use Rattle.shotfile.specs.declared.reader.ReadAnswer.{ReadAnswer}
-use Rattle.shotfile.specs.declared.reader.ReadAnswer.the-variants.{Read}
-use Rattle.shotfile.specs.declared.writer.WriteAnswer.{WriteAnswer}
-use Rattle.shotfile.specs.declared.writer.WriteAnswer.the-variants.{Written}
-use Rattle.shotfile.specs.Files.{settingFields, File, file, fileIn, fileOf, shortest}
-use Rattle.shotfile.specs.Calls.{readNumbers, readAnswer, readValues, readCoords, ReadCall, writtenNumbers, WriteCall}
-use Rattle.shotfile.proofs.Coords.{threes-whole}
+use Rattle.shotfile_reader.specs.declared.ReadAnswer.{ReadAnswer}
+use Rattle.shotfile_reader.specs.declared.ReadAnswer.the-variants.{Read}
+use Rattle.shotfile_writer.specs.declared.WriteAnswer.{WriteAnswer}
+use Rattle.shotfile_writer.specs.declared.WriteAnswer.the-variants.{Written}
+use Rattle.shotfile_records.specs.Numbers.{settingFields}
+use Rattle.shotfile_reader.specs.Files.{File, file, fileIn}
+use Rattle.shotfile_writer.specs.Files.{fileOf}
+use Rattle.shotfile.specs.Shortest.{shortest}
+use Rattle.shotfile_reader.specs.Calls.{readNumbers, readAnswer, readValues, readCoords, ReadCall}
+use Rattle.shotfile_writer.specs.Calls.{writtenNumbers, WriteCall}
+use Rattle.shotfile_reader.proofs.Coords.{threes-whole}
 use Rattle.shotfile.proofs.ReadBack.{SmallFields, SmallShots, file-read}
 use Rattle.shotfile.proofs.Tight.{file-tight}
 use Rattle.shotfile.proofs.WriteBack.{Bytes}
 use Rattle.shotfile.proofs.Shortest.{file-least, file-same}
 use Rattle.shotfile.proofs.Fewest.{file-fewest, again-bytes, again-read}
-use Rattle.shotfile.proofs.Writing.{write-done}
-use Rattle.shotfile.proofs.Accepted.{AcceptedFile, accepted-file, AcceptedList, accepted-list}
+use Rattle.shotfile_writer.proofs.Writing.{write-done}
+use Rattle.shotfile_reader.proofs.Accepted.{accepted-file}
+use Rattle.shotfile_writer.proofs.Accepted.{AcceptedList, accepted-list}
 
 -- ---- of the definitions
 -- the numbers of a valid list are of 16 bits
@@ -40,38 +45,33 @@ small-shots F (t ∷ ts) h a = (
   small-shots F ts h (a .1),
 )
 
-small-settings : {job : Job} → Valid job → SmallFields (settingFields job.field job.edge job.grid)
+small-settings : {job : Job} → Valid job → SmallFields (settingFields job)
 small-settings v = record { first-small = omega (arith, v .field-most); second-small = omega (arith, v .field-most, v .edge-most); third-small = omega (arith, v .grid-most) }
 
 -- (a)
-pub read-written : (job : Job) (places : ℕ) → Valid job → shotCount job.coords ≤ places
-    → fileIn places (fileOf job) ≡ file (settingFields job.field job.edge job.grid) job.coords
+pub read-written : (job : Job) (places : ℕ) → Valid job → shotCount job.coords ≤ places → fileIn places (fileOf job) ≡ file job
 read-written job places v r =
     file-read job places
     (small-settings v)
-    (small-shots job.field (shotsOf job.edge job.coords) (v .field-most) (v .inside))
+    (small-shots job.field (shots job) (v .field-most) (v .inside))
     (threes-whole job.coords (v .threes))
     (v .few)
     r
 
 -- (b)
-pub written-read : (s : List ℕ) (places : ℕ) (job : Job) → Bytes s → T (shortest s)
-    → fileIn places s ≡ file (settingFields job.field job.edge job.grid) job.coords
-    → fileOf job ≡ s
+pub written-read : (s : List ℕ) (places : ℕ) (job : Job) → Bytes s → T (shortest s) → fileIn places s ≡ file job → fileOf job ≡ s
 written-read s places job b t e = file-same s places e b t
 
 -- (c)
 pub written-shortest : (job : Job) → Valid job → T (shortest (fileOf job))
-written-shortest job v = subst T (sym (file-tight job (small-settings v) (small-shots job.field (shotsOf job.edge job.coords) (v .field-most) (v .inside)))) tt
+written-shortest job v = subst T (sym (file-tight job (small-settings v) (small-shots job.field (shots job) (v .field-most) (v .inside)))) tt
 
-pub shortest-least : (s : List ℕ) (places : ℕ) (job : Job)
-    → fileIn places s ≡ file (settingFields job.field job.edge job.grid) job.coords
-    → length (fileOf job) ≤ length s
+pub shortest-least : (s : List ℕ) (places : ℕ) (job : Job) → fileIn places s ≡ file job → length (fileOf job) ≤ length s
 shortest-least s places job e = file-least s places e
 
 -- (d)
-pub shortest-fewest : (s : List ℕ) (places : ℕ) (job : Job) → Bytes s → fileIn places s ≡ file (settingFields job.field job.edge job.grid) job.coords
-    → T (shortest s) ↔ ((t : List ℕ) → Bytes t → fileIn places t ≡ file (settingFields job.field job.edge job.grid) job.coords → length s ≤ length t)
+pub shortest-fewest : (s : List ℕ) (places : ℕ) (job : Job) → Bytes s → fileIn places s ≡ file job
+    → T (shortest s) ↔ ((t : List ℕ) → Bytes t → fileIn places t ≡ file job → length s ≤ length t)
 shortest-fewest s places job b e = (
   λ h t c k. subst (λ (l : List ℕ). length l ≤ length t) (written-read s places job b h e) (shortest-least t places job k),
   λ h. subst T (sym (file-fewest s places e (h (fileOf job) (again-bytes s places b e) (again-read s places b e)))) tt,
@@ -94,7 +94,7 @@ read-what-write-wrote {job} {n} {before} {written} {lent} wrote e read room =
     a : AcceptedList job before n written
     a = accepted-list wrote e
 
-    is : fileIn (shotCount lent) (take n written) ≡ file (settingFields job.field job.edge job.grid) job.coords
+    is : fileIn (shotCount lent) (take n written) ≡ file job
     is = ap (fileIn (shotCount lent)) (wrote-file a) ∙ read-written job (shotCount lent) (a .valid) room
 
 -- (b) where `read` accepts a file in its shortest form, and the list is valid, `write` of what was read, with room enough, answers the
@@ -107,11 +107,8 @@ unfolding writtenNumbers
 write-what-read-read {F} {E} {G} {n} {s} {lent} {coords} {before} {after} read e b t wrote v room =
     (wrote .answer ∙ sym (d .answer), wrote .numbers ∙ sym (d .numbers), wrote .file ∙ sym (d .file))
   where
-    a : AcceptedFile s lent F E G n coords
-    a = accepted-file read e
-
     same : fileOf (jobOf F E G (firstShots n coords)) ≡ s
-    same = ap (λ c. fileOf (jobOf F E G c)) (a .stored) ∙ written-read s (shotCount lent) (jobOf F E G (a .coords)) b t (a .is)
+    same = written-read s (shotCount lent) (jobOf F E G (firstShots n coords)) b t (accepted-file read e .is)
 
     d : WriteCall (jobOf F E G (firstShots n coords)) before (Written (length s)) (inFront s before)
     d = write-done (jobOf F E G (firstShots n coords)) before (sym (accepted-valid (jobOf F E G (firstShots n coords)) .1 v)) (ap length (sym same)) room (ap (λ (k : List ℕ). inFront k before) (sym same))

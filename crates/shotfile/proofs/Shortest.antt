@@ -1,5 +1,5 @@
 -- The shortest form is shortest, and a file in its shortest form is what its list is written as. Assumes nothing.
-use mathlib.Core.Path.{_≡_, refl, sym, ap, subst, _∙_}
+use mathlib.Core.Path.{_≡_, sym, ap, subst, _∙_}
 use mathlib.Core.Bool.{true}
 use mathlib.Core.List.{List, [], _++_}
 use Prim.Native.Nat.{ℕ, zero, suc, _+_, _-_, _≤_}
@@ -7,44 +7,24 @@ use native.Mathlib.Omega.{arith}
 use lib.Dec.{T}
 use lib.ListN.{length, drop, length-append, drop-of-length-le}
 use Rattle.ground.proofs.Bools.{and-left, and-right}
-use Rattle.job.specs.declared.Refusal.{Refusal}
-use Rattle.job.specs.Job.{jobOf, shotsOf, shotCount}
+use Rattle.job.specs.Job.{Job, shots, shotsOf, shotCount}
 use Rattle.shotfile_records.specs.declared.Fields.{Fields}
 use Rattle.shotfile_records.specs.declared.Taken.{Taken}
-use Rattle.shotfile_records.specs.declared.Taken.the-variants.{Whole, Refused}
-use Rattle.shotfile.specs.declared.reader.Cursor.{Cursor}
-use Rattle.shotfile.specs.declared.reader.Step.{Step}
-use Rattle.shotfile.specs.declared.reader.Step.the-variants.{Shot}
+use Rattle.shotfile_records.specs.declared.Taken.the-variants.{Whole}
+use Rattle.shotfile_reader.specs.declared.Cursor.{Cursor}
+use Rattle.shotfile_reader.specs.declared.Step.{Step}
+use Rattle.shotfile_reader.specs.declared.Step.the-variants.{Shot}
 use Rattle.shotfile_records.specs.Records.{headerAbsent, firstAbsent, recordAt, recordOf, tight}
-use Rattle.shotfile.specs.Files.{shotNumbers, stepAt, Rest, shots, faulty, shotsFrom, file, refused, withSettings, firstShot, onHeader, fileIn, onShot, shotRecords, fileOf, tightFrom, tightRest, shortest}
-use Rattle.shotfile.proofs.Coords.{shots-none, shots-more, count-none, count-more}
-use Rattle.shotfile.proofs.Steps.{step-on}
-use Rattle.shotfile.proofs.ShotsRead.{Reads, done, shot, reads}
-use Rattle.shotfile.proofs.WriteBack.{Bytes, parts, record-least, record-same}
-
--- ---- a file that was read, taken apart
-pub record FileParts (s : List ℕ) (places : ℕ) (f : Fields) (coords : List ℕ) : Type 0 where
-  pub end : ℕ
-  pub header : recordAt s 0 headerAbsent ≡ Whole f end
-  pub rest : Reads s 4096 places (firstShot end) coords
-
-pub file-parts : (s : List ℕ) (places : ℕ) {f : Fields} {coords : List ℕ} → fileIn places s ≡ file f coords → FileParts s places f coords
-unfolding fileIn
-file-parts s places {f} {coords} e = header (recordAt s 0 headerAbsent) refl e
-  where
-    apart : {P : Type 0} {r : Refusal} → refused r ≡ file f coords → P
-    apart e = let z : _≡_ {A = ℕ} 0 1 = cc in absurd (omega arith)
-
-    rest : (g : Fields) (end : ℕ) → recordAt s 0 headerAbsent ≡ Whole g end → (k : Rest) → shotsFrom 4096 places s (firstShot end) ≡ k → withSettings g k ≡ file f coords → FileParts s places f coords
-    rest g end h (faulty r) q e = apart e
-    rest g end h (shots found) q e =
-        let same : g ≡ f = cc in
-        let all : found ≡ coords = cc in
-        record { end = end; header = h ∙ ap (λ (x : Fields). Whole x end) same; rest = reads s 4096 places (firstShot end) (q ∙ ap shots all) }
-
-    header : (t : Taken) → recordAt s 0 headerAbsent ≡ t → onHeader t (λ end. shotsFrom 4096 places s (firstShot end)) ≡ file f coords → FileParts s places f coords
-    header (Refused r) h e = apart e
-    header (Whole g end) h e = rest g end h (shotsFrom 4096 places s (firstShot end)) refl e
+use Rattle.shotfile_records.specs.Numbers.{settingFields, shotNumbers}
+use Rattle.shotfile_reader.specs.Files.{stepAt, file, firstShot, fileIn, onShot}
+use Rattle.shotfile_writer.specs.Files.{shotRecords, fileOf}
+use Rattle.shotfile.specs.Shortest.{tightFrom, tightRest, shortest}
+use Rattle.shotfile_reader.proofs.Coords.{shots-none, shots-more, count-none, count-more}
+use Rattle.shotfile_reader.proofs.Steps.{step-on}
+use Rattle.shotfile_reader.proofs.ShotsRead.{Reads, done, shot}
+use Rattle.shotfile_reader.proofs.FileParts.{file-parts}
+use Rattle.shotfile.proofs.WriteBack.{Bytes, record-least, record-same}
+use Rattle.shotfile_records.proofs.Parts.{parts}
 
 -- ---- no file of the same list is shorter
 module _ (e : ℕ) where
@@ -68,15 +48,15 @@ module _ (e : ℕ) where
       omega (arith, shots-least r (p .room), record-least s (c .at) (c .last) f end p, more-length (c .last) f coords)
 
 -- a file is its header and its shots
-pub file-size : (f : Fields) (coords : List ℕ) → length (fileOf (jobOf (f .first) (f .second) (f .third) coords)) ≡ length (recordOf headerAbsent f) + length (shotRecords firstAbsent (shotsOf (f .second) coords))
+pub file-size : (job : Job) → length (fileOf job) ≡ length (recordOf headerAbsent (settingFields job)) + length (shotRecords firstAbsent (shots job))
 unfolding fileOf
-file-size f coords = length-append (recordOf headerAbsent f) (shotRecords firstAbsent (shotsOf (f .second) coords))
+file-size job = length-append (recordOf headerAbsent (settingFields job)) (shotRecords firstAbsent (shots job))
 
-pub file-least : (s : List ℕ) (places : ℕ) {f : Fields} {coords : List ℕ} → fileIn places s ≡ file f coords → length (fileOf (jobOf (f .first) (f .second) (f .third) coords)) ≤ length s
-file-least s places {f} {coords} e =
+pub file-least : (s : List ℕ) (places : ℕ) {job : Job} → fileIn places s ≡ file job → length (fileOf job) ≤ length s
+file-least s places {job} e =
     let q = file-parts s places e in
     let p = parts s 0 headerAbsent (q .header) in
-    omega (arith, shots-least (f .second) (q .rest) (p .room), record-least s 0 headerAbsent f (q .end) p, file-size f coords)
+    omega (arith, shots-least job.edge (q .rest) (p .room), record-least s 0 headerAbsent (settingFields job) (q .end) p, file-size job)
 
 -- ---- a file in its shortest form
 -- a record is a byte or more
@@ -97,11 +77,12 @@ shots-same e {s} {left} {places} {c} (shot {f = f} {end = end} {coords = coords}
     record-same s (c .at) (c .last) f end (parts s (c .at) (c .last) q) b (and-left (tight s (c .at) (c .last)) (onShot (stepAt s c) true (tightFrom n s)) t)
     ∙ (ap (λ (k : List ℕ). recordOf (c .last) f ++ k) (shots-same e r b n (omega (arith, count-more f coords)) later) ∙ sym (records-more e (c .last) f coords))
 
-pub file-same : (s : List ℕ) (places : ℕ) {f : Fields} {coords : List ℕ} → fileIn places s ≡ file f coords → Bytes s → T (shortest s) → fileOf (jobOf (f .first) (f .second) (f .third) coords) ≡ s
+pub file-same : (s : List ℕ) (places : ℕ) {job : Job} → fileIn places s ≡ file job → Bytes s → T (shortest s) → fileOf job ≡ s
 unfolding fileOf shortest
-file-same s places {f} {coords} e b t =
+file-same s places {job} e b t =
+    let f : Fields = settingFields job in
     let q = file-parts s places e in
     let later : T (tightFrom (length s) s (firstShot (q .end))) = subst (λ (k : Taken). T (tightRest s k)) (q .header) (and-right (tight s 0 headerAbsent) (tightRest s (recordAt s 0 headerAbsent)) t) in
     sym
     (record-same s 0 headerAbsent f (q .end) (parts s 0 headerAbsent (q .header)) b (and-left (tight s 0 headerAbsent) (tightRest s (recordAt s 0 headerAbsent)) t)
-    ∙ ap (λ (k : List ℕ). recordOf headerAbsent f ++ k) (shots-same (f .second) (q .rest) b (length s) (omega (arith, reads-count (q .rest))) later))
+    ∙ ap (λ (k : List ℕ). recordOf headerAbsent f ++ k) (shots-same job.edge (q .rest) b (length s) (omega (arith, reads-count (q .rest))) later))

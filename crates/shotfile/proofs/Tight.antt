@@ -7,13 +7,16 @@ use native.Mathlib.Omega.{arith}
 use lib.Dec.{eqb}
 use lib.ListN.{length, length-append, List·getD-eq-default}
 use Rattle.lattice.specs.Shots.{Shot}
-use Rattle.job.specs.Job.{Job, shotsOf}
+use Rattle.job.specs.Job.{Job, shots}
 use Rattle.shotfile_records.specs.declared.Fields.{Fields}
 use Rattle.shotfile_records.specs.declared.Taken.the-variants.{Whole}
-use Rattle.shotfile.specs.declared.reader.Step.{Step}
-use Rattle.shotfile_records.specs.Records.{headerAbsent, firstAbsent, wordAt, fieldAt, recordAt, bitOf, recordOf, needless, tight}
-use Rattle.shotfile.specs.Files.{settingFields, shotFields, stepAt, onShot, shotRecords, fileOf, tightFrom, tightRest, shortest}
-use Rattle.shotfile.proofs.Steps.{step-end}
+use Rattle.shotfile_reader.specs.declared.Step.{Step}
+use Rattle.shotfile_records.specs.Records.{headerAbsent, firstAbsent, fieldNumber, fieldAt, recordAt, bitOf, recordOf, needless, tight}
+use Rattle.shotfile_records.specs.Numbers.{settingFields, shotFields}
+use Rattle.shotfile_reader.specs.Files.{stepAt, onShot}
+use Rattle.shotfile_writer.specs.Files.{shotRecords, fileOf}
+use Rattle.shotfile.specs.Shortest.{tightFrom, tightRest, shortest}
+use Rattle.shotfile_reader.proofs.Steps.{step-end}
 use Rattle.shotfile.proofs.ReadBack.{SmallFields, SmallShots, Placed, placed, placed-first, placed-second, placed-third, placed-read, one-step}
 
 -- a field that is written only where it must be is not needless
@@ -21,7 +24,7 @@ field-tight : (s : List ℕ) (at absent v : ℕ) → v ≡ fieldAt s at (bitOf a
 unfolding fieldAt bitOf needless
 field-tight s at absent v h = go (eqb v absent) refl h
   where
-    go : (b : Bool) → eqb v absent ≡ b → v ≡ cond (eqb (cond b 0 1) 0) absent (wordAt s at) → (not (eqb (cond b 0 1) 0) && eqb (wordAt s at) absent) ≡ false
+    go : (b : Bool) → eqb v absent ≡ b → v ≡ cond (eqb (cond b 0 1) 0) absent (fieldNumber s at) → (not (eqb (cond b 0 1) 0) && eqb (fieldNumber s at) absent) ≡ false
     go true e h = refl
     go false e h = ap (λ (k : ℕ). eqb k absent) (sym h) ∙ e
 
@@ -50,17 +53,17 @@ module _ (s : List ℕ) where
       ∙ (ap (λ (k : Step). onShot k true (tightFrom n s)) (one-step s pre (shotRecords f ts) p f e (small .0)) ∙ later)
 
 -- the whole file
-pub file-tight : (job : Job) → SmallFields (settingFields job.field job.edge job.grid) → SmallShots (shotsOf job.edge job.coords) → shortest (fileOf job) ≡ true
+pub file-tight : (job : Job) → SmallFields (settingFields job) → SmallShots (shots job) → shortest (fileOf job) ≡ true
 unfolding shortest fileOf
 file-tight job header-small small =
     ap (λ (b : Bool). b && tightRest s (recordAt s 0 headerAbsent)) (placed-tight header)
-    ∙ (ap (tightRest s) (placed-read header ∙ ap (Whole f) (omega arith)) ∙ shots-tight s (length s) (recordOf headerAbsent f) firstAbsent (shotsOf job.edge job.coords) refl small)
+    ∙ (ap (tightRest s) (placed-read header ∙ ap (Whole f) (omega arith)) ∙ shots-tight s (length s) (recordOf headerAbsent f) firstAbsent (shots job) refl small)
   where
     f : Fields
-    f = settingFields job.field job.edge job.grid
+    f = settingFields job
 
     s : List ℕ
     s = fileOf job
 
     header : Placed s 0 headerAbsent f
-    header = placed [] (shotRecords firstAbsent (shotsOf job.edge job.coords)) headerAbsent f header-small
+    header = placed [] (shotRecords firstAbsent (shots job)) headerAbsent f header-small

@@ -1,59 +1,25 @@
 -- What the records of a file say, taken apart: a record is never shorter than the shortest one that says the same, and a record with
 -- no needless field is that one, byte for byte. Assumes nothing.
 use mathlib.Core.Path.{_≡_, refl, sym, ap, ap₂, _∙_}
-use mathlib.Core.Bool.{Bool, true, false, cond, not, false≢true}
+use mathlib.Core.Bool.{Bool, true, false, not, _&&_, false≢true}
 use mathlib.Core.List.{List, _∷_, _++_, append-assoc}
 use Prim.Native.Nat.{ℕ, suc, _+_, _*_, _/_, _%_, _≤_, _<_}
 use native.Mathlib.Numerals.{add-one}
 use native.Mathlib.Omega.{arith}
-use lib.Dec.{T, ltb, leb, eqb}
+use lib.Dec.{T, eqb}
 use lib.ListN.{length, getD, drop}
 use lib.Seq.{drop-cons}
-use borrow.Author.Tests.{ltb-true, leb-true, eqb-true, eqb-false, eq-eqb, ne-eqb}
-use Rattle.job.specs.declared.Refusal.{Refusal}
-use Rattle.job.specs.declared.Refusal.the-variants.{UnknownBit, CutShort}
-use Rattle.ground.proofs.Bools.{and-left, and-right}
+use borrow.Author.Tests.{eqb-true, eqb-false, eq-eqb, ne-eqb}
+use Rattle.ground.proofs.Bools.{not-off, and-left, and-right}
 use Rattle.shotfile_records.specs.declared.Fields.{Fields}
-use Rattle.shotfile_records.specs.declared.Taken.the-variants.{Whole, Refused}
-use Rattle.shotfile_records.specs.Records.{wordAt, fieldAt, secondAt, thirdAt, endAt, fieldsAt, recordAt, bitOf, fieldOf, mapOf, recordOf, needless, tight}
+use Rattle.shotfile_records.specs.Records.{fieldNumber, fieldAt, secondAt, thirdAt, endAt, fieldsAt, bitOf, fieldOf, mapOf, recordOf, needless, tight}
+use Rattle.shotfile_records.proofs.Parts.{Parts}
 use Rattle.shotfile_records.proofs.Taking.{field-absent, field-there}
 use Rattle.shotfile_records.proofs.Putting.{bit-absent, bit-there, bit-small, field-none, field-some, field-size, record-size}
 
 -- the elements are bytes
 abbrev pub Bytes : List ℕ → Type 0
 Bytes s = (i : ℕ) → getD s i 0 < 256
-
--- ---- a whole record, taken apart
-pub record Parts (s : List ℕ) (at : ℕ) (absent f : Fields) (end : ℕ) : Type 0 where
-  pub inside : at < length s
-  pub known : getD s at 0 < 8
-  pub end-is : end ≡ endAt (getD s at 0) at
-  pub room : end ≤ length s
-  pub is : f ≡ fieldsAt s (getD s at 0) at absent
-
-pub parts : (s : List ℕ) (at : ℕ) (absent : Fields) {f : Fields} {end : ℕ} → recordAt s at absent ≡ Whole f end → Parts s at absent f end
-unfolding recordAt
-parts s at absent {f} {end} e = go (ltb at (length s)) refl (ltb (getD s at 0) 8) refl (leb (endAt (getD s at 0) at) (length s)) refl e
-  where
-    apart : {P : Type 0} {r : Refusal} → Refused r ≡ Whole f end → P
-    apart e = let z : _≡_ {A = ℕ} 0 1 = cc in absurd (omega arith)
-
-    go : (a : Bool) → ltb at (length s) ≡ a → (b : Bool) → ltb (getD s at 0) 8 ≡ b → (c : Bool) → leb (endAt (getD s at 0) at) (length s) ≡ c
-        → cond a (cond b (cond c (Whole (fieldsAt s (getD s at 0) at absent) (endAt (getD s at 0) at)) (Refused (CutShort at))) (Refused (UnknownBit at))) (Refused (CutShort at)) ≡ Whole f end
-        → Parts s at absent f end
-    go false p b q c r e = apart e
-    go true p false q c r e = apart e
-    go true p true q false r e = apart e
-    go true p true q true r e =
-        let k : endAt (getD s at 0) at ≡ end = cc in
-        let j : fieldsAt s (getD s at 0) at absent ≡ f = cc in
-        record {
-          inside = ltb-true at (length s) p;
-          known = ltb-true (getD s at 0) 8 q;
-          end-is = sym k;
-          room = omega (arith, k, leb-true (endAt (getD s at 0) at) (length s) r);
-          is = sym j;
-        }
 
 -- ---- a field
 module _ (s : List ℕ) (at b absent : ℕ) (bit : b ≤ 1) where
@@ -66,11 +32,11 @@ module _ (s : List ℕ) (at b absent : ℕ) (bit : b ≤ 1) where
       go false e = omega (arith, bit-small absent (fieldAt s at b absent), eqb-false b 0 e)
 
   module _ (bytes : Bytes s) (room : at + 2 * b ≤ length s) (n : needless s at b absent ≡ false) where
-    there : (b ≡ 0 → ⊥) → wordAt s at ≡ absent → ⊥
+    there : (b ≡ 0 → ⊥) → fieldNumber s at ≡ absent → ⊥
     unfolding needless
-    there h e = false≢true (sym n ∙ simp (ne-eqb b 0 h, eq-eqb (wordAt s at) absent e))
+    there h e = false≢true (sym n ∙ simp (ne-eqb b 0 h, eq-eqb (fieldNumber s at) absent e))
 
-    value : (b ≡ 0 → ⊥) → fieldAt s at b absent ≡ wordAt s at
+    value : (b ≡ 0 → ⊥) → fieldAt s at b absent ≡ fieldNumber s at
     value h = sym (field-there s at b absent h)
 
     pub bit-same : b ≡ bitOf absent (fieldAt s at b absent)
@@ -143,25 +109,24 @@ module _ (s : List ℕ) (at : ℕ) (absent f : Fields) (end : ℕ) (p : Parts s 
       m : ℕ
       m = getD s at 0
 
-      off : (b : Bool) → T (not b) → b ≡ false
-      off true h = absurd h
-      off false h = refl
+      later : T (not (needless s (secondAt m at) (m / 2 % 2) (absent .second)) && not (needless s (thirdAt m at) (m / 4) (absent .third)))
+      later = and-right (not (needless s (at + 1) (m % 2) (absent .first))) _ t
 
       first : (m % 2 ≡ bitOf (absent .first) (fieldAt s (at + 1) (m % 2) (absent .first))) × (drop (at + 1) s ≡ fieldOf (absent .first) (fieldAt s (at + 1) (m % 2) (absent .first)) ++ drop (secondAt m at) s)
       first =
-          let n = off (needless s (at + 1) (m % 2) (absent .first)) (and-left (not (needless s (at + 1) (m % 2) (absent .first))) _ t) in
+          let n = not-off (needless s (at + 1) (m % 2) (absent .first)) (and-left (not (needless s (at + 1) (m % 2) (absent .first))) _ t) in
           let r : at + 1 + 2 * (m % 2) ≤ length s = omega (arith, p .end-is, p .room) in
           (bit-same s (at + 1) (m % 2) (absent .first) (bits .0) bytes r n, field-same s (at + 1) (m % 2) (absent .first) (bits .0) bytes r n)
 
       second : (m / 2 % 2 ≡ bitOf (absent .second) (fieldAt s (secondAt m at) (m / 2 % 2) (absent .second))) × (drop (secondAt m at) s ≡ fieldOf (absent .second) (fieldAt s (secondAt m at) (m / 2 % 2) (absent .second)) ++ drop (thirdAt m at) s)
       second =
-          let n = off (needless s (secondAt m at) (m / 2 % 2) (absent .second)) (and-left (not (needless s (secondAt m at) (m / 2 % 2) (absent .second))) _ (and-right (not (needless s (at + 1) (m % 2) (absent .first))) _ t)) in
+          let n = not-off (needless s (secondAt m at) (m / 2 % 2) (absent .second)) (and-left (not (needless s (secondAt m at) (m / 2 % 2) (absent .second))) _ later) in
           let r : secondAt m at + 2 * (m / 2 % 2) ≤ length s = omega (arith, p .end-is, p .room) in
           (bit-same s (secondAt m at) (m / 2 % 2) (absent .second) (bits .1) bytes r n, field-same s (secondAt m at) (m / 2 % 2) (absent .second) (bits .1) bytes r n)
 
       third : (m / 4 ≡ bitOf (absent .third) (fieldAt s (thirdAt m at) (m / 4) (absent .third))) × (drop (thirdAt m at) s ≡ fieldOf (absent .third) (fieldAt s (thirdAt m at) (m / 4) (absent .third)) ++ drop (endAt m at) s)
       third =
-          let n = off (needless s (thirdAt m at) (m / 4) (absent .third)) (and-right (not (needless s (secondAt m at) (m / 2 % 2) (absent .second))) _ (and-right (not (needless s (at + 1) (m % 2) (absent .first))) _ t)) in
+          let n = not-off (needless s (thirdAt m at) (m / 4) (absent .third)) (and-right (not (needless s (secondAt m at) (m / 2 % 2) (absent .second))) _ later) in
           let r : thirdAt m at + 2 * (m / 4) ≤ length s = omega (arith, p .end-is, p .room) in
           (bit-same s (thirdAt m at) (m / 4) (absent .third) (bits .2) bytes r n, field-same s (thirdAt m at) (m / 4) (absent .third) (bits .2) bytes r n)
 

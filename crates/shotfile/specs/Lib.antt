@@ -1,3 +1,1 @@
-pub mod Files
-pub mod Calls
-pub mod Conditions
+pub mod Shortest

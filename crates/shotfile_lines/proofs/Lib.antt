@@ -1,1 +1,2 @@
+-- the lines, by what stands in them, and how long they are
 pub mod LineLaws

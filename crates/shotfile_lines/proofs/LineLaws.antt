@@ -9,10 +9,10 @@ use lib.ListN.{length, length-append}
 use borrow.Author.Tests.{eq-eqb, ne-eqb}
 use Rattle.buffer.specs.Wrote.{Wrote}
 use Rattle.buffer.proofs.WroteLaws.{wrote-none, wrote-as}
-use Rattle.job.specs.declared.Place.{Place}
-use Rattle.job.specs.declared.Place.the-variants.{Byte, Shot, Nowhere}
-use Rattle.job.specs.declared.Refusal.{Refusal}
-use Rattle.job.specs.Refusals.{numberOf, detailOf, metAt}
+use Rattle.refusals.specs.declared.Place.{Place}
+use Rattle.refusals.specs.declared.Place.the-variants.{Byte, Shot, Nowhere}
+use Rattle.refusals.specs.declared.Refusal.{Refusal}
+use Rattle.refusals.specs.Refusals.{numberOf, detailOf, noticeOf}
 use Rattle.shotfile_records.specs.declared.Fields.{Fields}
 use Rattle.text_parts.specs.Text.{text}
 use Rattle.text_parts.specs.Decimal.{decimal}
@@ -89,11 +89,11 @@ unfolding refusedLine
 refused-length r =
     omega (
       arith,
-      length-append (labelled (text "refused ") (numberOf r)) (placeText (metAt r) (detailOf r) ++ (text ": " ++ (sentence r ++ text "\n"))),
-      length-append (placeText (metAt r) (detailOf r)) (text ": " ++ (sentence r ++ text "\n")),
+      length-append (labelled (text "refused ") (numberOf r)) (placeText (noticeOf r .met) (detailOf r) ++ (text ": " ++ (sentence r ++ text "\n"))),
+      length-append (placeText (noticeOf r .met) (detailOf r)) (text ": " ++ (sentence r ++ text "\n")),
       length-append (sentence r) (text "\n"),
       labelled-length (text "refused ") (numberOf r),
-      place-length (detailOf r) (metAt r),
+      place-length (detailOf r) (noticeOf r .met),
       sentence-length r,
     )
 

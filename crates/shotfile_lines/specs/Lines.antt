@@ -4,10 +4,10 @@ use mathlib.Core.Bool.{cond}
 use mathlib.Core.List.{List, [], _++_}
 use Prim.Native.Nat.{ℕ, _/_, _%_}
 use lib.Dec.{eqb}
-use Rattle.job.specs.Refusals.{numberOf, detailOf, metAt}
-use Rattle.job.specs.declared.Place.{Place}
-use Rattle.job.specs.declared.Place.the-variants.{Byte, Shot, Nowhere}
-use Rattle.job.specs.declared.Refusal.{Refusal}
+use Rattle.refusals.specs.Refusals.{numberOf, detailOf, noticeOf}
+use Rattle.refusals.specs.declared.Place.{Place}
+use Rattle.refusals.specs.declared.Place.the-variants.{Byte, Shot, Nowhere}
+use Rattle.refusals.specs.declared.Refusal.{Refusal}
 use Rattle.shotfile_records.specs.declared.Fields.{Fields}
 use Rattle.text_parts.specs.Text.{text}
 use Rattle.text_parts.specs.Decimal.{decimal}
@@ -52,7 +52,7 @@ placeText Nowhere detail = []
 unfoldable pub refusedLine : Refusal → List ℕ
 refusedLine r =
     labelled (text "refused ") (numberOf r)
-    ++ (placeText (metAt r) (detailOf r)
+    ++ (placeText (noticeOf r .met) (detailOf r)
     ++ (text ": "
     ++ (sentence r
     ++ text "\n")))

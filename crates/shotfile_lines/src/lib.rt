@@ -1,9 +1,10 @@
 // The lines of a shot file's text: a setting, a shot with its number and place, a refusal with its sentence. Each is put at a place of a
 // lent slice, and the answer is the place after the line; every other place keeps its value. specs/Lines.antt says what the lines are.
-// Stands on `shotfile_records` and `job`, whose fields and refusals it puts, and on `text_parts`, `text_wording` and `buffer` for the
+// Stands on `shotfile_records` and `refusals`, whose fields and refusals it puts, and on `text_parts`, `text_wording` and `buffer` for the
 // bytes of a text.
-use job::Place;
-use job::Refusal;
+use refusals::Place;
+use refusals::Refusal;
+use refusals::notice_of;
 use shotfile_records::Fields;
 use text_parts::put_byte;
 use text_parts::put_digits;
@@ -85,10 +86,10 @@ pub fn put_refused(out: &mut [u8], at: usize, refusal: Refusal) -> usize
     requires { ⌜ at + 128 ≤ length (now out) ⌝ }
     ensures { λ r. ⌜ Wrote (now (out .entry)) (now (out .exit)) at r (refusedLine refusal) ⌝ }
 {
-    let number = job::number(refusal);
-    let numbered = put_labelled(out, at, b"refused ", number as u64);
-    let place = job::met_at(refusal);
-    let placed = put_place(out, numbered, place, job::detail(refusal));
+    let told = notice_of(refusal);
+    let numbered = put_labelled(out, at, b"refused ", told.number as u64);
+    let met = told.met;
+    let placed = put_place(out, numbered, met, told.detail);
     let split = put_word(out, placed, b": ");
     let said = put_sentence(out, split, refusal);
     put_byte(out, said, 10)

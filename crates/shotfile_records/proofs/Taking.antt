@@ -5,17 +5,17 @@ use Prim.Native.Nat.{ℕ, _+_, _*_, _/_, _%_, _≤_, _<_}
 use native.Mathlib.Omega.{arith}
 use lib.ListN.{length, getD}
 use borrow.Author.Tests.{le-ltb, lt-ltb, le-leb, lt-leb, eq-eqb, ne-eqb}
-use Rattle.job.specs.declared.Refusal.the-variants.{UnknownBit, CutShort}
+use Rattle.refusals.specs.declared.Refusal.the-variants.{UnknownBit, CutShort}
 use Rattle.shotfile_records.specs.declared.Fields.{Fields}
 use Rattle.shotfile_records.specs.declared.Taken.the-variants.{Whole, Refused}
-use Rattle.shotfile_records.specs.Records.{wordAt, fieldAt, endAt, fieldsAt, recordAt}
+use Rattle.shotfile_records.specs.Records.{fieldNumber, fieldAt, endAt, fieldsAt, recordAt}
 
 module _ (s : List ℕ) (at b absent : ℕ) where
   pub field-absent : b ≡ 0 → absent ≡ fieldAt s at b absent
   unfolding fieldAt
   field-absent e = simp (eq-eqb b 0 e)
 
-  pub field-there : (b ≡ 0 → ⊥) → wordAt s at ≡ fieldAt s at b absent
+  pub field-there : (b ≡ 0 → ⊥) → fieldNumber s at ≡ fieldAt s at b absent
   unfolding fieldAt
   field-there h = simp (ne-eqb b 0 h)
 

@@ -5,7 +5,7 @@ use mathlib.Core.List.{List, [], _∷_, _++_}
 use Prim.Native.Nat.{ℕ, _+_, _*_, _/_, _%_}
 use lib.Dec.{ltb, leb, eqb}
 use lib.ListN.{length, getD}
-use Rattle.job.specs.declared.Refusal.the-variants.{UnknownBit, CutShort}
+use Rattle.refusals.specs.declared.Refusal.the-variants.{UnknownBit, CutShort}
 use Rattle.shotfile_records.specs.declared.Fields.{Fields}
 use Rattle.shotfile_records.specs.declared.Taken.{Taken}
 use Rattle.shotfile_records.specs.declared.Taken.the-variants.{Whole, Refused}
@@ -20,12 +20,12 @@ firstAbsent = record { first = 0; second = 0; third = 0 }
 
 -- ---- reading
 -- the 16-bit number at a place, least byte first
-abbrev pub wordAt : List ℕ → ℕ → ℕ
-wordAt s at = getD s at 0 + 256 * getD s (at + 1) 0
+abbrev pub fieldNumber : List ℕ → ℕ → ℕ
+fieldNumber s at = getD s at 0 + 256 * getD s (at + 1) 0
 
 -- a field whose bit in the map is b: the number at its place where b stands, else what its absence means
 unfoldable pub fieldAt : List ℕ → ℕ → ℕ → ℕ → ℕ
-fieldAt s at b absent = cond (eqb b 0) absent (wordAt s at)
+fieldAt s at b absent = cond (eqb b 0) absent (fieldNumber s at)
 
 -- the places of the second and third field and of the end, after the map m at a place
 abbrev pub secondAt : ℕ → ℕ → ℕ
@@ -76,7 +76,7 @@ recordOf absent f =
 -- ---- the shortest form
 -- a field that stands though it says what its absence would mean
 unfoldable pub needless : List ℕ → ℕ → ℕ → ℕ → Bool
-needless s at b absent = not (eqb b 0) && eqb (wordAt s at) absent
+needless s at b absent = not (eqb b 0) && eqb (fieldNumber s at) absent
 
 -- no field of the record at a place is needless
 unfoldable pub tight : List ℕ → ℕ → Fields → Bool

@@ -1,6 +1,6 @@
 // One record of a shot file: a map byte, then the 16-bit fields whose bits stand in it, least byte first. docs/SCOPE.md, 'Shot file'.
 // specs/Records.antt says how a record is read and what its shortest form is. Stands on `buffer` and on `job`, whose refusals it gives.
-use job::Refusal;
+use refusals::Refusal;
 ghost use mathlib.Core.Path.{_≡_};
 ghost use mathlib.Core.List.{[], _∷_};
 ghost use Prim.Native.Nat.{_≤_, _<_, _+_, _*_};

@@ -1,3 +1,4 @@
-pub mod ShotLaws
-pub mod TextLaws
+-- what the text shows, in words of what reading gives
 pub mod Listing
+-- the text, by its header
+pub mod TextLaws

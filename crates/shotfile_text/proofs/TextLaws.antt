@@ -1,48 +1,24 @@
--- The text of a file, by what reading its header and its list answers.
+-- The text of a file, by what reading its header answers.
 use mathlib.Core.Path.{_≡_, sym, ap, _∙_}
 use mathlib.Core.List.{List, _++_}
-use Prim.Native.Nat.{ℕ, _+_, _≤_, _<_}
+use Prim.Native.Nat.{ℕ, _<_}
 use native.Mathlib.Decide.{decLt}
 use native.Mathlib.Omega.{arith}
 use lib.ListN.{length, getD}
-use Rattle.buffer.specs.Wrote.{Wrote}
-use Rattle.buffer.proofs.WroteLaws.{wrote-none, wrote-as}
-use Rattle.job.specs.declared.Checked.{Checked}
-use Rattle.job.specs.declared.Checked.the-variants.{Accepted}
-use Rattle.job.specs.declared.Refusal.{Refusal}
-use Rattle.job.specs.declared.Refusal.the-variants.{CutShort}
-use Rattle.job.specs.Job.{jobOf, shotCount, firstShots}
-use Rattle.job.specs.Checking.{checked}
+use Rattle.refusals.specs.declared.Refusal.{Refusal}
+use Rattle.refusals.specs.declared.Refusal.the-variants.{CutShort}
 use Rattle.shotfile_records.specs.declared.Fields.{Fields}
 use Rattle.shotfile_records.specs.declared.Taken.{Taken}
 use Rattle.shotfile_records.specs.declared.Taken.the-variants.{Whole, Refused}
-use Rattle.shotfile.specs.declared.reader.ReadAnswer.{ReadAnswer}
-use Rattle.shotfile.specs.declared.reader.ReadAnswer.the-variants.{Read, Refused as Unread}
 use Rattle.shotfile_records.specs.Records.{headerAbsent, firstAbsent, recordAt}
-use Rattle.shotfile.specs.Files.{fileIn}
-use Rattle.shotfile.specs.Calls.{readCoords, ReadCall}
+use Rattle.shotfile_reader.specs.Files.{fileIn}
+use Rattle.shotfile_reader.specs.Calls.{readCoords}
 use Rattle.shotfile_records.proofs.Taking.{no-map}
-use Rattle.shotfile.proofs.Accepted.{accepted-file, refused-file}
 use Rattle.shotfile_lines.specs.Lines.{settings, refusedLine}
-use Rattle.shotfile_text.specs.Text.{shotLines, listVerdict, verdict, recordsText, plainText}
+use Rattle.shotfile_shots.specs.ShotLines.{shotLines}
+use Rattle.shotfile_verdict.specs.Verdicts.{verdict}
+use Rattle.shotfile_text.specs.Text.{recordsText, plainText}
 
--- ---- the verdict on a list
-pub accepted-verdict : {k : Checked} (w : List ℕ) (at : ℕ) → Accepted ≡ k → at + 128 ≤ length w → Wrote w w at at (listVerdict k)
-accepted-verdict w at e h = wrote-as (ap listVerdict e) (wrote-none w at (omega arith))
-
--- by what `read` answered
-module _ {s before after : List ℕ} {r : ReadAnswer} (c : ReadCall s before r after) where
-  module _ {F E G n : ℕ} (e : r ≡ Read F E G n) where
-    pub read-room : n ≤ shotCount after
-    read-room = let a = accepted-file c e in omega (arith, a .room, a .same-length)
-
-    pub read-verdict : {list : List ℕ} → list ≡ firstShots n after → listVerdict (checked (jobOf F E G list)) ≡ verdict (fileIn (shotCount before) s)
-    read-verdict k = let a = accepted-file c e in ap (λ (l : List ℕ). listVerdict (checked (jobOf F E G l))) (k ∙ a .stored) ∙ ap verdict (sym (a .is))
-
-  pub refused-verdict : {q : Refusal} (w : List ℕ) (at : ℕ) → r ≡ Unread q → at + 128 ≤ length w → Wrote w w at at (verdict (fileIn (shotCount before) s))
-  refused-verdict w at e h = wrote-as (ap verdict (sym (refused-file c e .0))) (wrote-none w at (omega arith))
-
--- ---- the text, by the header
 module _ (places : ℕ) (s : List ℕ) {absent : Fields} (a : absent ≡ headerAbsent) where
   as-header : {t : Taken} → t ≡ recordAt s 0 absent → recordsText places s t ≡ plainText places s
   unfolding plainText

@@ -1,8 +1,6 @@
 // The program that shows a shot file: reads a shot file from standard input and prints it as text, one record a line, with the refusal
-// at the end where there is one. What it prints is `shotfile_text::put_text`; here are only the system calls and the sizes.
+// at the end where there is one. What it prints is `shotfile_text::put_text`; here are only the sizes.
 use input::Filled;
-use libc::STDERR_FILENO;
-use libc::STDOUT_FILENO;
 ghost use Prim.Native.Nat.{_≤_};
 ghost use lib.ListN.{length};
 
@@ -11,9 +9,7 @@ fn print_by(bytes: &[u8], coords: &mut [u16], out: &mut [u8])
     requires { ⌜ 524288 ≤ length (now out) ⌝ }
 {
     let n = shotfile_text::put_text(bytes, coords, out);
-    if !io::write_all(STDOUT_FILENO, &out[..n]) {
-        io::write_all(STDERR_FILENO, b"shots: standard output cannot be written\n");
-    }
+    output::write_text(b"shots", &out[..n]);
 }
 
 // Prints the text of a file.
@@ -28,8 +24,6 @@ fn main() {
     let filled = input::fill(&mut bytes);
     match filled {
         Filled::Bytes(n) => print_text(&bytes[..n]),
-        Filled::Failed => {
-            io::write_all(STDERR_FILENO, b"shots: standard input cannot be read\n");
-        }
+        Filled::Failed => output::say_unreadable(b"shots"),
     }
 }

@@ -11,7 +11,7 @@ ghost use Rattle.lattice.specs.Shots.{cells};
 ghost use Rattle.lattice.specs.Listing.{corners};
 ghost use Rattle.lattice_sums.specs.CornerSums.{sumsOf};
 ghost use Rattle.lattice_weights.specs.Packed.{Packed};
-ghost use Rattle.job.specs.Job.{jobOf, Valid, shotsOf};
+ghost use Rattle.job.specs.Job.{jobOf, shotsOf};
 ghost use Rattle.grid.specs.Grid.{Holds};
 ghost use Rattle.sweep_order.specs.Order.{Given, EndsRow};
 ghost use Rattle.sweep_tally.specs.Found.{state, found};
@@ -101,7 +101,7 @@ pub fn sweep(
     work: &[u32],
     buf: &mut [u8],
 ) -> CornerSums
-    requires { ⌜ Valid (jobOf field edge grid (now coords)) × Holds (jobOf field edge grid (now coords)) (now work) ⌝ }
+    requires { ⌜ Holds (jobOf field edge grid (now coords)) (now work) ⌝ }
     ensures { λ r. ⌜
         state r (now (buf .exit))
         ≡ found (state (sumsOf []) (now (buf .entry))) (corners field (cells (shotsOf edge (now (coords .entry))))) ⌝ }

@@ -1,1 +1,1 @@
-pub mod LineLaws
+pub mod LineLaws  -- words and numbers one after another, and their length

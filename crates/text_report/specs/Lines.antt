@@ -1,8 +1,8 @@
--- What the quoting program prints: docs/SCOPE.md, the end of 'Jobs with known totals'.
-use mathlib.Core.List.{List, [], _∷_, _++_}
+-- The lines of a quote: docs/SCOPE.md, the end of 'Jobs with known totals'.
+use mathlib.Core.List.{List, _++_}
 use Prim.Native.Nat.{ℕ}
 use Rattle.text_parts.specs.Text.{text}
-use Rattle.text_parts.specs.Decimal.{decimal, line}
+use Rattle.text_parts.specs.Decimal.{line}
 use Rattle.lattice_sums.specs.declared.sums.Totals.{Totals}
 
 -- the names
@@ -21,14 +21,7 @@ innerWord = text "inner"
 abbrev pub cornersWord : List ℕ
 cornersWord = text "corners"
 
-abbrev pub refusedWord : List ℕ
-refusedWord = text "refused"
-
 -- one name and decimal value a line
 unfoldable pub quoteLines : Totals → List ℕ
 quoteLines t =
     line volumeWord (t .volume) ++ (line areaWord (t .area) ++ (line edgeWord (t .edge) ++ (line innerWord (t .inner) ++ line cornersWord (t .corners))))
-
--- `refused`, the number and the detail, split by spaces, on one line
-unfoldable pub refusalLine : ℕ → ℕ → List ℕ
-refusalLine number detail = refusedWord ++ (32 ∷ (decimal number ++ (32 ∷ (decimal detail ++ (10 ∷ [])))))

@@ -1,1 +1,1 @@
-pub mod SameLaws
+pub mod SameLaws  -- the test says equality

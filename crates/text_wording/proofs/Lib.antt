@@ -1,1 +1,2 @@
+-- how long the sentences are
 pub mod SentenceLaws

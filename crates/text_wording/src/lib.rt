@@ -1,10 +1,10 @@
 // The refusals in words, one short sentence each, put into a lent slice: specs/Sentences.antt says which.
-// Stands on `job`, whose refusals they are, and on `text_parts` and `buffer`.
+// Stands on `refusals`, whose refusals they are, and on `text_parts` and `buffer`.
 ghost use Prim.Native.Nat.{_+_, _≤_};
 ghost use lib.ListN.{length};
 ghost use Rattle.buffer.specs.Wrote.{Wrote};
 ghost use Rattle.text_wording.specs.Sentences.{sentence};
-use job::Refusal;
+use refusals::Refusal;
 use text_parts::put_word;
 
 // Puts the sentence of a refusal at a place that has 64 bytes after it, and gives the place after the sentence.

@@ -7,24 +7,26 @@ use native.Mathlib.Omega.{arith}
 use lib.Dec.{ltb, eqb}
 use lib.ListN.{length, getD, length-append}
 use borrow.Author.Tests.{lt-ltb}
-use Rattle.job.specs.declared.Checked.the-variants.{Accepted}
-use Rattle.job.specs.Job.{jobOf, shotsOf, shotCount, Valid}
+use Rattle.refusals.specs.declared.Checked.the-variants.{Accepted}
+use Rattle.job.specs.Job.{Job, shots, shotsOf, shotCount, Valid}
 use Rattle.job.specs.Checking.{checked}
 use Rattle.job.proofs.Conditions.{accepted-valid}
 use Rattle.text_parts.specs.Text.{text}
 use Rattle.text_parts.specs.Decimal.{digits, decimal}
 use Rattle.shotfile_records.specs.declared.Fields.{Fields}
-use Rattle.shotfile.specs.declared.reader.Cursor.{Cursor}
+use Rattle.shotfile_reader.specs.declared.Cursor.{Cursor}
 use Rattle.shotfile_records.specs.Records.{headerAbsent}
-use Rattle.shotfile.specs.Files.{file, firstShot, fileIn}
-use Rattle.shotfile.proofs.Coords.{count-more}
-use Rattle.shotfile.proofs.ShotsRead.{Reads, done, shot}
-use Rattle.shotfile.proofs.Shortest.{file-parts}
-use Rattle.shotfile.proofs.WriteBack.{parts}
+use Rattle.shotfile_records.specs.Numbers.{settingFields}
+use Rattle.shotfile_reader.specs.Files.{file, firstShot, fileIn}
+use Rattle.shotfile_reader.proofs.Coords.{count-more}
+use Rattle.shotfile_reader.proofs.ShotsRead.{Reads, done, shot}
+use Rattle.shotfile_reader.proofs.FileParts.{file-parts}
+use Rattle.shotfile_records.proofs.Parts.{parts}
 use Rattle.shotfile.proofs.ReadBack.{SmallShots, small-more}
 use Rattle.shotfile.proofs.RoundTrip.{small-shots}
 use Rattle.shotfile_lines.specs.Lines.{note, settingLine, settings, shotLine}
-use Rattle.shotfile_text.specs.Text.{shotLines, plainText}
+use Rattle.shotfile_shots.specs.ShotLines.{shotLines}
+use Rattle.shotfile_text.specs.Text.{plainText}
 use Rattle.typed_again.proofs.Retyped.{lines-end, lines-shot, file-text}
 
 -- ---- numbers with few digits
@@ -93,16 +95,17 @@ shots-length s e {allowed} {room} {c} (shot {f = f} {end = end} {coords = coords
     )
 
 -- ---- the text
-pub text-fits : (s : List ℕ) (places : ℕ) (f : Fields) (coords : List ℕ) → fileIn places s ≡ file f coords → checked (jobOf (f .first) (f .second) (f .third) coords) ≡ Accepted → length (plainText places s) ≤ 262143
-text-fits s places f coords e a =
+pub text-fits : (s : List ℕ) (places : ℕ) (job : Job) → fileIn places s ≡ file job → checked job ≡ Accepted → length (plainText places s) ≤ 262143
+text-fits s places job e a =
+    let f = settingFields job in
     let q = file-parts s places e in
-    let v : Valid (jobOf (f .first) (f .second) (f .third) coords) = accepted-valid (jobOf (f .first) (f .second) (f .third) coords) .0 a in
+    let v : Valid job = accepted-valid job .0 a in
     let b = parts s 0 headerAbsent (q .header) in
     omega (
       arith,
-      ap length (file-text s places f coords e a),
+      ap length (file-text s places job e a),
       length-append (settings (getD s 0 0) f) (shotLines 4096 0 s (firstShot (q .end))),
       settings-length (getD s 0 0) f (omega (arith, v .field-most)) (omega (arith, v .field-most, v .edge-most)) (omega (arith, v .grid-most)),
-      shots-length s (f .second) (q .rest) (small-shots (f .first) (shotsOf (f .second) coords) (v .field-most) (v .inside)) 4096 0 (omega (arith, v .few)) (omega (arith, v .few)) (omega (arith, v .few, b .end-is, b .known)),
+      shots-length s job.edge (q .rest) (small-shots job.field (shots job) (v .field-most) (v .inside)) 4096 0 (omega (arith, v .few)) (omega (arith, v .few)) (omega (arith, v .few, b .end-is, b .known)),
       v .few,
     )

@@ -2,44 +2,48 @@
 use mathlib.Core.Path.{_≡_, refl, sym, ap, subst, _∙_}
 use mathlib.Core.Bool.{Bool, true, false, cond}
 use mathlib.Core.List.{List, [], _∷_, _++_, append-assoc, append-nil}
-use Prim.Native.Nat.{ℕ, zero, suc, _+_, _-_, _/_, _%_, _≤_}
+use Prim.Native.Nat.{ℕ, zero, suc, _+_, _/_, _%_, _≤_}
 use native.Mathlib.Omega.{arith}
 use lib.Dec.{ltb}
 use lib.ListN.{length, getD}
-use Rattle.job.specs.Job.{jobOf}
-use Rattle.job.specs.declared.Checked.the-variants.{Refused as Turned}
-use Rattle.job.specs.declared.Refusal.{Refusal}
-use Rattle.job.specs.declared.Refusal.the-variants.{TooManyShots}
+use Rattle.job.specs.Job.{Job}
+use Rattle.refusals.specs.declared.Checked.the-variants.{Refused as Turned}
+use Rattle.refusals.specs.declared.Refusal.{Refusal}
+use Rattle.refusals.specs.declared.Refusal.the-variants.{TooManyShots}
 use Rattle.job.specs.Checking.{checked}
-use Rattle.job.specs.Refusals.{numberOf, detailOf, metAt}
+use Rattle.refusals.specs.Refusals.{noticeOf, numberOf, detailOf}
 use Rattle.text_parts.specs.Text.{text}
 use Rattle.text_parts.specs.Decimal.{decimal}
 use Rattle.text_same.specs.Same.{same}
 use Rattle.shotfile_records.specs.declared.Fields.{Fields}
 use Rattle.shotfile_records.specs.declared.Taken.{Taken}
 use Rattle.shotfile_records.specs.declared.Taken.the-variants.{Whole, Refused}
-use Rattle.shotfile.specs.declared.reader.Cursor.{Cursor}
-use Rattle.shotfile.specs.declared.reader.Step.{Step}
-use Rattle.shotfile.specs.declared.reader.Step.the-variants.{Shot as Step-shot, Refused as Stopped, End}
+use Rattle.shotfile_reader.specs.declared.Cursor.{Cursor}
+use Rattle.shotfile_reader.specs.declared.Step.{Step}
+use Rattle.shotfile_reader.specs.declared.Step.the-variants.{Shot as Step-shot, Refused as Stopped, End}
 use Rattle.shotfile_records.specs.Records.{headerAbsent, recordAt}
-use Rattle.shotfile.specs.Files.{Rest, shots, faulty, withShot, onStep, stepAt, shotsFrom, file, refused, withSettings, onHeader, firstShot, fileIn}
-use Rattle.shotfile.proofs.Shortest.{file-parts}
+use Rattle.shotfile_records.specs.Numbers.{settingFields}
+use Rattle.shotfile_reader.specs.Files.{Rest, coordinates, faulty, withShot, onStep, stepAt, shotsFrom, file, refused, withSettings, onHeader, firstShot, fileIn}
+use Rattle.shotfile_reader.proofs.FileParts.{file-parts}
 use Rattle.shotfile_lines.specs.Lines.{labelled, note, settingLine, settings, shotLine, placeText, refusedLine}
-use Rattle.shotfile_text.specs.Text.{stepLine, shotLines, listVerdict, verdict, recordsText, plainText}
+use Rattle.shotfile_shots.specs.ShotLines.{stepLine, shotLines}
+use Rattle.shotfile_verdict.specs.Verdicts.{listVerdict, verdict}
+use Rattle.shotfile_text.specs.Text.{recordsText, plainText}
 use Rattle.text_wording.specs.Sentences.{sentence}
 use Rattle.typed_line.specs.declared.entry.Mistake.{Mistake}
 use Rattle.typed_line.specs.declared.entry.Mistake.the-variants.{UnknownWord}
 use Rattle.typed_line.specs.declared.entry.Entry.the-variants.{Wrong}
-use Rattle.typed_list.specs.declared.draft.Draft.{Draft}
-use Rattle.typed_list.specs.declared.draft.Next.{Next}
-use Rattle.typed_list.specs.declared.draft.Next.the-variants.{Goes, Stops}
+use Rattle.typed_draft.specs.declared.Draft.{Draft}
+use Rattle.typed_draft.specs.declared.Next.{Next}
+use Rattle.typed_draft.specs.declared.Next.the-variants.{Goes, Stops}
 use Rattle.typed_list.specs.declared.Typed.{Typed}
 use Rattle.typed_list.specs.declared.Typed.the-variants.{Mistake as Mistaken}
 use Rattle.typed_line.specs.Words.{before, newline, linesFrom, linesOf, wordsFrom}
 use Rattle.typed_line.specs.Entries.{commandOf, commanded, entryOf, lineEntry}
-use Rattle.typed_list.specs.Lists.{nothingYet, then, onNext, typedFrom, typedList}
+use Rattle.typed_draft.specs.Drafts.{nothingYet, then}
+use Rattle.typed_list.specs.Lists.{onNext, typedFrom, typedList}
 use Rattle.typed_line.proofs.Cutting.{lines-cut}
-use Rattle.typed_list.proofs.Listing.{then-wrong}
+use Rattle.typed_draft.proofs.DraftLaws.{then-wrong}
 
 -- ---- a wrong line among lines
 pub record Mistakes (t : Typed) : Type 0 where
@@ -81,7 +85,7 @@ refused-has t = subst Has (sym (lines-cut [] (text "refused " ++ t))) (here {m =
 refusal-has : (r : Refusal) (rest : List ℕ) → Has (linesOf (refusedLine r ++ rest))
 unfolding refusedLine
 refusal-has r rest =
-    let words : List ℕ = placeText (metAt r) (detailOf r) ++ (text ": " ++ (sentence r ++ text "\n")) in
+    let words : List ℕ = placeText (noticeOf r .met) (detailOf r) ++ (text ": " ++ (sentence r ++ text "\n")) in
     subst (λ (k : List ℕ). Has (linesOf k)) (parts (text "refused ") (decimal (numberOf r)) words) (refused-has (decimal (numberOf r) ++ (words ++ rest)))
   where
     parts : (a b c : List ℕ) → a ++ (b ++ (c ++ rest)) ≡ ((a ++ b) ++ c) ++ rest
@@ -136,14 +140,14 @@ module _ (s : List ℕ) where
   unfolding shotLines shotsFrom
   shots-has zero places n c {r} rest p e = go (ltb (c .at) (length s)) e
     where
-      go : (b : Bool) → cond b (faulty (TooManyShots (c .at))) (shots []) ≡ faulty r → Has (linesOf (cond b (refusedLine (TooManyShots (c .at))) [] ++ rest))
+      go : (b : Bool) → cond b (faulty (TooManyShots (c .at))) (coordinates []) ≡ faulty r → Has (linesOf (cond b (refusedLine (TooManyShots (c .at))) [] ++ rest))
       go true e = refusal-has (TooManyShots (c .at)) rest
       go false e = let z : _≡_ {A = ℕ} 0 1 = cc in absurd (omega arith)
   shots-has (suc left) zero n c {r} rest p e = absurd (omega arith)
   shots-has (suc left) (suc places) n c {r} rest p e = go (stepAt s c) (λ c' e'. shots-has left places (n + 1) c' rest (omega arith) e') e
     where
       next : (f : Fields) (k : Rest) → withShot f k ≡ faulty r → k ≡ faulty r
-      next f (shots coords) e = let z : _≡_ {A = ℕ} 0 1 = cc in absurd (omega arith)
+      next f (coordinates coords) e = let z : _≡_ {A = ℕ} 0 1 = cc in absurd (omega arith)
       next f (faulty q) e = e
 
       go : (t : Step) → ((c' : Cursor) → shotsFrom left places s c' ≡ faulty r → Has (linesOf (shotLines left (n + 1) s c' ++ rest)))
@@ -159,20 +163,20 @@ module _ (s : List ℕ) where
   file-has places {r} p e = go (recordAt s 0 headerAbsent) e
     where
       rest : (f : Fields) (k : Rest) → withSettings f k ≡ refused r → k ≡ faulty r
-      rest f (shots coords) e = let z : _≡_ {A = ℕ} 0 1 = cc in absurd (omega arith)
+      rest f (coordinates coords) e = let z : _≡_ {A = ℕ} 0 1 = cc in absurd (omega arith)
       rest f (faulty q) e = let m : q ≡ r = cc in ap faulty m
 
       go : (t : Taken) → onHeader t (λ end. shotsFrom 4096 places s (firstShot end)) ≡ refused r → Has (linesOf (recordsText places s t))
       go (Whole f end) e = settings-keep (getD s 0 0) f (shotLines 4096 0 s (firstShot end) ++ verdict (fileIn places s)) (shots-has 4096 places 0 (firstShot end) (verdict (fileIn places s)) (omega arith) (rest f (shotsFrom 4096 places s (firstShot end)) e))
       go (Refused q) e = subst (λ (t : List ℕ). Has (linesOf t)) (append-nil (refusedLine q)) (refusal-has q [])
 
-  list-has : (places : ℕ) (f : Fields) (coords : List ℕ) {r : Refusal} → fileIn places s ≡ file f coords → checked (jobOf (f .first) (f .second) (f .third) coords) ≡ Turned r → Has (linesOf (plainText places s))
+  list-has : (places : ℕ) (job : Job) {r : Refusal} → fileIn places s ≡ file job → checked job ≡ Turned r → Has (linesOf (plainText places s))
   unfolding plainText
-  list-has places f coords {r} e a =
+  list-has places job {r} e a =
       let p = file-parts s places e in
       let v : verdict (fileIn places s) ≡ refusedLine r = ap verdict e ∙ ap listVerdict a in
       subst (λ (t : Taken). Has (linesOf (recordsText places s t))) (sym (p .header))
-      (settings-keep (getD s 0 0) f (shotLines 4096 0 s (firstShot (p .end)) ++ verdict (fileIn places s))
+      (settings-keep (getD s 0 0) (settingFields job) (shotLines 4096 0 s (firstShot (p .end)) ++ verdict (fileIn places s))
       (shots-keep 4096 0 (firstShot (p .end)) (verdict (fileIn places s)) (subst (λ (t : List ℕ). Has (linesOf t)) (append-nil (refusedLine r) ∙ sym v) (refusal-has r []))))
 
   mistakes : (room : ℕ) (t : List ℕ) → Has (linesOf t) → Mistakes (typedList room t)
@@ -184,5 +188,5 @@ module _ (s : List ℕ) where
   refused-mistakes places room p e = mistakes room (plainText places s) (file-has places p e)
 
   -- (b) of a file whose list is refused
-  pub turned-mistakes : (places room : ℕ) (f : Fields) (coords : List ℕ) {r : Refusal} → fileIn places s ≡ file f coords → checked (jobOf (f .first) (f .second) (f .third) coords) ≡ Turned r → Mistakes (typedList room (plainText places s))
-  turned-mistakes places room f coords e a = mistakes room (plainText places s) (list-has places f coords e a)
+  pub turned-mistakes : (places room : ℕ) (job : Job) {r : Refusal} → fileIn places s ≡ file job → checked job ≡ Turned r → Mistakes (typedList room (plainText places s))
+  turned-mistakes places room job e a = mistakes room (plainText places s) (list-has places job e a)

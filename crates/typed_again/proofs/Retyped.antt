@@ -7,36 +7,43 @@ use native.Mathlib.Omega.{arith}
 use lib.Dec.{T}
 use lib.ListN.{length, getD}
 use borrow.Author.Tests.{le-ltb}
-use Rattle.job.specs.declared.Checked.{Checked}
-use Rattle.job.specs.declared.Checked.the-variants.{Accepted}
-use Rattle.job.specs.Job.{jobOf, shotsOf, shotCount, Valid}
+use Rattle.refusals.specs.declared.Checked.{Checked}
+use Rattle.refusals.specs.declared.Checked.the-variants.{Accepted}
+use Rattle.job.specs.Job.{Job, jobOf, shots, shotsOf, shotCount, Valid}
 use Rattle.job.specs.Checking.{checked}
 use Rattle.job.proofs.Conditions.{accepted-valid}
 use Rattle.text_parts.specs.Text.{text}
 use Rattle.text_same.specs.Same.{same}
 use Rattle.shotfile_records.specs.declared.Fields.{Fields}
 use Rattle.shotfile_records.specs.declared.Taken.the-variants.{Whole}
-use Rattle.shotfile.specs.declared.reader.Cursor.{Cursor}
+use Rattle.shotfile_reader.specs.declared.Cursor.{Cursor}
 use Rattle.shotfile_records.specs.Records.{recordAt}
-use Rattle.shotfile.specs.Files.{shotNumbers, File, file, firstShot, fileIn, fileOf, shortest}
-use Rattle.shotfile.proofs.Coords.{count-none, count-more}
-use Rattle.shotfile.proofs.Steps.{step-end, step-on}
-use Rattle.shotfile.proofs.ShotsRead.{Reads, done, shot, reads-room}
-use Rattle.shotfile.proofs.Shortest.{file-parts}
+use Rattle.shotfile_records.specs.Numbers.{settingFields, shotNumbers}
+use Rattle.shotfile_reader.specs.Files.{File, file, firstShot, fileIn}
+use Rattle.shotfile_writer.specs.Files.{fileOf}
+use Rattle.shotfile.specs.Shortest.{shortest}
+use Rattle.shotfile_reader.proofs.Coords.{count-none, count-more}
+use Rattle.shotfile_reader.proofs.Steps.{step-end, step-on}
+use Rattle.shotfile_reader.proofs.ShotsRead.{Reads, done, shot, reads-room}
+use Rattle.shotfile_reader.proofs.FileParts.{file-parts}
 use Rattle.shotfile.proofs.ReadBack.{SmallShots, small-more}
 use Rattle.shotfile.proofs.RoundTrip.{small-shots, written-read}
 use Rattle.shotfile.proofs.WriteBack.{Bytes}
 use Rattle.shotfile_lines.specs.Lines.{settingLine, settings, shotLine}
-use Rattle.shotfile_text.specs.Text.{shotLines, listVerdict, verdict, recordsText, plainText}
+use Rattle.shotfile_shots.specs.ShotLines.{shotLines}
+use Rattle.shotfile_verdict.specs.Verdicts.{listVerdict, verdict}
+use Rattle.shotfile_text.specs.Text.{recordsText, plainText}
 use Rattle.typed_line.specs.declared.entry.Entry.{Entry}
-use Rattle.typed_list.specs.declared.draft.Draft.{Draft}
-use Rattle.typed_list.specs.declared.draft.Next.the-variants.{Goes}
+use Rattle.typed_draft.specs.declared.Draft.{Draft}
+use Rattle.typed_draft.specs.declared.Next.the-variants.{Goes}
 use Rattle.typed_list.specs.declared.Typed.{Typed}
 use Rattle.typed_list.specs.declared.Typed.the-variants.{List as Listed}
 use Rattle.typed_line.specs.Words.{before, linesFrom, linesOf, wordsFrom}
 use Rattle.typed_line.specs.Entries.{commandOf, entryOf}
-use Rattle.typed_list.specs.Lists.{given, nothingYet, then, listed, typedFrom, typedList, coordsOf, shotsIn}
-use Rattle.typed_list.proofs.Listing.{field-once, edge-once, grid-once, shots-room, then-setting, then-shot, typed-goes, typed-start, shots-cons}
+use Rattle.typed_draft.specs.Drafts.{given, nothingYet, then}
+use Rattle.typed_list.specs.Lists.{listed, typedFrom, typedList, coordsOf, shotsIn}
+use Rattle.typed_draft.proofs.DraftLaws.{field-once, edge-once, grid-once, shots-room, then-setting, then-shot}
+use Rattle.typed_list.proofs.Listing.{typed-goes, typed-start, shots-cons}
 use Rattle.typed_line.proofs.Printed.{freely}
 use Rattle.typed_again.proofs.Lines.{Line, Plain, plain, setting-line, shot-line}
 
@@ -136,30 +143,32 @@ back-settings m f {places} {rest} {typed} {coords} hf he hg b =
     parts = simp append-assoc
 
 -- ---- the file
-module _ (s : List ℕ) (places : ℕ) (f : Fields) (coords : List ℕ) (e : fileIn places s ≡ file f coords) (a : checked (jobOf (f .first) (f .second) (f .third) coords) ≡ Accepted) where
-  valid : Valid (jobOf (f .first) (f .second) (f .third) coords)
-  valid = accepted-valid (jobOf (f .first) (f .second) (f .third) coords) .0 a
+module _ (s : List ℕ) (places : ℕ) (job : Job) (e : fileIn places s ≡ file job) (a : checked job ≡ Accepted) where
+  open Job job using (field as F, edge as E, grid as G, coords)
 
-  pub file-text : plainText places s ≡ settings (getD s 0 0) f ++ shotLines 4096 0 s (firstShot (file-parts s places e .end))
+  valid : Valid job
+  valid = accepted-valid job .0 a
+
+  pub file-text : plainText places s ≡ settings (getD s 0 0) (settingFields job) ++ shotLines 4096 0 s (firstShot (file-parts s places e .end))
   unfolding plainText
   file-text =
       ap (recordsText places s) (file-parts s places e .header)
-      ∙ ap (λ (k : List ℕ). settings (getD s 0 0) f ++ k)
+      ∙ ap (λ (k : List ℕ). settings (getD s 0 0) (settingFields job) ++ k)
       (ap (λ (k : File). shotLines 4096 0 s (firstShot (file-parts s places e .end)) ++ verdict k) e
       ∙ (ap (λ (k : Checked). shotLines 4096 0 s (firstShot (file-parts s places e .end)) ++ listVerdict k) a
       ∙ append-nil (shotLines 4096 0 s (firstShot (file-parts s places e .end)))))
 
-  back : Back places nothingYet 1 (plainText places s) (Listed (f .first) (f .second) (f .third) (shotCount coords)) coords
+  back : Back places nothingYet 1 (plainText places s) (Listed F E G (shotCount coords)) coords
   back =
       let p = file-parts s places e in
       let v = valid in
       let n : 0 + shotCount coords ≡ shotCount coords = omega arith in
-      back-as (sym file-text) (ap (Listed (f .first) (f .second) (f .third)) n)
-      (back-settings (getD s 0 0) f (omega (arith, v .field-most)) (omega (arith, v .field-most, v .edge-most)) (omega (arith, v .grid-most))
-      (back-shots s (f .second) (p .rest) (small-shots (f .first) (shotsOf (f .second) coords) (v .field-most) (v .inside)) places 4096 0 4 (set f) (omega (arith, v .few)) (omega (arith, v .few)) (omega (arith, reads-room (p .rest)))))
+      back-as (sym file-text) (ap (Listed F E G) n)
+      (back-settings (getD s 0 0) (settingFields job) (omega (arith, v .field-most)) (omega (arith, v .field-most, v .edge-most)) (omega (arith, v .grid-most))
+      (back-shots s E (p .rest) (small-shots F (shots job) (v .field-most) (v .inside)) places 4096 0 4 (set (settingFields job)) (omega (arith, v .few)) (omega (arith, v .few)) (omega (arith, reads-room (p .rest)))))
 
   -- (a) the settings and the number of shots
-  pub retyped-list : typedList places (plainText places s) ≡ Listed (f .first) (f .second) (f .third) (shotCount coords)
+  pub retyped-list : typedList places (plainText places s) ≡ Listed F E G (shotCount coords)
   retyped-list = sym (typed-start places (plainText places s) refl) ∙ back .list
 
   -- (b) the coordinates
@@ -167,5 +176,5 @@ module _ (s : List ℕ) (places : ℕ) (f : Fields) (coords : List ℕ) (e : fil
   retyped-shots = back .shots
 
   -- (c) from a file in its shortest form, the file that is written for the typed list is that file, byte for byte
-  pub rewritten : Bytes s → T (shortest s) → fileOf (jobOf (f .first) (f .second) (f .third) (shotsIn (linesOf (plainText places s)))) ≡ s
-  rewritten b t = ap (λ c. fileOf (jobOf (f .first) (f .second) (f .third) c)) retyped-shots ∙ written-read s places (jobOf (f .first) (f .second) (f .third) coords) b t e
+  pub rewritten : Bytes s → T (shortest s) → fileOf (jobOf F E G (shotsIn (linesOf (plainText places s)))) ≡ s
+  rewritten b t = ap (λ c. fileOf (jobOf F E G c)) retyped-shots ∙ written-read s places job b t e

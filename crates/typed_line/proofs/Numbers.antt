@@ -1,22 +1,19 @@
 -- A number's digits one after another. Assumes nothing.
 use mathlib.Core.Path.{_≡_, refl, sym, ap, _∙_}
-use mathlib.Core.Bool.{Bool, true, false, _&&_}
+use mathlib.Core.Bool.{true, false, _&&_}
 use mathlib.Core.List.{List, [], _∷_}
 use Prim.Native.Nat.{ℕ, _+_, _-_, _*_, _≤_, _<_}
 use native.Mathlib.Omega.{arith}
 use lib.Dec.{leb}
 use lib.ListN.{length, drop, getD, drop-of-length-le}
 use borrow.Author.Tests.{leb-true, le-leb, lt-leb}
+use Rattle.ground.proofs.Bools.{and-true}
 use Rattle.text_parts.specs.Decimal.{valueFrom}
 use Rattle.text_same.proofs.SameLaws.{here}
 use Rattle.typed_line.specs.declared.entry.Number.the-variants.{Is, NoDigit, TooLarge}
 use Rattle.typed_line.specs.Entries.{digit, digitsOnly, wordNumber}
 
 -- ---- digits
-pub both : (a b : Bool) → a && b ≡ true → (a ≡ true) × (b ≡ true)
-both true b e = (refl, e)
-both false b e = let z : _≡_ {A = ℕ} 0 1 = cc in absurd (omega arith)
-
 pub digit-low : (b : ℕ) → b < 48 → false ≡ digit b
 digit-low b h = rw (lt-leb 48 b h)
 
@@ -24,7 +21,7 @@ pub digit-high : (b : ℕ) → 48 ≤ b → leb b 57 ≡ digit b
 digit-high b h = rw (le-leb 48 b h)
 
 pub digit-range : (b : ℕ) → digit b ≡ true → (48 ≤ b) × (b ≤ 57)
-digit-range b e = let p = both (leb 48 b) (leb b 57) e in (leb-true 48 b (p .0), leb-true b 57 (p .1))
+digit-range b e = let p = and-true (leb 48 b) (leb b 57) e in (leb-true 48 b (p .0), leb-true b 57 (p .1))
 
 digits-cons : (b : ℕ) (s : List ℕ) → digitsOnly (b ∷ s) ≡ digit b && digitsOnly s
 unfolding digitsOnly
@@ -49,7 +46,7 @@ module _ (w : List ℕ) (i : ℕ) where
     digits-on e = digits-here ∙ ap (λ t. t && digitsOnly (drop (i + 1) w)) e
 
     pub digits-all : digitsOnly (drop i w) ≡ true → (digit (getD w i 0) ≡ true) × (digitsOnly (drop (i + 1) w) ≡ true)
-    digits-all e = both (digit (getD w i 0)) (digitsOnly (drop (i + 1) w)) (sym digits-here ∙ e)
+    digits-all e = and-true (digit (getD w i 0)) (digitsOnly (drop (i + 1) w)) (sym digits-here ∙ e)
 
 -- ---- what they are worth
 value-cons : (v b : ℕ) (s : List ℕ) → valueFrom v (b ∷ s) ≡ valueFrom (v * 10 + (b - 48)) s

@@ -16,7 +16,8 @@ use Rattle.typed_line.specs.declared.entry.Entry.the-variants.{Setting a
 use Rattle.typed_line.specs.Words.{before, newline, hash, blank, linesOf, ended, wordsOf}
 use Rattle.typed_line.specs.Entries.{digitsOnly, wordNumber, onNumber, settingOf, shotOf}
 use Rattle.typed_line.proofs.Cutting.{linesAfter, lines-cut, words-cut, words-blank, words-none, ended-some}
-use Rattle.typed_line.proofs.Numbers.{both, number-is}
+use Rattle.ground.proofs.Bools.{and-true}
+use Rattle.typed_line.proofs.Numbers.{number-is}
 
 -- ---- bytes that a test does not meet
 -- no byte passes the test
@@ -36,7 +37,7 @@ freely p (b ∷ s) = not (p b) && freely p s
 pub free-tested : (p : ℕ → Bool) (s : List ℕ) → freely p s ≡ true → Free p s
 unfolding freely
 free-tested p [] e = no-byte
-free-tested p (b ∷ s) e = let k = both (not (p b)) (freely p s) e in no-pass (not-true (p b) (k .0)) (free-tested p s (k .1))
+free-tested p (b ∷ s) e = let k = and-true (not (p b)) (freely p s) e in no-pass (not-true (p b) (k .0)) (free-tested p s (k .1))
 
 -- what stands before the first byte that passes, past bytes that do not
 pub before-append : {p : ℕ → Bool} {a : List ℕ} (s : List ℕ) → Free p a → before p (a ++ s) ≡ a ++ before p s

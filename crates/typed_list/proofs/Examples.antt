@@ -12,7 +12,8 @@ use Rattle.typed_list.specs.declared.Typed.{Typed}
 use Rattle.typed_list.specs.declared.Typed.the-variants.{List as Listed, Mistake as Mistaken}
 use Rattle.typed_line.specs.Words.{before, linesFrom, linesOf, wordsFrom}
 use Rattle.typed_line.specs.Entries.{digitsOnly, wordNumber, commandOf, onNumber, settingOf, shotOf, commanded, entryOf}
-use Rattle.typed_list.specs.Lists.{nothingYet, settled, shotMore, then, typedFrom, typedList, shotsIn}
+use Rattle.typed_draft.specs.Drafts.{nothingYet, settled, shotMore, then}
+use Rattle.typed_list.specs.Lists.{typedFrom, typedList, shotsIn}
 
 -- with places for two shots
 abbrev says : String → Typed → Type 0

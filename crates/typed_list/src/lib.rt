@@ -1,13 +1,10 @@
 // A shot list as it is typed: plain text, a setting or a shot a line. `read_text` takes a text to a list with its settings, or to its
-// first mistake. specs/Lists.antt says what the lines above say, one more, and the text. `draft` has the lines above.
-// Stands on `typed_line`, which reads a single line, on `job`, whose door stores a shot, on `shotfile_records` for the settings that are
-// left out, and on `buffer`; its examples also on `text_parts`.
-mod draft;
-
-use crate::draft::Draft;
-use crate::draft::Next;
-use crate::draft::nothing_yet;
-use crate::draft::then;
+// first mistake. specs/Lists.antt says what a text says. Stands on `typed_line`, which reads a single line, on `typed_draft`, which has what
+// the lines above say, on `job`, whose door stores a shot, and on `buffer`; its examples also on `text_parts` and `shotfile_records`.
+use typed_draft::Draft;
+use typed_draft::Next;
+use typed_draft::nothing_yet;
+use typed_draft::then;
 use typed_line::End;
 use typed_line::Entry;
 use typed_line::Mistake;

@@ -4,24 +4,25 @@ use mathlib.Core.Path.{_≡_, refl, sym, ap, subst, _∙_}
 use mathlib.Core.Bool.{Bool, true, false, not, _||_}
 use mathlib.Core.List.{List}
 use mathlib.Core.Logic.{_↔_, _⊎_}
-use Prim.Native.Nat.{ℕ, _+_, _-_, _≤_, _<_}
+use Prim.Native.Nat.{ℕ, _+_, _≤_, _<_}
 use native.Mathlib.Omega.{arith}
 use lib.Dec.{ltb, leb, eqb}
 use lib.ListN.{length, take, drop}
 use borrow.Author.Tests.{ltb-true, ltb-false}
-use Rattle.job.specs.declared.Refusal.{Refusal}
-use Rattle.job.specs.declared.Refusal.the-variants.{TooManyShots, NoPlace, NotVox, BrokenChunk, VoxelRange}
-use Rattle.job.specs.declared.Checked.{Checked}
-use Rattle.job.specs.declared.Checked.the-variants.{Accepted, Refused}
+use Rattle.refusals.specs.declared.Refusal.{Refusal}
+use Rattle.refusals.specs.declared.Refusal.the-variants.{TooManyShots, NoPlace, NotVox, BrokenChunk, VoxelRange}
+use Rattle.refusals.specs.declared.Checked.{Checked}
+use Rattle.refusals.specs.declared.Checked.the-variants.{Accepted, Refused}
 use Rattle.job.specs.Job.{shotCount}
-use Rattle.job.specs.Checking.{Test, firstOf}
-use Rattle.job.specs.Conditions.{Each, Says, First}
+use Rattle.refusals.specs.Tests.{Test, firstOf}
+use Rattle.refusals.specs.Deciding.{Each, Says, First, Decides}
 use Rattle.ground.proofs.Tests.{ltb-says, leb-says, eqb-says, not-says, or-says, and-says}
 use Rattle.job.proofs.Tests.{outside-says}
-use Rattle.job.proofs.Places.{first-iff, none-each, none-iff}
-use Rattle.shotfile.specs.Calls.{readAnswer}
-use Rattle.shotfile.specs.declared.reader.ReadAnswer.{ReadAnswer}
-use Rattle.shotfile.specs.declared.reader.ReadAnswer.the-variants.{Read, Refused as Unread}
+use Rattle.refusals.proofs.FirstOf.{none-each}
+use Rattle.refusals.proofs.Deciding.{decides-by, decides-as}
+use Rattle.shotfile_reader.specs.Calls.{readAnswer}
+use Rattle.shotfile_reader.specs.declared.ReadAnswer.{ReadAnswer}
+use Rattle.shotfile_reader.specs.declared.ReadAnswer.the-variants.{Read, Refused as Unread}
 use Rattle.text_same.proofs.SameLaws.{same-iff}
 use Rattle.text_parts.specs.Text.{text}
 use Rattle.vox_chunks.specs.Chunks.{numberAt, stands, contentAt, childrenAt, afterChunk, missing, overruns, mismatched}
@@ -200,10 +201,14 @@ module _ (places : ℕ) (s : List ℕ) where
       go false h = n .1 .1 .1 .1 .1 .1 .1 .1 .1 .1 .0 (voxel-range (wrong-voxel refl (fault-is s (omega (arith, ltb-false m (firstFault s) h, f .is-voxel)))))
   none-holds n q (broken-chunk (later-broken l p)) = n .1 .1 .1 .1 .1 .1 .1 .1 .1 .1 .1 .0 (broken-chunk (subst (BrokenAt s) (later-stops s l p) (later-broken l p)))
 
-  -- ---- what the file says
-  passes-iff : (firstOf (voxTests places s) ≡ Accepted) ↔ ((q : Refusal) → ¬ VoxCondition places s q)
-  passes-iff = let i = none-iff (VoxCondition places s) (voxTests places s) tests-say in (λ e. none-holds (i .0 e), λ n. i .1 (none-each (VoxCondition places s) n (voxTests places s)))
+  -- the tests accept exactly if no condition holds, and refuse by the first that does
+  pub vox-decides : Decides (voxTests places s) ((q : Refusal) → ¬ VoxCondition places s q) (First (VoxCondition places s) (voxTests places s))
+  vox-decides =
+      decides-as (decides-by (VoxCondition places s) (voxTests places s) tests-say)
+      (none-holds, λ n. none-each (VoxCondition places s) n (voxTests places s))
+      (λ r. (λ f. f, λ f. f))
 
+  -- ---- what the file says
   abbrev said : Checked → ReadAnswer
   said c = readAnswer (given s c)
 
@@ -225,12 +230,12 @@ module _ {s before after : List ℕ} {r : ReadAnswer} (call : VoxCall s before r
   pub vox-accepts : (r ≡ Read (largestSide s) 1 1 (voxelCount s)) ↔ ((q : Refusal) → ¬ VoxCondition (shotCount before) s q)
   vox-accepts =
       let i = says-read (shotCount before) s (firstOf (voxTests (shotCount before) s)) in
-      let k = passes-iff (shotCount before) s in
-      (λ e. k .0 (i .1 (sym told ∙ e)), λ n. told ∙ i .0 (k .1 n))
+      let h = vox-decides (shotCount before) s .accepted in
+      (λ e. h .0 (i .1 (sym told ∙ e)), λ n. told ∙ i .0 (h .1 n))
 
   -- each refusal is given exactly if its condition holds and that of no test before it does
   pub vox-refuses : (q : Refusal) → (r ≡ Unread q) ↔ First (VoxCondition (shotCount before) s) (voxTests (shotCount before) s) q
   vox-refuses q =
       let i = says-refused (shotCount before) s (firstOf (voxTests (shotCount before) s)) q in
-      let k = first-iff (VoxCondition (shotCount before) s) (voxTests (shotCount before) s) (tests-say (shotCount before) s) q in
-      (λ e. k .0 (i .1 (sym told ∙ e)), λ f. told ∙ i .0 (k .1 f))
+      let h = vox-decides (shotCount before) s .refused q in
+      (λ e. h .0 (i .1 (sym told ∙ e)), λ f. told ∙ i .0 (h .1 f))

@@ -4,9 +4,10 @@ use mathlib.Core.List.{List, [], _∷_, _++_}
 use Prim.Native.Nat.{ℕ}
 use Prim.Native.String.{String}
 use lib.ListN.{take}
-use Rattle.job.specs.declared.Refusal.the-variants.{NoPlace, NotVox, BrokenChunk, VoxelRange}
-use Rattle.job.specs.Checking.{firstOf}
-use Rattle.shotfile.specs.Files.{settingFields, file, refused}
+use Rattle.refusals.specs.declared.Refusal.the-variants.{NoPlace, NotVox, BrokenChunk, VoxelRange}
+use Rattle.job.specs.Job.{jobOf}
+use Rattle.refusals.specs.Tests.{firstOf}
+use Rattle.shotfile_reader.specs.Files.{file, refused}
 use Rattle.text_same.specs.Same.{same}
 use Rattle.text_parts.specs.Text.{text}
 use Rattle.vox_chunks.specs.Chunks.{numberAt, stands}
@@ -30,7 +31,7 @@ model size z colour children =
     ++ (head "note" 0 3 ++ children))))))))))
 
 pub known-files :
-    (voxIn 1 (model 59 2 7 (1 ∷ 2 ∷ 3 ∷ [])) ≡ file (settingFields 3 1 1) (1 ∷ 0 ∷ 2 ∷ []))
+    (voxIn 1 (model 59 2 7 (1 ∷ 2 ∷ 3 ∷ [])) ≡ file (jobOf 3 1 1 (1 ∷ 0 ∷ 2 ∷ [])))
     × (voxIn 0 (model 59 2 7 (1 ∷ 2 ∷ 3 ∷ [])) ≡ refused (NoPlace 44))
     × (voxIn 1 (model 59 3 7 (1 ∷ 2 ∷ 3 ∷ [])) ≡ refused (VoxelRange 60))
     × (voxIn 1 (model 59 2 0 (1 ∷ 2 ∷ 3 ∷ [])) ≡ refused (VoxelRange 60))

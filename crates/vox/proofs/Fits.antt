@@ -3,14 +3,13 @@ use mathlib.Core.Path.{_≡_, refl, sym}
 use mathlib.Core.List.{List}
 use Prim.Native.Nat.{ℕ}
 use native.Mathlib.Omega.{arith}
-use Rattle.job.specs.declared.Checked.{Checked}
-use Rattle.job.specs.declared.Checked.the-variants.{Accepted, Refused}
-use Rattle.job.specs.Checking.{firstOf}
-use Rattle.shotfile_records.specs.declared.Fields.{Fields}
-use Rattle.shotfile.specs.Files.{settingFields, file}
-use Rattle.shotfile.proofs.Accepted.{Fits}
-use Rattle.vox_voxels.specs.Voxels.{largestSide}
-use Rattle.vox.specs.Vox.{voxelCount, voxels, voxTests, voxIn}
+use Rattle.refusals.specs.declared.Checked.{Checked}
+use Rattle.refusals.specs.declared.Checked.the-variants.{Accepted, Refused}
+use Rattle.job.specs.Job.{Job}
+use Rattle.refusals.specs.Tests.{firstOf}
+use Rattle.shotfile_reader.specs.Files.{file}
+use Rattle.shotfile_reader.proofs.Accepted.{Fits}
+use Rattle.vox.specs.Vox.{voxelCount, voxTests, voxJob, voxIn}
 use Rattle.vox.proofs.Passed.{Passed, passed-has, voxels-count, voxels-whole, given}
 
 module _ (places : ℕ) (s : List ℕ) where
@@ -23,15 +22,14 @@ module _ (places : ℕ) (s : List ℕ) where
       go (Refused r) e = tt
 
   -- an accepted file
-  pub record Accepts (f : Fields) (coords : List ℕ) : Type 0 where
+  pub record Accepts (job : Job) : Type 0 where
     pub passed : Passed places s
-    pub settings : f ≡ settingFields (largestSide s) 1 1
-    pub list : coords ≡ voxels s 0 (voxelCount s)
+    pub is : voxJob s ≡ job
 
-  pub vox-accepted : {f : Fields} {coords : List ℕ} → voxIn places s ≡ file f coords → Accepts f coords
+  pub vox-accepted : {job : Job} → voxIn places s ≡ file job → Accepts job
   unfolding voxIn
-  vox-accepted {f} {coords} e = go (firstOf (voxTests places s)) refl e
+  vox-accepted {job} e = go (firstOf (voxTests places s)) refl e
     where
-      go : (c : Checked) → firstOf (voxTests places s) ≡ c → given s c ≡ file f coords → Accepts f coords
+      go : (c : Checked) → firstOf (voxTests places s) ≡ c → given s c ≡ file job → Accepts job
       go (Refused r) h k = let z : _≡_ {A = ℕ} 0 1 = cc in absurd (omega arith)
-      go Accepted h k = record { passed = passed-has places s (sym h); settings = let z : settingFields (largestSide s) 1 1 ≡ f = cc in sym z; list = let z : voxels s 0 (voxelCount s) ≡ coords = cc in sym z }
+      go Accepted h k = record { passed = passed-has places s (sym h); is = let z : voxJob s ≡ job = cc in z }

@@ -6,21 +6,21 @@ use native.Mathlib.Omega.{arith}
 use lib.ListN.{length}
 use borrow.Author.Tests.{ltb-false}
 use Rattle.buffer.specs.Wrote.{inFront}
-use Rattle.job.specs.declared.Refusal.{Refusal}
-use Rattle.job.specs.declared.Checked.{Checked}
-use Rattle.job.specs.declared.Checked.the-variants.{Accepted, Refused}
+use Rattle.refusals.specs.declared.Refusal.{Refusal}
+use Rattle.refusals.specs.declared.Checked.{Checked}
+use Rattle.refusals.specs.declared.Checked.the-variants.{Accepted, Refused}
 use Rattle.job.specs.Job.{shotCount, placeOf}
-use Rattle.job.specs.Checking.{firstOf}
+use Rattle.refusals.specs.Tests.{firstOf, ifAccepted}
 use Rattle.ground.proofs.Bools.{or-false}
 use Rattle.job.proofs.Tests.{within}
-use Rattle.job.proofs.Places.{passes, first-passed, first-stopped}
-use Rattle.shotfile.specs.Files.{File, file, settingFields}
-use Rattle.shotfile.specs.Calls.{readAnswer, readNumbers, readValues, readCoords}
-use Rattle.shotfile.specs.declared.reader.ReadAnswer.the-variants.{Read, Refused as Unread}
-use Rattle.shotfile.proofs.Coords.{count-none, count-more, places-more}
+use Rattle.refusals.proofs.FirstOf.{passes, first-passed, first-stopped}
+use Rattle.shotfile_reader.specs.Files.{File, file, refused}
+use Rattle.shotfile_reader.specs.Calls.{readAnswer, readNumbers, readValues, readCoords}
+use Rattle.shotfile_reader.specs.declared.ReadAnswer.the-variants.{Read, Refused as Unread}
+use Rattle.shotfile_reader.proofs.Coords.{count-none, count-more, places-more}
 use Rattle.vox_chunks.proofs.ChunkLaws.{matched-whole}
 use Rattle.vox_voxels.specs.Voxels.{sideOn, wrongSide, largestSide, voxelAt, firstWrong}
-use Rattle.vox.specs.Vox.{voxelCount, voxelFields, voxels, openingTests, voxelTests, voxTests, ifPassed, voxIn, VoxCall}
+use Rattle.vox.specs.Vox.{voxelCount, voxelFields, voxels, openingTests, voxelTests, voxTests, voxJob, voxIn, VoxCall}
 
 -- ---- the two parts of the checks
 module _ (places : ℕ) (s : List ℕ) where
@@ -79,7 +79,7 @@ voxels-whole s n (suc left) = places-more (voxelFields s n) (voxels s (suc n) le
 -- ---- the call
 -- what the file says, by what the checks found
 abbrev pub given : List ℕ → Checked → File
-given s c = ifPassed c (file (settingFields (largestSide s) 1 1) (voxels s 0 (voxelCount s)))
+given s c = ifAccepted c refused (file (voxJob s))
 
 module _ (s before : List ℕ) where
   vox-is : {c : Checked} → c ≡ firstOf (voxTests (shotCount before) s) → given s c ≡ voxIn (shotCount before) s

@@ -1,27 +1,26 @@
 -- The list of an accepted VOX file: its shots are the voxels in file order, its cells are exactly theirs, it is valid, and its index needs
 -- an entry a voxel and two more. The statements at the end are of the call, by what it promises. Assumes nothing.
-use mathlib.Core.Path.{_≡_, refl, sym, ap, _∙_}
-use mathlib.Core.Bool.{Bool, true, false, _||_}
+use mathlib.Core.Path.{_≡_, refl, sym, ap, subst, _∙_}
+use mathlib.Core.Bool.{true, _||_}
 use mathlib.Core.List.{List}
 use mathlib.Core.Logic.{_↔_}
 use Prim.Native.Nat.{ℕ, zero, suc, _+_, _<_}
 use native.Mathlib.Omega.{arith}
-use lib.Dec.{T, leb, ltb, eqb}
+use lib.Dec.{leb, ltb, eqb}
 use lib.ListN.{getD}
 use borrow.Author.Tests.{leb-false}
 use Rattle.lattice.specs.Shots.{Shot, spans, covers, cells, InField}
-use Rattle.job.specs.Job.{jobOf, shotsOf, shotCount, shotAt, firstShots, Valid}
-use Rattle.ground.proofs.Bools.{or-false}
+use Rattle.job.specs.Job.{Job, jobOf, shotsOf, shotCount, shotAt, firstShots, Valid}
+use Rattle.ground.proofs.Bools.{is-true, truth, or-false}
 use Rattle.ground.proofs.Tests.{leb-says, ltb-says, and-says}
 use Rattle.job.proofs.Shots.{shots-at, stay-all, any-at, at-any}
 use Rattle.grid.proofs.NeedLaws.{one-cell-need}
-use Rattle.shotfile_records.specs.declared.Fields.{Fields}
-use Rattle.shotfile.specs.Files.{settingFields, file}
-use Rattle.shotfile.specs.declared.reader.ReadAnswer.the-variants.{Read}
-use Rattle.shotfile.proofs.Coords.{shots-more}
-use Rattle.shotfile.proofs.Accepted.{stored-list}
+use Rattle.shotfile_reader.specs.Files.{file}
+use Rattle.shotfile_reader.specs.declared.ReadAnswer.the-variants.{Read}
+use Rattle.shotfile_reader.proofs.Coords.{shots-more}
+use Rattle.shotfile_reader.proofs.Accepted.{stored-list}
 use Rattle.vox_voxels.specs.Voxels.{sideOn, largestSide, byteOf, beyond, wrongVoxel}
-use Rattle.vox.specs.Vox.{voxelCount, voxelFields, voxels, voxIn, VoxCall}
+use Rattle.vox.specs.Vox.{voxelCount, voxelFields, voxels, voxJob, voxIn, VoxCall}
 use Rattle.vox.specs.Conditions.{voxelShot, HasVoxel, VoxList}
 use Rattle.vox.proofs.Passed.{Passed, voxels-count, voxels-whole}
 use Rattle.vox.proofs.Fits.{vox-fits, vox-accepted}
@@ -59,7 +58,7 @@ module _ (s : List ℕ) where
           z-in = omega (arith, leb-false (sideOn s 2) (byteOf s m 2) (z .0));
         }
 
-    pub voxels-valid : Valid (jobOf (largestSide s) 1 1 (voxels s 0 (voxelCount s)))
+    pub voxels-valid : Valid (voxJob s)
     voxels-valid =
         let n = voxels-count s 0 (voxelCount s) in
         record {
@@ -86,13 +85,6 @@ module _ (s : List ℕ) where
       and-says (spans 1 (byteOf s n 0) i) _ (span-one (byteOf s n 0) i)
       (and-says (spans 1 (byteOf s n 1) j) (spans 1 (byteOf s n 2) k) (span-one (byteOf s n 1) j) (span-one (byteOf s n 2) k))
 
-  holds : (b : Bool) → T b → b ≡ true
-  holds true t = refl
-  holds false t = absurd t
-
-  held : (b : Bool) → b ≡ true → T b
-  held b e = rw e tt
-
   abbrev list : List ℕ
   list = voxels s 0 (voxelCount s)
 
@@ -101,38 +93,34 @@ module _ (s : List ℕ) where
     where
       to : cells (shotsOf 1 list) i j k ≡ true → HasVoxel s i j k
       to e =
-          let a = any-at 1 (λ t. covers t i j k) list (held (cells (shotsOf 1 list) i j k) e) in
+          let a = any-at 1 (λ t. covers t i j k) list (truth (cells (shotsOf 1 list) i j k) e) in
           let h : a .0 < voxelCount s = omega (arith, a .1, voxels-count s 0 (voxelCount s)) in
-          let c = covers-one (a .0) i j k .0 (ap (λ (t : Shot). covers t i j k) (sym (voxel-at (a .0) h)) ∙ holds (covers (shotAt 1 list (a .0)) i j k) (a .2)) in
+          let c = covers-one (a .0) i j k .0 (ap (λ (t : Shot). covers t i j k) (sym (voxel-at (a .0) h)) ∙ is-true (covers (shotAt 1 list (a .0)) i j k) (a .2)) in
           record { n = a .0; is-voxel = h; x-is = c .0; y-is = c .1 .0; z-is = c .1 .1 }
 
       from : HasVoxel s i j k → cells (shotsOf 1 list) i j k ≡ true
       from v =
           let e = ap (λ (t : Shot). covers t i j k) (voxel-at (v .n) (v .is-voxel)) ∙ covers-one (v .n) i j k .1 (v .x-is, (v .y-is, v .z-is)) in
-          holds (cells (shotsOf 1 list) i j k) (at-any 1 (λ t. covers t i j k) list (v .n) (omega (arith, v .is-voxel, voxels-count s 0 (voxelCount s))) (held (covers (shotAt 1 list (v .n)) i j k) e))
+          is-true (cells (shotsOf 1 list) i j k) (at-any 1 (λ t. covers t i j k) list (v .n) (omega (arith, v .is-voxel, voxels-count s 0 (voxelCount s))) (truth (covers (shotAt 1 list (v .n)) i j k) e))
 
 -- ---- what an accepted file says
-pub vox-list : (places : ℕ) (s : List ℕ) {F E G : ℕ} {coords : List ℕ} → voxIn places s ≡ file (settingFields F E G) coords → VoxList s (jobOf F E G coords)
-vox-list places s {F} {E} {G} {coords} e =
+pub vox-list : (places : ℕ) (s : List ℕ) {job : Job} → voxIn places s ≡ file job → VoxList s job
+vox-list places s e =
     let a = vox-accepted places s e in
-    let f : F ≡ largestSide s = ap (λ (r : Fields). r .first) (a .settings) in
-    let d : E ≡ 1 = ap (λ (r : Fields). r .second) (a .settings) in
-    let g : G ≡ 1 = ap (λ (r : Fields). r .third) (a .settings) in
-    let l = a .list in
     let v = voxels-valid s (a .passed) in
-    record {
-      field = f;
-      edge = d;
-      grid = g;
-      count = rw l (voxels-count s 0 (voxelCount s));
-      in-order = rw (d, l) (voxel-at s);
-      exactly = rw (d, l) (voxels-cells s);
-      valid = rw (f, d, g, l) v;
-      needs = rw (f, d, g, l) (one-cell-need v);
-    }
+    subst (VoxList s) (a .is) (record {
+      field = refl;
+      edge = refl;
+      grid = refl;
+      count = voxels-count s 0 (voxelCount s);
+      in-order = voxel-at s;
+      exactly = voxels-cells s;
+      valid = v;
+      needs = one-cell-need v;
+    })
 
 -- ---- the call: the list that it stores
 pub vox-stored : {s before after : List ℕ} {F E G n : ℕ} → VoxCall s before (Read F E G n) after → VoxList s (jobOf F E G (firstShots n after))
-vox-stored {s} {before} {after} {F} {E} {G} {n} call =
+vox-stored {s} {before} call =
     let k = stored-list (voxIn (shotCount before) s) (record { answer = call .answer; coordinates = call .coordinates; fits = vox-fits (shotCount before) s }) refl in
-    rw (k .stored) (vox-list (shotCount before) s (k .is))
+    vox-list (shotCount before) s (k .is)

@@ -9,9 +9,9 @@ use lib.ListN.{length, getD}
 use borrow.Author.Tests.{lt-ltb, le-ltb}
 use Rattle.buffer.proofs.Underway.{Underway, underway-none}
 use Rattle.job.specs.Job.{placeOf, numbersOf}
-use Rattle.shotfile.specs.Files.{shotNumbers}
+use Rattle.shotfile_records.specs.Numbers.{shotNumbers}
 use Rattle.vox_chunks.specs.Chunks.{afterChunk, overruns}
-use Rattle.vox_voxels.specs.Voxels.{voxelAt, wrongVoxel, firstWrong}
+use Rattle.vox_voxels.specs.Voxels.{voxelAt}
 use Rattle.vox.specs.Vox.{voxelFields, voxels, firstOverrun, overrunFrom}
 
 -- ---- voxels

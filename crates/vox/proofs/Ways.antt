@@ -4,19 +4,19 @@ use mathlib.Core.Bool.{Bool, true, false, not, _||_}
 use mathlib.Core.List.{List, [], _∷_}
 use Prim.Native.Nat.{ℕ, _+_, _*_, _≤_, _<_}
 use native.Mathlib.Omega.{arith}
-use lib.Dec.{leb, ltb, eqb}
+use lib.Dec.{ltb, eqb}
 use lib.ListN.{length}
 use borrow.Author.Tests.{eqb-true, lt-ltb, le-ltb}
-use Rattle.job.specs.declared.Refusal.the-variants.{TooManyShots, NoPlace, BrokenChunk, VoxelRange}
-use Rattle.job.specs.declared.Checked.{Checked}
-use Rattle.job.specs.declared.Checked.the-variants.{Accepted, Refused}
-use Rattle.job.specs.Checking.{firstOf}
+use Rattle.refusals.specs.declared.Refusal.the-variants.{TooManyShots, NoPlace, BrokenChunk, VoxelRange}
+use Rattle.refusals.specs.declared.Checked.{Checked}
+use Rattle.refusals.specs.declared.Checked.the-variants.{Accepted, Refused}
+use Rattle.refusals.specs.Tests.{firstOf}
 use Rattle.ground.proofs.Bools.{or-first, or-second, or-true-right}
-use Rattle.job.proofs.Places.{first-here, first-next, first-none}
+use Rattle.refusals.proofs.FirstOf.{first-here, first-next, first-none}
 use Rattle.text_parts.specs.Text.{text}
 use Rattle.vox_chunks.specs.Chunks.{numberAt, stands, contentAt, childrenAt, afterChunk, missing, overruns, mismatched}
 use Rattle.vox_chunks.proofs.ChunkLaws.{differs, agrees}
-use Rattle.vox_voxels.specs.Voxels.{sideOn, wrongSide, voxelAt, beyond, byteOf, wrongVoxel, firstWrong}
+use Rattle.vox_voxels.specs.Voxels.{voxelAt, firstWrong}
 use Rattle.vox.specs.Vox.{unmarked, unfilled, voxelCount, overrunFrom, voxelTests}
 
 module _ (s : List ℕ) where

@@ -6,15 +6,14 @@ use mathlib.Core.List.{List, [], _∷_, _++_}
 use Prim.Native.Nat.{ℕ, zero, suc, _+_, _*_}
 use lib.Dec.{ltb, eqb}
 use lib.ListN.{length}
-use Rattle.job.specs.declared.Refusal.the-variants.{TooManyShots, NoPlace, NotVox, BrokenChunk, VoxelRange}
-use Rattle.job.specs.declared.Checked.{Checked}
-use Rattle.job.specs.declared.Checked.the-variants.{Accepted, Refused}
-use Rattle.job.specs.Job.{shotCount}
-use Rattle.job.specs.Checking.{Test, firstOf}
+use Rattle.refusals.specs.declared.Refusal.the-variants.{TooManyShots, NoPlace, NotVox, BrokenChunk, VoxelRange}
+use Rattle.job.specs.Job.{Job, jobOf, shotCount}
+use Rattle.refusals.specs.Tests.{Test, firstOf, ifAccepted}
 use Rattle.shotfile_records.specs.declared.Fields.{Fields}
-use Rattle.shotfile.specs.Files.{File, file, refused, settingFields, shotNumbers}
-use Rattle.shotfile.specs.Calls.{readAnswer, readNumbers, readValues, readCoords}
-use Rattle.shotfile.specs.declared.reader.ReadAnswer.{ReadAnswer}
+use Rattle.shotfile_reader.specs.Files.{File, file, refused}
+use Rattle.shotfile_records.specs.Numbers.{shotNumbers}
+use Rattle.shotfile_reader.specs.Calls.{readAnswer, readNumbers, readValues, readCoords}
+use Rattle.shotfile_reader.specs.declared.ReadAnswer.{ReadAnswer}
 use Rattle.text_parts.specs.Text.{text}
 use Rattle.vox_chunks.specs.Chunks.{numberAt, stands, contentAt, afterChunk, missing, overruns, mismatched}
 use Rattle.vox_voxels.specs.Voxels.{wrongSide, largestSide, voxelAt, byteOf, firstWrong}
@@ -77,13 +76,13 @@ abbrev pub voxTests : ℕ → List ℕ → List Test
 voxTests places s = openingTests s ++ voxelTests places s
 
 -- ---- the list
-abbrev pub ifPassed : Checked → File → File
-ifPassed Accepted f = f
-ifPassed (Refused r) f = refused r
+-- the list of a file: the largest side as field, edge 1, grid 1, and the voxels
+abbrev pub voxJob : List ℕ → Job
+voxJob s = jobOf (largestSide s) 1 1 (voxels s 0 (voxelCount s))
 
--- what a file says where the coordinate slice has places for so many shots: the largest side as field, edge 1, grid 1, and the voxels
+-- what a file says where the coordinate slice has places for so many shots
 unfoldable pub voxIn : ℕ → List ℕ → File
-voxIn places s = ifPassed (firstOf (voxTests places s)) (file (settingFields (largestSide s) 1 1) (voxels s 0 (voxelCount s)))
+voxIn places s = ifAccepted (firstOf (voxTests places s)) refused (file (voxJob s))
 
 -- what `read_vox` promises of its answer r and of the coordinate slice after it
 pub record VoxCall (bytes before : List ℕ) (r : ReadAnswer) (after : List ℕ) : Type 0 where

@@ -2,10 +2,10 @@
 // order. docs/SCOPE.md, 'VOX file'. specs/Vox.antt says what a file means and specs/Conditions.antt when it is refused;
 // proofs/Conditions.antt that each refusal is given exactly where it should be, proofs/Voxels.antt that the cells of the list are the
 // voxels, that the list is valid and how long its index is. Stands on `vox_chunks` for the chunks of a file and `vox_voxels` for its sides
-// and voxels, and on `job` and `shotfile`, whose refusals, door to a shot and answer it uses.
-use job::Checked;
-use job::Refusal;
-use shotfile::ReadAnswer;
+// and voxels, and on `job` and `shotfile_reader`, whose refusals, door to a shot and answer it uses.
+use refusals::Checked;
+use refusals::Refusal;
+use shotfile_reader::ReadAnswer;
 use vox_chunks::after_chunk;
 use vox_chunks::is_mismatched;
 use vox_chunks::is_missing;
@@ -20,7 +20,7 @@ ghost use Prim.Native.Nat.{_+_, _*_, _≤_, _<_};
 ghost use lib.ListN.{length};
 ghost use Rattle.buffer.specs.Wrote.{Wrote, inFront};
 ghost use Rattle.job.specs.Job.{shotCount, placeOf, numbersOf};
-ghost use Rattle.job.specs.Checking.{firstOf};
+ghost use Rattle.refusals.specs.Tests.{firstOf};
 ghost use Rattle.vox_chunks.specs.Chunks.{mismatched};
 ghost use Rattle.vox_voxels.specs.Voxels.{voxelAt};
 ghost use Rattle.vox.specs.Vox.{unmarked, unfilled, voxelCount, voxels, overrunFrom, openingTests, voxelTests, voxTests, VoxCall};

@@ -1,1 +1,2 @@
+-- the tests of a chunk, and what a chunk has that passes
 pub mod ChunkLaws

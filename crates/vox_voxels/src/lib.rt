@@ -66,7 +66,7 @@ pub fn largest_side(bytes: &[u8]) -> u16
 }
 
 // Whether a coordinate is not below a side.
-fn reaches(a: u8, side: u32) -> bool
+fn is_not_below(a: u8, side: u32) -> bool
     ensures { λ r. ⌜ r ≡ leb side a ⌝ }
 {
     side <= (a as u32)
@@ -79,7 +79,7 @@ fn is_beyond(bytes: &[u8], n: usize, axis: usize) -> bool
     ensures { λ r. ⌜ r ≡ beyond (now (bytes .entry)) n axis ⌝ }
 {
     let side = side(bytes, axis);
-    reaches(bytes[VOXELS_AT + 4 * n + axis], side)
+    is_not_below(bytes[VOXELS_AT + 4 * n + axis], side)
 }
 
 // Whether voxel n is outside SIZE or has colour 0.

@@ -1,1 +1,2 @@
+-- what is written fits its buffer
 pub mod Fits

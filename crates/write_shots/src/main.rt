@@ -1,17 +1,13 @@
 // The writing program: reads a shot list that is typed as plain text from standard input, and writes its shot file, in the shortest
 // form, to standard output. A mistake in the text, and a list that is refused, give one line on standard error and no file. What the
-// text says is `typed_list::read_text`, and its file `shotfile::writer::write`; here are the system calls, the sizes and the sentences.
+// text says is `typed_list::read_text`, and its file `shotfile_writer::write`; here are the sizes and the sentences.
 use input::Filled;
-use job::Refusal;
 use libc::STDERR_FILENO;
-use libc::STDOUT_FILENO;
-use shotfile::writer::WriteAnswer;
+use output::say;
+use refusals::Refusal;
+use shotfile_writer::WriteAnswer;
 use typed_line::Mistake;
 use typed_list::Typed;
-
-fn say(words: &[u8]) {
-    io::write_all(STDERR_FILENO, words);
-}
 
 // What is wrong with a line, in words.
 fn say_mistake(mistake: Mistake) {
@@ -38,28 +34,18 @@ fn tell_mistake(line: usize, mistake: Mistake) {
     say_mistake(mistake);
 }
 
-// The number and the detail of a refusal, and its sentence.
 fn tell_refusal(refusal: Refusal) {
-    say(b"write_shots: refused ");
-    io::print_decimal(STDERR_FILENO, job::number(refusal) as u64);
-    say(b" ");
-    io::print_decimal(STDERR_FILENO, job::detail(refusal) as u64);
-    say(b": ");
-    let mut sentence = [0u8; 64];
-    let n = text_wording::put_sentence(&mut sentence, 0, refusal);
-    say(&sentence[..n]);
-    say(b"\n");
+    say(b"write_shots: ");
+    output::say_refusal(refusal);
 }
 
 // Writes the file of a list; 28,679 bytes are the longest file.
 fn write_list(field: u16, edge: u16, grid: u16, coords: &[u16]) {
     let mut bytes = [0u8; 28679];
-    let answer = shotfile::writer::write(field, edge, grid, coords, &mut bytes);
+    let answer = shotfile_writer::write(field, edge, grid, coords, &mut bytes);
     match answer {
         WriteAnswer::Written { bytes: n } => {
-            if !io::write_all(STDOUT_FILENO, &bytes[..n]) {
-                say(b"write_shots: standard output cannot be written\n");
-            }
+            output::write_text(b"write_shots", &bytes[..n]);
         }
         WriteAnswer::Refused(refusal) => tell_refusal(refusal),
     }
@@ -93,8 +79,6 @@ fn main() {
                 write_text(&text[..n]);
             }
         }
-        Filled::Failed => {
-            say(b"write_shots: standard input cannot be read\n");
-        }
+        Filled::Failed => output::say_unreadable(b"write_shots"),
     }
 }

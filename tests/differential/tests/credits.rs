@@ -1,5 +1,5 @@
-//! Cells credited to shots: slices of every length about those that are needed, full lists, larger fields, and what
-//! holds of credits whatever the order of the shots. Random and damaged lists are in lists.rs.
+//! Cells credited to shots: counted cell by cell, slices of every length about those that are needed, full lists, larger
+//! fields, and what holds of credits whatever the order of the shots. Random and damaged lists are in lists.rs.
 //!
 //! HEQDANU_TESTS=quick leaves out the field of 1,024.
 
@@ -8,6 +8,7 @@ use differential::lists::ListCase;
 use heqdanu::{corners, credits, quote};
 use oracle::inputs::{accepted, accepted_with, coarsen, Length, Random, Size};
 use oracle::list::List;
+use oracle::literal;
 
 /// A list as the wrapper takes it.
 fn lent(list: &List) -> heqdanu::List<'_> {
@@ -25,6 +26,29 @@ fn shuffled(random: &mut Random, list: &List) -> List {
         shots.swap(place, random.within(0, place));
     }
     List { coords: shots.concat(), ..list.clone() }
+}
+
+/// Every cell of the field asks every shot, in two grids. Some shots without credit repeat no earlier one: several
+/// together cover their cells.
+#[test]
+fn counted_cell_by_cell() {
+    let mut random = Random::new(77);
+    let (mut none, mut hidden) = (0, 0);
+    for _ in 0..10_000 {
+        let mut list = accepted(&mut random, Size { field: 10, shots: 16 });
+        coarsen(&mut list, 5_000);
+        let counted = literal::credits(&list);
+        for grid in [list.grid, 1] {
+            let list = List { grid, ..list.clone() };
+            assert_eq!(credits(&lent(&list)), Ok(counted.clone()), "{list:?}");
+        }
+        let shots = list.shots();
+        for shot in (0..shots.len()).filter(|shot| counted[*shot] == 0) {
+            none += 1;
+            hidden += usize::from(!shots[..shot].contains(&shots[shot]));
+        }
+    }
+    assert!(none > 10_000 && hidden > 200, "{none} shots of credit 0, {hidden} of them no repeats");
 }
 
 /// None, one short, exact, one more, many more; with work slices one short, exact and longer.

@@ -18,11 +18,8 @@ put-totals-requires c κs = search needs
 enum-known-measured-2 : tie.Need-enum-known-measured-2
 enum-known-measured-2 c = search needs
 
-number-requires : tie.Need-number-requires
-number-requires c κs = search needs
-
-detail-requires : tie.Need-detail-requires
-detail-requires c κs = search needs
+notice-of-requires : tie.Need-notice-of-requires
+notice-of-requires c κs = search needs
 
 put-totals-requires-2 : tie.Need-put-totals-requires-2
 put-totals-requires-2 c κs = search needs
@@ -39,7 +36,10 @@ same-length-2 c = search needs
 
 returns-2 : tie.Need-returns-2
 unfolding measuredNumbers
-returns-2 c = let s = c .before .before .before .before .before .before .before .before .before .before in put-as (λ m. measurePlaces (measuredNumbers m)) (s .args .answer .now) (c .before .before .put-totals2 .ensures ∙ ap₂ (λ a b. inFront (a ∷ b ∷ 0 ∷ 0 ∷ 0 ∷ 0 ∷ 0 ∷ []) (s .args .answer .now)) (c .before .before .before .before .number .ensures) (c .before .before .before .detail .ensures)) (c .before .before .before .before .before .before .before .measured2 .given .1)
+returns-2 c =
+    let s = c .before .before .before .before .before .before .before .before .before in
+    let told = c .before .before .before .before .notice-of .ensures in
+    put-as (λ m. measurePlaces (measuredNumbers m)) (s .args .answer .now) (c .before .before .put-totals2 .ensures ∙ ap₂ (λ a b. inFront (a ∷ b ∷ 0 ∷ 0 ∷ 0 ∷ 0 ∷ 0 ∷ []) (s .args .answer .now)) (told .0) (told .1 .0)) (c .before .before .before .before .before .before .measured2 .given .1)
 
 pub put-measured-spec : {M : Type 1} → statement M
 put-measured-spec =
@@ -48,8 +48,7 @@ put-measured-spec =
     enum-known-measured
     put-totals-requires
     enum-known-measured-2
-    number-requires
-    detail-requires
+    notice-of-requires
     put-totals-requires-2
     same-length
     returns

@@ -1,6 +1,6 @@
 -- The intake, then the length of the credit slice, then the credits.
 use native.Mathlib.Omega.{arith}
-use Rattle.measure_intake.proofs.IntakeLaws.{accepted-list, accepted-holds}
+use Rattle.measure_intake.proofs.IntakeLaws.{accepted-holds}
 use Rattle.crediting.proofs.CallLaws.{refused-credit, short-credit, long-credit}
 use borrow.Author.Needs.{needs}
 use Rattle.crediting.proofs.credit.Statement.{statement}
@@ -31,7 +31,7 @@ returns-2 : tie.Need-returns-2
 returns-2 c = short-credit (c .before .before .before .before .before .before .indexed .ensures) (c .before .before .before .before .before .before .before .before .before .before .before .args .credits .now) (c .before .before .enum-told .given .1) (c .before .count .ensures) (omega (arith, c .if1 .taken))
 
 store-requires : tie.Need-store-requires
-store-requires c κs = (accepted-list (c .before .before .before .before .before .before .before .before .indexed .ensures) (c .before .before .before .before .enum-told .given .1), (accepted-holds (c .before .before .before .before .before .before .before .before .indexed .ensures) (c .before .before .before .before .enum-told .given .1), omega (arith, c .before .before .before .count .ensures, c .before .before .if1 .left)))
+store-requires c κs = (accepted-holds (c .before .before .before .before .before .before .before .before .indexed .ensures) (c .before .before .before .before .enum-told .given .1), omega (arith, c .before .before .before .count .ensures, c .before .before .if1 .left))
 
 same-length-3 : tie.Need-same-length-3
 same-length-3 c = search needs

@@ -20,13 +20,28 @@ clear-requires : tie.Need-clear-requires Inv-loop μ-loop
 clear-requires c κs = search needs
 
 cells-of-requires : tie.Need-cells-of-requires Inv-loop μ-loop
-cells-of-requires c κs = c .before .before .before .before .before .before .before .pre .0 .grid-most
+cells-of-requires c κs = c .before .before .before .before .before .before .before .pre .0 .valid .grid-most
 
 loop-holds : tie.Need-loop-holds Inv-loop μ-loop
-loop-holds c = (omega arith, c .before .before .before .clear .ensures ∙ (ap (λ n. replicate n 0) (sym (c .before .before .before .before .before .before .before .before .pre .1 .1)) ∙ cells-none (c .before .before .before .before .before .before .before .before .pre .0) (shotCount (c .before .before .before .before .before .before .before .before .args .coords .now))))
+loop-holds c =
+    let start = c .before .before .before .before .before .before .before .before in
+    (omega arith, c .before .before .before .clear .ensures ∙ (ap (λ n. replicate n 0) (sym (start .pre .1)) ∙ cells-none (start .pre .0 .valid) (shotCount (start .args .coords .now))))
 
 credit-cell-requires : tie.Need-credit-cell-requires Inv-loop μ-loop
-credit-cell-requires c κs = (c .before .before .before .before .before .before .before .before .before .before .before .pre .0, (c .before .before .before .before .before .before .before .before .before .before .before .pre .1 .0, (omega (arith, c .before .before .before .cells-of .ensures), (omega (arith, cells-long (c .before .before .before .before .before .before .before .before .before .before .before .pre .0) (shotCount (c .before .before .before .before .before .before .before .before .before .before .before .args .coords .now)) (c .before .before .loop .cell) (c .before .before .loop .inv .1)), cell-room (c .before .before .before .before .before .before .before .before .before .before .before .pre .0) (shotCount (c .before .before .before .before .before .before .before .before .before .before .before .args .coords .now)) (c .before .before .loop .cell) (omega (arith, c .before .before .before .cells-of .ensures)) (c .before .before .loop .credits) (c .before .before .loop .inv .1)))))
+credit-cell-requires c κs =
+    let start = c .before .before .before .before .before .before .before .before .before .before .before in
+    let at-loop = c .before .before in
+    let at-cells-of = c .before .before .before in (
+      start .pre .0,
+      (
+        omega (arith, at-cells-of .cells-of .ensures),
+        (
+          omega (arith, cells-long (start .pre .0 .valid) (shotCount (start .args .coords .now)) (at-loop .loop .cell) (at-loop .loop .inv .1)),
+          cell-room (start .pre .0 .valid) (shotCount (start .args .coords .now)) (at-loop .loop .cell) (omega (arith, at-cells-of .cells-of .ensures))
+              (at-loop .loop .credits) (at-loop .loop .inv .1),
+        ),
+      ),
+    )
 
 add-cell : tie.Need-add-cell Inv-loop μ-loop
 add-cell c = search needs
@@ -35,13 +50,20 @@ loop-less : tie.Need-loop-less Inv-loop μ-loop
 loop-less c = search needs
 
 loop-again : tie.Need-loop-again Inv-loop μ-loop
-loop-again c = (omega arith, cells-next (c .before .before .before .before .before .before .before .before .before .before .before .before .before .before .pre .0) (shotCount (c .before .before .before .before .before .before .before .before .before .before .before .before .before .before .args .coords .now)) (c .before .before .before .before .before .loop .cell) (c .before .before .before .before .before .loop .credits) _ (c .before .before .before .before .before .loop .inv .1) (c .before .before .credit-cell .ensures))
+loop-again c =
+    let start = c .before .before .before .before .before .before .before .before .before .before .before .before .before .before in
+    let at-loop = c .before .before .before .before .before in
+    (omega arith, cells-next (start .pre .0 .valid) (shotCount (start .args .coords .now)) (at-loop .loop .cell) (at-loop .loop .credits) _ (at-loop .loop .inv .1) (c .before .before .credit-cell .ensures))
 
 same-length : tie.Need-same-length Inv-loop μ-loop
-same-length c = omega (arith, cells-long (c .before .before .before .before .before .before .before .before .before .before .pre .0) (shotCount (c .before .before .before .before .before .before .before .before .before .before .args .coords .now)) (c .before .loop .cell) (c .before .loop .inv .1), c .before .before .before .before .before .before .before .before .before .before .pre .1 .1)
+same-length c =
+    let start = c .before .before .before .before .before .before .before .before .before .before in
+    omega (arith, cells-long (start .pre .0 .valid) (shotCount (start .args .coords .now)) (c .before .loop .cell) (c .before .loop .inv .1), start .pre .1)
 
 returns : tie.Need-returns Inv-loop μ-loop
-returns c = let all : c .before .loop .cell ≡ c .before .before .before .before .before .before .before .before .before .before .args .grid * c .before .before .before .before .before .before .before .before .before .before .args .grid * c .before .before .before .before .before .before .before .before .before .before .args .grid = omega (arith, c .before .before .cells-of .ensures) in cells-all (c .before .before .before .before .before .before .before .before .before .before .pre .0) (shotCount (c .before .before .before .before .before .before .before .before .before .before .args .coords .now)) refl (c .before .loop .credits) (rw all at (c .before .loop .inv .1))
+returns c =
+    let start = c .before .before .before .before .before .before .before .before .before .before in
+    let all : c .before .loop .cell ≡ start .args .grid * start .args .grid * start .args .grid = omega (arith, c .before .before .cells-of .ensures) in cells-all (start .pre .0 .valid) (shotCount (start .args .coords .now)) refl (c .before .loop .credits) (rw all at (c .before .loop .inv .1))
 
 pub credit-shots-spec : {M : Type 1} → statement M
 credit-shots-spec =

@@ -18,32 +18,23 @@ slice-aggregate-credit-file-3 c = search needs
 credit-file-requires : tie.Need-credit-file-requires
 credit-file-requires c κs = search needs
 
-slice-reshare-prefix-write-all : tie.Need-slice-reshare-prefix-write-all
-slice-reshare-prefix-write-all c = let q = c .before .before .before .before .before .credit-file in omega (arith, q .ensures .text .room, q .kept .1 .1 .1 .1 .0)
+slice-aggregate-write-text : tie.Need-slice-aggregate-write-text
+slice-aggregate-write-text c = search needs
 
-slice-aggregate-write-all : tie.Need-slice-aggregate-write-all
-slice-aggregate-write-all c = let q = c .before .before .before .before .before .before .credit-file in sym (length-take-le (q .result) (q .last .1 .1 .1 .1 .0) (omega (arith, q .ensures .text .room, q .kept .1 .1 .1 .1 .0)))
+slice-reshare-prefix-write-text : tie.Need-slice-reshare-prefix-write-text
+slice-reshare-prefix-write-text c = let q = c .before .before .before .before .before .before .credit-file in omega (arith, q .ensures .text .room, q .kept .1 .1 .1 .1 .0)
 
-write-all-requires : tie.Need-write-all-requires
-write-all-requires c κs = search needs
+slice-aggregate-write-text-2 : tie.Need-slice-aggregate-write-text-2
+slice-aggregate-write-text-2 c = let q = c .before .before .before .before .before .before .before .credit-file in sym (length-take-le (q .result) (q .last .1 .1 .1 .1 .0) (omega (arith, q .ensures .text .room, q .kept .1 .1 .1 .1 .0)))
 
-slice-aggregate-write-all-2 : tie.Need-slice-aggregate-write-all-2
-slice-aggregate-write-all-2 c = search needs
-
-write-all-requires-2 : tie.Need-write-all-requires-2
-write-all-requires-2 c κs = search needs
+write-text-requires : tie.Need-write-text-requires
+write-text-requires c κs = search needs
 
 same-length : tie.Need-same-length
 same-length c = search needs
 
 returns : tie.Need-returns
 returns c = search needs
-
-same-length-2 : tie.Need-same-length-2
-same-length-2 c = search needs
-
-returns-2 : tie.Need-returns-2
-returns-2 c = search needs
 
 pub print-by-spec : {M : Type 1} → statement M
 print-by-spec =
@@ -53,12 +44,9 @@ print-by-spec =
     slice-aggregate-credit-file-2
     slice-aggregate-credit-file-3
     credit-file-requires
-    slice-reshare-prefix-write-all
-    slice-aggregate-write-all
-    write-all-requires
-    slice-aggregate-write-all-2
-    write-all-requires-2
+    slice-aggregate-write-text
+    slice-reshare-prefix-write-text
+    slice-aggregate-write-text-2
+    write-text-requires
     same-length
-    returns
-    same-length-2
-    returns-2)
+    returns)

@@ -31,7 +31,10 @@ add-fill-slabs : tie.Need-add-fill-slabs
 add-fill-slabs c = let a = c .before .before .before .before .before .before .before .before .before in omega (arith, cube-most (a .args .grid) (a .pre .0 .grid-most), c .before .before .cells-of .ensures)
 
 fill-slabs-requires : tie.Need-fill-slabs-requires
-fill-slabs-requires c κs = let a = c .before .before .before .before .before .before .before .before .before in (a .pre .0, (upTo-part (c .before .before .before .count .result) (omega (arith, c .before .before .before .count .ensures, a .pre .0 .few)) (c .before .before .before .before .before .number .ensures) ∙ ap upTo (c .before .before .before .count .ensures), build-ready _ (a .args .work .now) (a .pre .1) (c .before .before .cells-of .ensures)))
+fill-slabs-requires c κs =
+    let a = c .before .before .before .before .before .before .before .before .before in
+    let at-count = c .before .before .before in
+    (a .pre .0, (upTo-part (at-count .count .result) (omega (arith, at-count .count .ensures, a .pre .0 .few)) (c .before .before .before .before .before .number .ensures) ∙ ap upTo (at-count .count .ensures), build-ready _ (a .args .work .now) (a .pre .1) (c .before .before .cells-of .ensures)))
 
 add-work : tie.Need-add-work
 add-work c = search needs
@@ -46,7 +49,9 @@ mul-work : tie.Need-mul-work
 mul-work c = let a = c .before .before .before .before .before .before .before .before .before .before .before .before in omega (arith, cube-most (a .args .grid) (a .pre .0 .grid-most), c .before .before .before .before .before .cells-of .ensures)
 
 slice-write-work : tie.Need-slice-write-work
-slice-write-work c = let a = c .before .before .before .before .before .before .before .before .before .before .before .before in omega (arith, a .pre .1, need-place (jobOf (a .args .field) (a .args .edge) (a .args .grid) (a .args .coords .now)), c .before .before .before .before .before .cells-of .ensures, c .before .before .fill-slabs .ensures .same-length)
+slice-write-work c =
+    let a = c .before .before .before .before .before .before .before .before .before .before .before .before in
+    omega (arith, a .pre .1, need-place (jobOf (a .args .field) (a .args .edge) (a .args .grid) (a .args .coords .now)), c .before .before .before .before .before .cells-of .ensures, c .before .before .fill-slabs .ensures .same-length)
 
 same-length : tie.Need-same-length
 same-length c = search needs

@@ -40,7 +40,11 @@ add-cell : tie.Need-add-cell Inv-loop μ-loop
 add-cell c = let a = c .before .before .before .before .before .before .before in omega (arith, cell-number _ (a .pre .0) (a .args .line) (a .pre .1 .0) (c .before .loop .gz) (c .loop-test .taken))
 
 fill-cell-requires : tie.Need-fill-cell-requires Inv-loop μ-loop
-fill-cell-requires c κs = let a = c .before .before .before .before .before .before .before .before .before in cell-asked _ (a .pre .0) (a .args .line) (a .pre .1 .0) (a .pre .1 .1 .1 .1) (a .args .row .now) (a .pre .1 .1 .0) (c .before .before .before .loop .gz) (c .before .before .loop-test .taken) (c .before .before .before .loop .inv .2) (c .before .before .before .before .cells-of .ensures) (omega (arith, a .pre .1 .1 .1 .0, c .before .before .before .loop .inv .1))
+fill-cell-requires c κs =
+    let a = c .before .before .before .before .before .before .before .before .before in
+    let at-loop = c .before .before .before in
+    cell-asked _ (a .pre .0) (a .args .line) (a .pre .1 .0) (a .pre .1 .1 .1 .1) (a .args .row .now) (a .pre .1 .1 .0) (at-loop .loop .gz) (c .before .before .loop-test .taken) (at-loop .loop .inv .2) (c .before .before .before .before .cells-of .ensures)
+    (omega (arith, a .pre .1 .1 .1 .0, at-loop .loop .inv .1))
 
 add-gz : tie.Need-add-gz Inv-loop μ-loop
 add-gz c = search needs

@@ -32,16 +32,22 @@ is-outside-requires-3 : tie.Need-is-outside-requires-3
 is-outside-requires-3 c κs = search needs
 
 returns-5 : tie.Need-returns-5
-returns-5 c = bad-grid _ (c .before .before .before .before .before .before .before .before .if1 .left) (omega arith) (sym (c .before .before .before .before .before .is-outside .ensures) ∙ c .before .before .before .before .if3 .left) (sym (c .before .before .before .is-outside2 .ensures) ∙ c .before .before .if4 .left) (sym (c .before .is-outside3 .ensures) ∙ c .if5 .taken)
+returns-5 c =
+    bad-grid _ (c .before .before .before .before .before .before .before .before .if1 .left) (omega arith) (sym (c .before .before .before .before .before .is-outside .ensures) ∙ c .before .before .before .before .if3 .left)
+    (sym (c .before .before .before .is-outside2 .ensures) ∙ c .before .before .if4 .left) (sym (c .before .is-outside3 .ensures) ∙ c .if5 .taken)
 
 rem-if6 : tie.Need-rem-if6
 rem-if6 c = omega (arith, within 1 64 (c .before .before .before .before .before .before .before .before .before .before .args .grid) (sym (c .before .is-outside3 .ensures) ∙ c .if5 .left))
 
 returns-6 : tie.Need-returns-6
-returns-6 c = no-divisor _ (c .before .before .before .before .before .before .before .before .before .if1 .left) (omega arith) (sym (c .before .before .before .before .before .before .is-outside .ensures) ∙ c .before .before .before .before .before .if3 .left) (sym (c .before .before .before .before .is-outside2 .ensures) ∙ c .before .before .before .if4 .left) (sym (c .before .before .is-outside3 .ensures) ∙ c .before .if5 .left) (c .if6 .taken)
+returns-6 c =
+    no-divisor _ (c .before .before .before .before .before .before .before .before .before .if1 .left) (omega arith) (sym (c .before .before .before .before .before .before .is-outside .ensures) ∙ c .before .before .before .before .before .if3 .left)
+    (sym (c .before .before .before .before .is-outside2 .ensures) ∙ c .before .before .before .if4 .left) (sym (c .before .before .is-outside3 .ensures) ∙ c .before .if5 .left) (c .if6 .taken)
 
 returns-7 : tie.Need-returns-7
-returns-7 c = good-settings _ (c .before .before .before .before .before .before .before .before .before .if1 .left) (omega arith) (sym (c .before .before .before .before .before .before .is-outside .ensures) ∙ c .before .before .before .before .before .if3 .left) (sym (c .before .before .before .before .is-outside2 .ensures) ∙ c .before .before .before .if4 .left) (sym (c .before .before .is-outside3 .ensures) ∙ c .before .if5 .left) (c .if6 .left)
+returns-7 c =
+    good-settings _ (c .before .before .before .before .before .before .before .before .before .if1 .left) (omega arith) (sym (c .before .before .before .before .before .before .is-outside .ensures) ∙ c .before .before .before .before .before .if3 .left)
+    (sym (c .before .before .before .before .is-outside2 .ensures) ∙ c .before .before .before .if4 .left) (sym (c .before .before .is-outside3 .ensures) ∙ c .before .if5 .left) (c .if6 .left)
 
 pub check-settings-spec : {M : Type 1} → statement M
 check-settings-spec =

@@ -28,11 +28,11 @@ print-with-room-requires c κs = search needs
 enum-told : tie.Need-enum-told
 enum-told c = search needs
 
-slice-aggregate-say : tie.Need-slice-aggregate-say
-slice-aggregate-say c = search needs
+slice-aggregate-say-unreadable : tie.Need-slice-aggregate-say-unreadable
+slice-aggregate-say-unreadable c = search needs
 
-say-requires : tie.Need-say-requires
-say-requires c κs = search needs
+say-unreadable-requires : tie.Need-say-unreadable-requires
+say-unreadable-requires c κs = search needs
 
 returns : tie.Need-returns
 returns c = search needs
@@ -51,7 +51,7 @@ main-spec =
     slice-aggregate-print-with-room
     print-with-room-requires
     enum-told
-    slice-aggregate-say
-    say-requires
+    slice-aggregate-say-unreadable
+    say-unreadable-requires
     returns
     returns-2)

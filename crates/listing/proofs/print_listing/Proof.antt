@@ -23,26 +23,23 @@ enum-known-measured c = search needs
 mul-n : tie.Need-mul-n
 mul-n c = omega (arith, listed-fits (c .before .before .before .before .before .before .before .list-file .ensures) (c .before .measured .given .1))
 
-slice-reshare-prefix-write-all : tie.Need-slice-reshare-prefix-write-all
-slice-reshare-prefix-write-all c = let f = c .before .before .before .before .before .before .before .list-file in omega (arith, listed-fits (f .ensures) (c .before .measured .given .1), f .kept .1 .1 .1 .0)
+slice-aggregate-write-text : tie.Need-slice-aggregate-write-text
+slice-aggregate-write-text c = search needs
 
-slice-aggregate-write-all : tie.Need-slice-aggregate-write-all
-slice-aggregate-write-all c = let f = c .before .before .before .before .before .before .before .before .list-file in sym (length-take-le (7 * c .before .before .measured .given .0 .0 .corners) (f .last .1 .1 .1 .0) (omega (arith, listed-fits (f .ensures) (c .before .before .measured .given .1), f .kept .1 .1 .1 .0)))
+slice-reshare-prefix-write-text : tie.Need-slice-reshare-prefix-write-text
+slice-reshare-prefix-write-text c = let f = c .before .before .before .before .before .before .before .before .list-file in omega (arith, listed-fits (f .ensures) (c .before .before .measured .given .1), f .kept .1 .1 .1 .0)
 
-write-all-requires : tie.Need-write-all-requires
-write-all-requires c κs = search needs
+slice-aggregate-write-text-2 : tie.Need-slice-aggregate-write-text-2
+slice-aggregate-write-text-2 c = let f = c .before .before .before .before .before .before .before .before .before .list-file in sym (length-take-le (7 * c .before .before .before .measured .given .0 .0 .corners) (f .last .1 .1 .1 .0) (omega (arith, listed-fits (f .ensures) (c .before .before .before .measured .given .1), f .kept .1 .1 .1 .0)))
 
-slice-aggregate-say : tie.Need-slice-aggregate-say
-slice-aggregate-say c = search needs
-
-say-requires : tie.Need-say-requires
-say-requires c κs = search needs
+write-text-requires : tie.Need-write-text-requires
+write-text-requires c κs = search needs
 
 enum-known-measured-2 : tie.Need-enum-known-measured-2
 enum-known-measured-2 c = search needs
 
-tell-refusal-requires : tie.Need-tell-refusal-requires
-tell-refusal-requires c κs = search needs
+say-refusal-requires : tie.Need-say-refusal-requires
+say-refusal-requires c κs = search needs
 
 same-length : tie.Need-same-length
 same-length c = search needs
@@ -56,12 +53,6 @@ same-length-2 c = search needs
 returns-2 : tie.Need-returns-2
 returns-2 c = search needs
 
-same-length-3 : tie.Need-same-length-3
-same-length-3 c = search needs
-
-returns-3 : tie.Need-returns-3
-returns-3 c = search needs
-
 pub print-listing-spec : {M : Type 1} → statement M
 print-listing-spec =
     tie.close
@@ -71,16 +62,13 @@ print-listing-spec =
     list-file-requires
     enum-known-measured
     mul-n
-    slice-reshare-prefix-write-all
-    slice-aggregate-write-all
-    write-all-requires
-    slice-aggregate-say
-    say-requires
+    slice-aggregate-write-text
+    slice-reshare-prefix-write-text
+    slice-aggregate-write-text-2
+    write-text-requires
     enum-known-measured-2
-    tell-refusal-requires
+    say-refusal-requires
     same-length
     returns
     same-length-2
-    returns-2
-    same-length-3
-    returns-3)
+    returns-2)

@@ -20,10 +20,12 @@ sweep-requires : tie.Need-sweep-requires
 sweep-requires c κs = search needs
 
 totals-requires : tie.Need-totals-requires
-totals-requires c κs = let s = c .before .before .before .before .before in (totalsOf (s .args .field) (solid (jobOf (s .args .field) (s .args .edge) (s .args .grid) (s .args .coords .now))), swept-whole (s .args .field) (solid (jobOf (s .args .field) (s .args .edge) (s .args .grid) (s .args .coords .now))) (valid-within (s .pre .0)) (swept (c .before)))
+totals-requires c κs =
+    let s = c .before .before .before .before .before in
+    (totalsOf (s .args .field) (solid (jobOf (s .args .field) (s .args .edge) (s .args .grid) (s .args .coords .now))), swept-whole (s .args .field) (solid (jobOf (s .args .field) (s .args .edge) (s .args .grid) (s .args .coords .now))) (valid-within (s .pre .valid)) (swept (c .before)))
 
 returns : tie.Need-returns
-returns c = let s = c .before .before .before .before .before .before in swept-totals (s .args .field) (solid (jobOf (s .args .field) (s .args .edge) (s .args .grid) (s .args .coords .now))) (valid-within (s .pre .0)) (swept (c .before .before)) (c .totals .ensures)
+returns c = let s = c .before .before .before .before .before .before in swept-totals (s .args .field) (solid (jobOf (s .args .field) (s .args .edge) (s .args .grid) (s .args .coords .now))) (valid-within (s .pre .valid)) (swept (c .before .before)) (c .totals .ensures)
 
 pub count-spec : {M : Type 1} → statement M
 count-spec = tie.close (tie.spec slice-aggregate-sweep sweep-requires totals-requires returns)

@@ -15,7 +15,7 @@ enum-told : tie.Need-enum-told
 enum-told c = search needs
 
 list-corners-requires : tie.Need-list-corners-requires
-list-corners-requires c κs = let i = c .before .before .before .before .before .before .indexed .ensures in let e = c .before .before .enum-told .given .1 in (intake.accepted-list i e, intake.accepted-holds i e)
+list-corners-requires c κs = let i = c .before .before .before .before .before .before .indexed .ensures in let e = c .before .before .enum-told .given .1 in intake.accepted-holds i e
 
 same-length : tie.Need-same-length
 same-length c = search needs

@@ -1,5 +1,5 @@
 -- A refusal of the checks is the answer; otherwise the totals are counted.
-use Rattle.measure_intake.proofs.IntakeLaws.{accepted-list, accepted-holds, refused-measure, accepted-measure}
+use Rattle.measure_intake.proofs.IntakeLaws.{accepted-holds, refused-measure, accepted-measure}
 use borrow.Author.Needs.{needs}
 use Rattle.measure.proofs.measure.Statement.{statement}
 use Rattle.measure.proofs.measure.Tie as tie
@@ -14,7 +14,7 @@ enum-told : tie.Need-enum-told
 enum-told c = search needs
 
 count-requires : tie.Need-count-requires
-count-requires c κs = let i = c .before .before .before .before .before .indexed .ensures in let e = c .before .enum-told .given .1 in (accepted-list i e, accepted-holds i e)
+count-requires c κs = let i = c .before .before .before .before .before .indexed .ensures in let e = c .before .enum-told .given .1 in accepted-holds i e
 
 same-length : tie.Need-same-length
 same-length c = search needs

@@ -1,5 +1,5 @@
 -- A refusal of the checks is the answer; otherwise the field is counted.
-use Rattle.measure_intake.proofs.IntakeLaws.{accepted-list, accepted-holds, refused-measure, accepted-measure}
+use Rattle.measure_intake.proofs.IntakeLaws.{accepted-holds, refused-measure, accepted-measure}
 use borrow.Author.Needs.{needs}
 use Rattle.measure_cells.proofs.recount.Statement.{statement}
 use Rattle.measure_cells.proofs.recount.Tie as tie
@@ -14,7 +14,7 @@ enum-told : tie.Need-enum-told
 enum-told c = search needs
 
 count-field-requires : tie.Need-count-field-requires
-count-field-requires c κs = let i = c .before .before .before .before .before .indexed .ensures in let e = c .before .enum-told .given .1 in (accepted-list i e, accepted-holds i e)
+count-field-requires c κs = let i = c .before .before .before .before .before .indexed .ensures in let e = c .before .enum-told .given .1 in accepted-holds i e
 
 same-length : tie.Need-same-length
 same-length c = search needs

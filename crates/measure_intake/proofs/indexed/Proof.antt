@@ -3,7 +3,7 @@ use mathlib.Core.Path.{_≡_, sym, _∙_}
 use native.Mathlib.Omega.{arith}
 use Rattle.job.specs.Job.{jobOf}
 use Rattle.job.specs.Checking.{checked}
-use Rattle.job.specs.declared.Checked.the-variants.{Accepted}
+use Rattle.refusals.specs.declared.Checked.the-variants.{Accepted}
 use Rattle.measure_intake.proofs.IntakeLaws.{refused-intake, valid, short-intake, long-intake}
 use borrow.Author.Needs.{needs}
 use Rattle.measure_intake.proofs.indexed.Statement.{statement}
@@ -37,7 +37,9 @@ same-length : tie.Need-same-length
 same-length c = search needs
 
 returns-3 : tie.Need-returns-3
-returns-3 c = let s = c .before .before .before .before .before .before .before .before .before .before .before in long-intake _ (s .args .work .now) (accepted (c .before .before .before .before .before .before)) (c .before .before .before .before .before .need .ensures) (c .before .before .before .before .if1 .left) (c .before .before .build .ensures)
+returns-3 c =
+    let s = c .before .before .before .before .before .before .before .before .before .before .before in
+    long-intake _ (s .args .work .now) (accepted (c .before .before .before .before .before .before)) (c .before .before .before .before .before .need .ensures) (c .before .before .before .before .if1 .left) (c .before .before .build .ensures)
 
 pub indexed-spec : {M : Type 1} → statement M
 indexed-spec =

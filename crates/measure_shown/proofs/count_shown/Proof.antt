@@ -31,10 +31,10 @@ show-requires : tie.Need-show-requires Inv-loop μ-loop
 show-requires c κs = search needs
 
 after-requires : tie.Need-after-requires Inv-loop μ-loop
-after-requires c κs = let a = c .before .before .before .before .before .before in (a .pre .0 .field-most, (c .before .loop-test .taken, c .before .before .loop .inv .2))
+after-requires c κs = let a = c .before .before .before .before .before .before in (a .pre .valid .field-most, (c .before .loop-test .taken, c .before .before .loop .inv .2))
 
 count-planes-requires : tie.Need-count-planes-requires Inv-loop μ-loop
-count-planes-requires c κs = let a = c .before .before .before .before .before .before .before in (a .pre .0, (a .pre .1, (omega (arith, c .after .ensures .0), (c .after .ensures .1, c .before .before .before .loop .inv .1))))
+count-planes-requires c κs = let a = c .before .before .before .before .before .before .before in (a .pre, (omega (arith, c .after .ensures .0), (c .after .ensures .1, c .before .before .before .loop .inv .1)))
 
 loop-less : tie.Need-loop-less Inv-loop μ-loop
 loop-less c = omega (arith, c .before .after .ensures .0, c .before .after .ensures .1)
@@ -46,7 +46,7 @@ clear-requires : tie.Need-clear-requires Inv-loop μ-loop
 clear-requires c κs = search needs
 
 returns : tie.Need-returns Inv-loop μ-loop
-returns c = let a = c .before .before .before .before .before .before in let e : c .before .before .loop .x ≡ a .args .field + 1 = omega arith in (rw e at (c .before .before .loop .inv .1)) ∙ field-totals (a .args .field) (cells (shotsOf (a .args .edge) (a .args .coords .now))) (valid-within (a .pre .0))
+returns c = let a = c .before .before .before .before .before .before in let e : c .before .before .loop .x ≡ a .args .field + 1 = omega arith in (rw e at (c .before .before .loop .inv .1)) ∙ field-totals (a .args .field) (cells (shotsOf (a .args .edge) (a .args .coords .now))) (valid-within (a .pre .valid))
 
 pub count-shown-spec : {M : Type 1} → statement M
 count-shown-spec =

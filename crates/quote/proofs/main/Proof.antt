@@ -28,11 +28,11 @@ print-quote-requires c κs = search needs
 enum-told : tie.Need-enum-told
 enum-told c = search needs
 
-slice-aggregate-write-all : tie.Need-slice-aggregate-write-all
-slice-aggregate-write-all c = search needs
+slice-aggregate-say-unreadable : tie.Need-slice-aggregate-say-unreadable
+slice-aggregate-say-unreadable c = search needs
 
-write-all-requires : tie.Need-write-all-requires
-write-all-requires c κs = search needs
+say-unreadable-requires : tie.Need-say-unreadable-requires
+say-unreadable-requires c κs = search needs
 
 returns : tie.Need-returns
 returns c = search needs
@@ -51,7 +51,7 @@ main-spec =
     slice-aggregate-print-quote
     print-quote-requires
     enum-told
-    slice-aggregate-write-all
-    write-all-requires
+    slice-aggregate-say-unreadable
+    say-unreadable-requires
     returns
     returns-2)

@@ -31,11 +31,11 @@ print-quote-requires c κs = search needs
 enum-told : tie.Need-enum-told
 enum-told c = search needs
 
-slice-aggregate-say-2 : tie.Need-slice-aggregate-say-2
-slice-aggregate-say-2 c = search needs
+slice-aggregate-say-unreadable : tie.Need-slice-aggregate-say-unreadable
+slice-aggregate-say-unreadable c = search needs
 
-say-requires-2 : tie.Need-say-requires-2
-say-requires-2 c κs = search needs
+say-unreadable-requires : tie.Need-say-unreadable-requires
+say-unreadable-requires c κs = search needs
 
 same-length : tie.Need-same-length
 same-length c = search needs
@@ -67,8 +67,8 @@ quote-input-spec =
     slice-aggregate-print-quote
     print-quote-requires
     enum-told
-    slice-aggregate-say-2
-    say-requires-2
+    slice-aggregate-say-unreadable
+    say-unreadable-requires
     same-length
     returns
     same-length-2

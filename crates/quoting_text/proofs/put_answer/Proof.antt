@@ -5,41 +5,29 @@ use Rattle.quoting_text.specs.Quoting.{answerText}
 use borrow.Author.Needs.{needs}
 use Rattle.quoting_text.proofs.put_answer.Statement.{statement}
 use Rattle.quoting_text.proofs.put_answer.Tie as tie
-use Rattle.quoting_text.proofs.put_answer.Reads as reads
-use Rattle.quoting_text.proofs.put_answer.Lts as lts
-use Rattle.quoting_text.proofs.refuse.Reads as refuse-reads
-use Rattle.text_report.proofs.quote_lines.Reads as quote-lines-reads
 
--- src/lib.rt:25:25
 enum-known-measured : tie.Need-enum-known-measured
 enum-known-measured c = search needs
 
--- src/lib.rt:25:36
 quote-lines-requires : tie.Need-quote-lines-requires
 quote-lines-requires c κs = search needs
 
--- src/lib.rt:26:27
 enum-known-measured-2 : tie.Need-enum-known-measured-2
 enum-known-measured-2 c = search needs
 
--- src/lib.rt:26:39
 refuse-requires : tie.Need-refuse-requires
 refuse-requires c κs = search needs
 
--- src/lib.rt:20:1
 same-length : tie.Need-same-length
 same-length c = search needs
 
--- src/lib.rt:20:1
 returns : tie.Need-returns
 unfolding answerText
 returns c = wrote-as (ap answerText (sym (c .before .before .before .before .before .measured .given .1))) (c .before .before .quote-lines .ensures)
 
--- src/lib.rt:20:1
 same-length-2 : tie.Need-same-length-2
 same-length-2 c = search needs
 
--- src/lib.rt:20:1
 returns-2 : tie.Need-returns-2
 unfolding answerText
 returns-2 c = wrote-as (ap answerText (sym (c .before .before .before .before .before .measured2 .given .1))) (c .before .before .refuse .ensures)

@@ -14,7 +14,7 @@ slice-aggregate-sweep-boxes : tie.Need-slice-aggregate-sweep-boxes
 slice-aggregate-sweep-boxes c = search needs
 
 sweep-boxes-requires : tie.Need-sweep-boxes-requires
-sweep-boxes-requires c κs = slots-given (c .before .before .before .before .before .before .before .before .pre .0) (c .before .before .before .fill-slots .ensures)
+sweep-boxes-requires c κs = slots-given (c .before .before .before .before .before .before .before .before .pre .valid) (c .before .before .before .fill-slots .ensures)
 
 same-length : tie.Need-same-length
 same-length c = search needs

@@ -5,8 +5,7 @@ use native.Mathlib.Omega.{arith}
 use Rattle.sweep_tally.specs.Found.{state}
 use Rattle.sweep_columns.specs.Columns.{cornerAt, columnCorners}
 use Rattle.sweep_columns.proofs.Visits.{Visited, visit-none, visit-all}
-use Rattle.sweep_columns.proofs.CornerLaws.{names-corners}
-use Rattle.sweep_columns.proofs.CornerLaws.{point-in, point-top, point-room, point-next}
+use Rattle.sweep_columns.proofs.CornerLaws.{names-corners, point-in, point-top, point-room, point-next}
 use borrow.Author.Needs.{needs}
 use Rattle.sweep_columns.proofs.points.Statement.{statement}
 use Rattle.sweep_columns.proofs.points.Tie as tie

@@ -2,7 +2,7 @@
 use mathlib.Core.Path.{sym, _∙_}
 use native.Mathlib.Omega.{arith}
 use Rattle.text_parts.specs.Text.{text}
-use Rattle.job.proofs.Places.{first-here, first-next, first-none}
+use Rattle.refusals.proofs.FirstOf.{first-here, first-next, first-none}
 use Rattle.vox_chunks.proofs.ChunkLaws.{some-left, matched-whole}
 use Rattle.vox.specs.Vox.{openingTests}
 use borrow.Author.Needs.{needs}

@@ -2,7 +2,7 @@
 use mathlib.Core.Path.{sym, _∙_}
 use Prim.Native.Nat.{_+_, _*_}
 use native.Mathlib.Omega.{arith}
-use Rattle.job.proofs.Places.{first-here}
+use Rattle.refusals.proofs.FirstOf.{first-here}
 use Rattle.vox_chunks.proofs.ChunkLaws.{matched-whole}
 use Rattle.vox.specs.Vox.{voxelCount, voxelTests}
 use Rattle.vox.proofs.Ways.{miscounted, too-many, no-place, wrong, overrun, whole}

@@ -1,7 +1,7 @@
 -- The file is checked whole before anything is stored.
 use mathlib.Core.Path.{sym, ap, _∙_}
 use native.Mathlib.Omega.{arith}
-use Rattle.job.specs.Checking.{firstOf}
+use Rattle.refusals.specs.Tests.{firstOf}
 use Rattle.vox.specs.Vox.{voxTests}
 use Rattle.vox.proofs.Passed.{passed-has, largest-few, vox-refused, vox-read}
 use borrow.Author.Needs.{needs}

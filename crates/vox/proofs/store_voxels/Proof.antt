@@ -6,7 +6,7 @@ use lib.ListN.{length}
 use Rattle.job.specs.Job.{placeOf}
 use Rattle.buffer.proofs.WroteLaws.{wrote-as}
 use Rattle.buffer.proofs.Underway.{Underway, underway-all, underway-more, wrote-front}
-use Rattle.shotfile.specs.Files.{shotNumbers}
+use Rattle.shotfile_records.specs.Numbers.{shotNumbers}
 use Rattle.vox.specs.Vox.{voxelFields, voxels}
 use Rattle.vox.proofs.Walks.{voxel-numbers, voxels-all, voxels-done, voxels-next}
 use borrow.Author.Needs.{needs}

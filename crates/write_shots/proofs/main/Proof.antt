@@ -34,11 +34,11 @@ write-text-requires c κs = search needs
 enum-told : tie.Need-enum-told
 enum-told c = search needs
 
-slice-aggregate-say-2 : tie.Need-slice-aggregate-say-2
-slice-aggregate-say-2 c = search needs
+slice-aggregate-say-unreadable : tie.Need-slice-aggregate-say-unreadable
+slice-aggregate-say-unreadable c = search needs
 
-say-requires-2 : tie.Need-say-requires-2
-say-requires-2 c κs = search needs
+say-unreadable-requires : tie.Need-say-unreadable-requires
+say-unreadable-requires c κs = search needs
 
 returns : tie.Need-returns
 returns c = search needs
@@ -62,8 +62,8 @@ main-spec =
     slice-aggregate-write-text
     write-text-requires
     enum-told
-    slice-aggregate-say-2
-    say-requires-2
+    slice-aggregate-say-unreadable
+    say-unreadable-requires
     returns
     returns-2
     returns-3)

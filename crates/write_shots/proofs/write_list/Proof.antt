@@ -16,20 +16,17 @@ write-requires c κs = search needs
 enum-known-answer : tie.Need-enum-known-answer
 enum-known-answer c = search needs
 
+slice-aggregate-write-text : tie.Need-slice-aggregate-write-text
+slice-aggregate-write-text c = search needs
+
 array-share-prefix-bytes : tie.Need-array-share-prefix-bytes
-array-share-prefix-bytes c = omega (arith, written-within (c .before .before .before .before .write .ensures) (c .before .answer .given .1), (c .before .before .before .before .write .kept .1 .1 .1 .1 .0))
+array-share-prefix-bytes c = omega (arith, written-within (c .before .before .before .before .before .write .ensures) (c .before .before .answer .given .1), (c .before .before .before .before .before .write .kept .1 .1 .1 .1 .0))
 
-slice-aggregate-write-all : tie.Need-slice-aggregate-write-all
-slice-aggregate-write-all c = sym (length-take-le (c .before .before .answer .given .0 .0) (c .before .before .before .before .before .write .last .1 .1 .1 .1 .0) (written-within (c .before .before .before .before .before .write .ensures) (c .before .before .answer .given .1)))
+slice-aggregate-write-text-2 : tie.Need-slice-aggregate-write-text-2
+slice-aggregate-write-text-2 c = sym (length-take-le (c .before .before .before .answer .given .0 .0) (c .before .before .before .before .before .before .write .last .1 .1 .1 .1 .0) (written-within (c .before .before .before .before .before .before .write .ensures) (c .before .before .before .answer .given .1)))
 
-write-all-requires : tie.Need-write-all-requires
-write-all-requires c κs = search needs
-
-slice-aggregate-say : tie.Need-slice-aggregate-say
-slice-aggregate-say c = search needs
-
-say-requires : tie.Need-say-requires
-say-requires c κs = search needs
+write-text-requires : tie.Need-write-text-requires
+write-text-requires c κs = search needs
 
 enum-known-answer-2 : tie.Need-enum-known-answer-2
 enum-known-answer-2 c = search needs
@@ -43,9 +40,6 @@ returns c = search needs
 returns-2 : tie.Need-returns-2
 returns-2 c = search needs
 
-returns-3 : tie.Need-returns-3
-returns-3 c = search needs
-
 pub write-list-spec : {M : Type 1} → statement M
 write-list-spec =
     tie.close
@@ -53,13 +47,11 @@ write-list-spec =
     slice-aggregate-write
     write-requires
     enum-known-answer
+    slice-aggregate-write-text
     array-share-prefix-bytes
-    slice-aggregate-write-all
-    write-all-requires
-    slice-aggregate-say
-    say-requires
+    slice-aggregate-write-text-2
+    write-text-requires
     enum-known-answer-2
     tell-refusal-requires
     returns
-    returns-2
-    returns-3)
+    returns-2)

@@ -6,10 +6,10 @@ use Rattle.check_known.proofs.junk.print_entries.Statement.{statement}
 use Rattle.check_known.proofs.junk.print_entries.Tie as tie
 
 abbrev Inv-loop : tie.InvT-loop
-Inv-loop work i₀ i = i ≤ length work
+Inv-loop slice i₀ i = i ≤ length slice
 
 abbrev μ-loop : tie.MeasureT-loop
-μ-loop work i₀ i = length work - i
+μ-loop slice i₀ i = length slice - i
 
 loop-holds : tie.Need-loop-holds Inv-loop μ-loop
 loop-holds c = search needs

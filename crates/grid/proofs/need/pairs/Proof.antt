@@ -26,7 +26,16 @@ pairs-of-requires : tie.Need-pairs-of-requires Inv-loop μ-loop
 pairs-of-requires c κs = let a = c .before .before .before .before .before in (a .pre .0, (a .pre .1 .0, (a .pre .1 .1, omega arith)))
 
 add-sum : tie.Need-add-sum Inv-loop μ-loop
-add-sum c = let a = c .before .before .before .before .before .before in omega (arith, a .pre .0 .few, pairs-next (jobOf (a .args .field) (a .args .edge) (a .args .grid) (a .args .coords .now)) (c .before .before .loop .shot) (c .before .before .loop .inv .2) (c .pairs-of .ensures), pairs-few (jobOf (a .args .field) (a .args .edge) (a .args .grid) (a .args .coords .now)) (a .pre .0 .grid-most) (c .before .before .loop .shot + 1))
+add-sum c =
+    let a = c .before .before .before .before .before .before in
+    let at-loop = c .before .before in
+    omega (
+      arith,
+      a .pre .0 .few,
+      pairs-next (jobOf (a .args .field) (a .args .edge) (a .args .grid) (a .args .coords .now)) (at-loop .loop .shot) (at-loop .loop .inv .2) (c .pairs-of .ensures),
+      pairs-few (jobOf (a .args .field) (a .args .edge) (a .args .grid) (a .args .coords .now))
+          (a .pre .0 .grid-most) (at-loop .loop .shot + 1),
+    )
 
 add-shot : tie.Need-add-shot Inv-loop μ-loop
 add-shot c = search needs
@@ -35,7 +44,10 @@ loop-less : tie.Need-loop-less Inv-loop μ-loop
 loop-less c = search needs
 
 loop-again : tie.Need-loop-again Inv-loop μ-loop
-loop-again c = let a = c .before .before .before .before .before .before in (omega arith, c .before .before .loop .inv .1, pairs-next (jobOf (a .args .field) (a .args .edge) (a .args .grid) (a .args .coords .now)) (c .before .before .loop .shot) (c .before .before .loop .inv .2) (c .pairs-of .ensures))
+loop-again c =
+    let a = c .before .before .before .before .before .before in
+    let at-loop = c .before .before in
+    (omega arith, at-loop .loop .inv .1, pairs-next (jobOf (a .args .field) (a .args .edge) (a .args .grid) (a .args .coords .now)) (at-loop .loop .shot) (at-loop .loop .inv .2) (c .pairs-of .ensures))
 
 returns : tie.Need-returns Inv-loop μ-loop
 returns c = let a = c .before .before .before .before .before in pairs-all (jobOf (a .args .field) (a .args .edge) (a .args .grid) (a .args .coords .now)) (c .before .loop .shot) (omega arith) (c .before .loop .inv .2)

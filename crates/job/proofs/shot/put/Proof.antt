@@ -1,7 +1,7 @@
 -- `put` stores the numbers of a shot. Assumes nothing.
 use native.Mathlib.Omega.{arith}
 use lib.ListN.{length-set}
-use Rattle.job.proofs.Storing.{stored}
+use Rattle.job.proofs.Storing.{shot-stored}
 use borrow.Author.Needs.{needs}
 use Rattle.job.proofs.shot.put.Statement.{statement}
 use Rattle.job.proofs.shot.put.Tie as tie
@@ -37,7 +37,7 @@ same-length : tie.Need-same-length
 same-length c = search needs
 
 returns : tie.Need-returns
-returns c = stored _ _ _ _ _ (c .pre)
+returns c = shot-stored _ _ _ _ _ (c .pre)
 
 pub put-spec : {M : Type 1} → statement M
 put-spec =

@@ -16,10 +16,10 @@ add-count-planes : tie.Need-add-count-planes
 add-count-planes c = search needs
 
 count-planes-requires : tie.Need-count-planes-requires
-count-planes-requires c κs = let a = c .before .before in (a .pre .0, (a .pre .1, (omega arith, (omega arith, whole-none (λ (x : ℕ). planeTo (cells (shotsOf (a .args .edge) (a .args .coords .now))) (a .args .field + 1) (a .args .field + 1) x)))))
+count-planes-requires c κs = let a = c .before .before in (a .pre, (omega arith, (omega arith, whole-none (λ (x : ℕ). planeTo (cells (shotsOf (a .args .edge) (a .args .coords .now))) (a .args .field + 1) (a .args .field + 1) x))))
 
 returns : tie.Need-returns
-returns c = let a = c .before .before .before in c .count-planes .ensures ∙ field-totals (a .args .field) (cells (shotsOf (a .args .edge) (a .args .coords .now))) (valid-within (a .pre .0))
+returns c = let a = c .before .before .before in c .count-planes .ensures ∙ field-totals (a .args .field) (cells (shotsOf (a .args .edge) (a .args .coords .now))) (valid-within (a .pre .valid))
 
 pub count-field-spec : {M : Type 1} → statement M
 count-field-spec = tie.close (tie.spec add-count-planes count-planes-requires returns)

@@ -7,7 +7,8 @@ use Rattle.lattice.specs.Pattern.{around}
 use Rattle.lattice.specs.Shots.{cells}
 use Rattle.job.specs.Job.{shotsOf}
 use Rattle.measure_cells.proofs.SumLaws.{points-low}
-use Rattle.measure_cells.proofs.PointLaws.{last-between, line-last}
+use Rattle.measure_cells.specs.Points.{beforePoints, beforeLine}
+use Rattle.measure_cells.proofs.PointLaws.{last-interval-points, line-last}
 use Rattle.measure_cells.proofs.points.count_line.Statement.{statement}
 use Rattle.measure_cells.proofs.points.count_line.Tie as tie
 
@@ -18,7 +19,7 @@ sub-count-interval : tie.Need-sub-count-interval
 sub-count-interval c = search needs
 
 count-interval-requires : tie.Need-count-interval-requires
-count-interval-requires c κs = let a = c .before .before .before .before .before .before .before .before in (a .pre .0, (a .pre .1 .0, (a .pre .1 .1 .0, (a .pre .1 .1 .1 .0, (last-between (a .pre .0), (c .before .before .before .count-intervals .kept .1 .1 .1 .1 .1 .1 .1 .0 ∙ a .pre .1 .1 .1 .1 .0, points-low (λ (z : ℕ). around (cells (shotsOf (a .args .edge) (a .args .coords .now))) (a .args .x) (a .args .y) z) (a .args .field) (omega (arith, a .pre .0 .field-most)) 1152921504606846976 2305843009213693952 (omega arith) (a .args .t) (a .pre .1 .1 .1 .1 .1) (c .before .before .before .count-intervals .ensures)))))))
+count-interval-requires c κs = let a = c .before .before .before .before .before .before .before .before in (a .pre .0, (a .pre .1 .0, (a .pre .1 .1 .0, (last-interval-points (a .pre .0 .valid), (c .before .before .before .count-intervals .kept .1 .1 .1 .1 .1 .1 .1 .0 ∙ a .pre .1 .1 .1 .0, points-low (λ (z : ℕ). around (cells (shotsOf (a .args .edge) (a .args .coords .now))) (a .args .x) (a .args .y) z) (a .args .field) (omega (arith, a .pre .0 .valid .field-most)) beforeLine beforePoints (omega arith) (a .args .t) (a .pre .1 .1 .1 .1) (c .before .before .before .count-intervals .ensures))))))
 
 same-length : tie.Need-same-length
 same-length c = search needs

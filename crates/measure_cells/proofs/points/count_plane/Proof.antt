@@ -19,10 +19,10 @@ abbrev μ-loop : tie.MeasureT-loop
 μ-loop field edge grid coords work x few₀ sums₀ y₀ few sums y = field + 1 - y
 
 loop-holds : tie.Need-loop-holds Inv-loop μ-loop
-loop-holds c = let a = c .before .before .before in (omega arith, a .pre .1 .1 .1 .0, sums-none (λ (y : ℕ). lineTo (cells (shotsOf (a .args .edge) (a .args .coords .now))) (a .args .field + 1) (a .args .x) y) (a .args .t))
+loop-holds c = let a = c .before .before .before in (omega arith, a .pre .1 .1 .0, sums-none (λ (y : ℕ). lineTo (cells (shotsOf (a .args .edge) (a .args .coords .now))) (a .args .field + 1) (a .args .x) y) (a .args .t))
 
 count-line-requires : tie.Need-count-line-requires Inv-loop μ-loop
-count-line-requires c κs = let a = c .before .before .before .before .before .before in (a .pre .0, (a .pre .1 .0, (a .pre .1 .1 .0, (c .before .loop-test .taken, (c .before .before .loop .inv .1, plane-low (cells (shotsOf (a .args .edge) (a .args .coords .now))) (a .args .field + 1) (c .before .before .loop .y) (a .args .x) (omega (arith, a .pre .0 .field-most)) (omega (arith, a .pre .0 .field-most)) (a .args .t) (a .pre .1 .1 .1 .1) (c .before .before .loop .inv .2))))))
+count-line-requires c κs = let a = c .before .before .before .before .before .before in (a .pre .0, (a .pre .1 .0, (c .before .loop-test .taken, (c .before .before .loop .inv .1, plane-low (cells (shotsOf (a .args .edge) (a .args .coords .now))) (a .args .field + 1) (c .before .before .loop .y) (a .args .x) (omega (arith, a .pre .0 .valid .field-most)) (omega (arith, a .pre .0 .valid .field-most)) (a .args .t) (a .pre .1 .1 .1) (c .before .before .loop .inv .2)))))
 
 add-y : tie.Need-add-y Inv-loop μ-loop
 add-y c = search needs
@@ -34,7 +34,7 @@ loop-again : tie.Need-loop-again Inv-loop μ-loop
 loop-again c = let a = c .before .before .before .before .before .before .before .before .before in (omega arith, c .before .before .count-line .kept .1 .1 .1 .1 .1 .1 .1 .0 ∙ c .before .before .before .before .before .loop .inv .1, sums-turn (λ (y : ℕ). lineTo (cells (shotsOf (a .args .edge) (a .args .coords .now))) (a .args .field + 1) (a .args .x) y) (a .args .t) (c .before .before .before .before .before .loop .y) (c .before .before .before .before .before .loop .inv .2) (c .before .before .count-line .ensures))
 
 same-length : tie.Need-same-length Inv-loop μ-loop
-same-length c = let a = c .before .before .before .before .before in c .before .loop .inv .1 ∙ sym (a .pre .1 .1 .1 .0)
+same-length c = let a = c .before .before .before .before .before in c .before .loop .inv .1 ∙ sym (a .pre .1 .1 .0)
 
 returns : tie.Need-returns Inv-loop μ-loop
 returns c = let e : c .before .loop .y ≡ c .before .before .before .before .before .args .field + 1 = omega arith in rw e at (c .before .loop .inv .2)

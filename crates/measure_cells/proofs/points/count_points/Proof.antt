@@ -5,8 +5,8 @@ use native.Mathlib.Omega.{arith}
 use borrow.Author.Needs.{needs}
 use Rattle.lattice.specs.Pattern.{around}
 use Rattle.grid_cover.specs.Cover.{runCovers}
-use Rattle.measure_tallies.specs.Tallies.{atPattern, plus}
-use Rattle.measure_cells.specs.Points.{lineFrom, quad}
+use Rattle.measure_tallies.specs.Tallies.{atPattern, plus, beforePoint}
+use Rattle.measure_cells.specs.Points.{lineFrom, quad, beforePoints}
 use Rattle.measure_cells.proofs.SumLaws.{sums-none, points-low}
 use Rattle.measure_cells.proofs.PointLaws.{points-start, points-next, points-turn}
 use Rattle.measure_cells.proofs.points.count_points.Statement.{statement}
@@ -40,7 +40,7 @@ add-tally : tie.Need-add-tally Inv-loop μ-loop
 add-tally c = search needs
 
 tally-requires : tie.Need-tally-requires Inv-loop μ-loop
-tally-requires c κs = let a = c .before .before .before .before .before .before in points-low (λ (i : ℕ). around (runCovers (a .args .edge) (a .args .coords .now) (a .args .run .now)) (a .args .x) (a .args .y) (a .args .from + i)) (c .before .before .loop .i) (omega (arith, a .pre .1 .1 .0)) 2305843009213693952 4611686018427387904 (omega arith) (a .args .t) (a .pre .1 .1 .1) (c .before .before .loop .inv .3)
+tally-requires c κs = let a = c .before .before .before .before .before .before in points-low (λ (i : ℕ). around (runCovers (a .args .edge) (a .args .coords .now) (a .args .run .now)) (a .args .x) (a .args .y) (a .args .from + i)) (c .before .before .loop .i) (omega (arith, a .pre .1 .1 .0)) beforePoints beforePoint (omega arith) (a .args .t) (a .pre .1 .1 .1) (c .before .before .loop .inv .3)
 
 add-i : tie.Need-add-i Inv-loop μ-loop
 add-i c = search needs

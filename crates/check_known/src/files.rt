@@ -1,0 +1,98 @@
+// Shot files read and written: the lent slice before the call, the answer, and the slice after it. Of a slice of more than twenty places
+// the last seven are printed.
+use crate::parts::bytes;
+use crate::parts::places;
+use check_print::print_bytes;
+use check_print::print_coords;
+use check_print::print_number;
+use check_print::print_refusal;
+use shotfile_reader::ReadAnswer;
+use shotfile_writer::WriteAnswer;
+
+fn print_read(answer: ReadAnswer) {
+    match answer {
+        ReadAnswer::Read {
+            field,
+            edge,
+            grid,
+            shots,
+        } => {
+            io::write_all(1, b" read");
+            print_number(field as u64);
+            print_number(edge as u64);
+            print_number(grid as u64);
+            print_number(shots as u64);
+        }
+        ReadAnswer::Refused(refusal) => {
+            print_refusal(refusal);
+        }
+    }
+}
+
+fn print_written(answer: WriteAnswer) {
+    match answer {
+        WriteAnswer::Written { bytes } => {
+            io::write_all(1, b" written");
+            print_number(bytes as u64);
+        }
+        WriteAnswer::Refused(refusal) => {
+            print_refusal(refusal);
+        }
+    }
+}
+
+// The last places of a long slice, or a short slice whole.
+fn print_places(coords: &[u16]) {
+    if coords.len() <= 20 {
+        print_coords(coords);
+        return;
+    }
+    let from = coords.len() - 7;
+    print_coords(&coords[from..]);
+}
+
+// Puts the numbers of a file into bytes, as far as they go.
+fn put_bytes(numbers: &[u16], file: &mut [u8]) {
+    let mut i = 0;
+    while i < numbers.len() {
+        if file.len() <= i {
+            return;
+        }
+        file[i] = (numbers[i] % 256) as u8;
+        i += 1;
+    }
+}
+
+// Reads, and prints the coordinate slice before, the answer, and the slice after.
+fn read_in(file: &[u8], coords: &mut [u16]) {
+    print_places(coords);
+    let answer = shotfile_reader::read(file, coords);
+    print_read(answer);
+    print_places(coords);
+}
+
+// Writes, and prints the byte buffer before, the answer, and the buffer after.
+fn write_in(field: u16, edge: u16, grid: u16, coords: &[u16], file: &mut [u8]) {
+    print_bytes(file);
+    let answer = shotfile_writer::write(field, edge, grid, coords, file);
+    print_written(answer);
+    print_bytes(file);
+}
+
+// Reads the file of these numbers, which are put into as many bytes, with so many places lent.
+fn read_with(numbers: &[u16], file: &mut [u8], most: u16) {
+    put_bytes(numbers, file);
+    let mut coords = [9u16; 12291];
+    read_in(file, places(&mut coords, most));
+}
+
+pub(crate) fn show_read(numbers: &[u16], length: u16, most: u16) {
+    let mut file = [0u8; 4098];
+    read_with(numbers, bytes(&mut file, length), most);
+}
+
+// Writes a list, with so many bytes lent.
+pub(crate) fn show_write(field: u16, edge: u16, grid: u16, coords: &[u16], most: u16) {
+    let mut file = [9u8; 16];
+    write_in(field, edge, grid, coords, bytes(&mut file, most));
+}

@@ -1,0 +1,40 @@
+// What a program writes: its text on standard output, and on standard error one line where something is in the way. Nothing comes back and
+// nothing is lent, and no contract can say what a system call writes. Stands on `text_wording`, which has the refusals in words, and on the
+// kit's `libc` and `io`.
+use libc::STDERR_FILENO;
+use libc::STDOUT_FILENO;
+use refusals::Refusal;
+
+// Says words on standard error.
+pub fn say(words: &[u8]) {
+    io::write_all(STDERR_FILENO, words);
+}
+
+// Says that a program's standard input cannot be read.
+pub fn say_unreadable(program: &[u8]) {
+    say(program);
+    say(b": standard input cannot be read\n");
+}
+
+// Writes the text of a program, or says that it cannot be written.
+pub fn write_text(program: &[u8], text: &[u8]) {
+    if io::write_all(STDOUT_FILENO, text) {
+        return;
+    }
+    say(program);
+    say(b": standard output cannot be written\n");
+}
+
+// Says the number and the detail of a refusal, and its sentence.
+pub fn say_refusal(refusal: Refusal) {
+    let told = refusals::notice_of(refusal);
+    say(b"refused ");
+    io::print_decimal(STDERR_FILENO, told.number as u64);
+    say(b" ");
+    io::print_decimal(STDERR_FILENO, told.detail as u64);
+    say(b": ");
+    let mut sentence = [0u8; 64];
+    let n = text_wording::put_sentence(&mut sentence, 0, refusal);
+    say(&sentence[..n]);
+    say(b"\n");
+}

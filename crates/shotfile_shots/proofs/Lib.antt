@@ -1,0 +1,2 @@
+-- the lines of the shots, one after another
+pub mod ShotLaws

@@ -1,0 +1,2 @@
+-- the line, by what reading and checking answer
+pub mod VerdictLaws

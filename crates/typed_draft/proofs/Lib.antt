@@ -1,0 +1,2 @@
+-- the ways of one line more
+pub mod DraftLaws
