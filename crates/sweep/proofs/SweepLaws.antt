@@ -14,7 +14,7 @@ use Rattle.job.specs.Job.{Job, Valid}
 use Rattle.sweep_image.specs.Images.{imageSize}
 use Rattle.sweep_image.proofs.ImageLaws.{shows-ext, zeros-at, shows-zeros}
 use Rattle.sweep_names.proofs.NameLaws.{tells-zeros}
-use Rattle.sweep_layer.specs.Layers.{touching}
+use Rattle.sweep_faces.specs.Layers.{touching}
 use Rattle.sweep_slots.specs.Slots.{Slots}
 use Rattle.sweep_tally.specs.Found.{state, found}
 use Rattle.sweep_plane.specs.Plane.{Both}

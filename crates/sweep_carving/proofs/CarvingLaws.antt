@@ -6,6 +6,7 @@ use Prim.Native.Nat.{ℕ, _+_, _≤_, _<_}
 use native.Mathlib.Omega.{arith}
 use lib.ListN.{length}
 use borrow.Author.Tests.{lt-ltb}
+use Rattle.ground.specs.FirstPlace.{FirstPlace}
 use Rattle.ground.proofs.Conds.{cond-agree, cond-twice}
 use Rattle.ground.specs.Numbers.{anyTo}
 use Rattle.ground.proofs.AnyLaws.{any-to-more}
@@ -14,9 +15,9 @@ use Rattle.sweep_image.specs.Images.{Layer, Shows, Turned, Beside, RectIn, inRe
 use Rattle.sweep_image.specs.declared.Rect.{Rect}
 use Rattle.sweep_image.proofs.ImageLaws.{shows-ext}
 use Rattle.sweep_image.proofs.WordLaws.{beside-less}
-use Rattle.sweep_overlaps.specs.Overlaps.{rectOf, shadeOf, shade, shadeFrom, FirstBoxes, emptyRect, meetsRect, FirstMeeting, sharedRect, partOf}
+use Rattle.sweep_overlaps.specs.Overlaps.{rectOf, shadeOf, shade, shadeFrom, FirstBoxes, emptyRect, meetsRect, meetsAt, sharedRect, partOf}
 use Rattle.sweep_overlaps.proofs.RectLaws.{empty-bare, met, shared-in, shared-fits}
-use Rattle.sweep_overlaps.proofs.ShadeLaws.{from-none, from-more, shade-from, shade-past, missed}
+use Rattle.sweep_overlaps.proofs.ShadeLaws.{from-none, from-more, shade-from, shade-past, missed, first-bare}
 use Rattle.sweep_overlaps.proofs.PartLaws.{partsTo, part-in, part-out, parts-out, parts-rest}
 use Rattle.sweep_carving.specs.Carving.{replaced, joined, Carved}
 
@@ -119,13 +120,13 @@ module _ (field : ℕ) (boxes : List ℕ) (x from to : ℕ) (r : Rect) where
   }
 
   -- one that no box meets
-  pub carved-leaf : (n : ℕ) → FirstMeeting boxes x from to r n → n ≡ to → (u u' : List ℕ) → Turned field (wiped r) u u'
+  pub carved-leaf : (n : ℕ) → FirstPlace (meetsAt boxes x r) from to n → n ≡ to → (u u' : List ℕ) → Turned field (wiped r) u u'
       → Carved field boxes x from to r u u'
-  carved-leaf n first e u u' t = carved-whole u u' (turned-agree field _ _ u u' (λ f y z. wipe-cell (inRect r y z) (f y z) ∙ cond-agree (inRect r y z) _ _ _ (λ h. sym (ap (λ (k : ℕ). shadeFrom boxes x from k y z) (sym e) ∙ first .bare y z h))) t)
+  carved-leaf n first e u u' t = carved-whole u u' (turned-agree field _ _ u u' (λ f y z. wipe-cell (inRect r y z) (f y z) ∙ cond-agree (inRect r y z) _ _ _ (λ h. sym (ap (λ (k : ℕ). shadeFrom boxes x from k y z) (sym e) ∙ first-bare boxes x r first y z h))) t)
 
   -- ---- around the first box that meets it
 
-  module _ (n : ℕ) (first : FirstMeeting boxes x from to r n) (before : n < to) (c : Rect) (c-is : c ≡ sharedRect r (rectOf (boxAt boxes n))) where
+  module _ (n : ℕ) (first : FirstPlace (meetsAt boxes x r) from to n) (before : n < to) (c : Rect) (c-is : c ≡ sharedRect r (rectOf (boxAt boxes n))) where
     pub parts-none : (u : List ℕ) → Partly field boxes x from to r (partsTo r c 0) u u
     unfolding anyTo
     parts-none u = record { shows = λ f s shown bare. s; same-size = refl }
@@ -133,8 +134,8 @@ module _ (field : ℕ) (boxes : List ℕ) (x from to : ℕ) (r : Rect) where
     part-past : (side y z : ℕ) → inRect (partOf r c side) y z ≡ true → ((y z : ℕ) → inRect r y z ≡ true → shade boxes x from y z ≡ false)
         → shade boxes x (n + 1) y z ≡ false
     part-past side y z h bare =
-        let inside = part-in boxes x r n (first .found before) c c-is side y z h in
-        shade-past boxes x y z from n (bare y z inside) (first .bare y z inside) (part-out boxes x r n (first .found before) c c-is side y z h)
+        let inside = part-in boxes x r n (first .passes before) c c-is side y z h in
+        shade-past boxes x y z from n (bare y z inside) (first-bare boxes x r first y z inside) (part-out boxes x r n (first .passes before) c c-is side y z h)
 
     pub parts-more : (side : ℕ) (u v w : List ℕ) → Partly field boxes x from to r (partsTo r c side) u v
         → Carved field boxes x (n + 1) to (partOf r c side) v w → Partly field boxes x from to r (partsTo r c (side + 1)) u w
@@ -155,11 +156,11 @@ module _ (field : ℕ) (boxes : List ℕ) (x from to : ℕ) (r : Rect) where
     }
       where
         own : (y z : ℕ) → partsTo r c 4 y z ≡ false → inRect r y z ≡ true → shade boxes x to y z ≡ true
-        own y z e h = parts-rest boxes x r n (first .found before) c c-is to before y z e h
+        own y z e h = parts-rest boxes x r n (first .passes before) c c-is to before y z e h
 
         one : (f : Layer) → ((y z : ℕ) → shade boxes x to y z ≡ true → f y z ≡ true) → (y z : ℕ) (a b : Bool) → partsTo r c 4 y z ≡ a
             → inRect r y z ≡ b → cond a (shade boxes x to y z) (f y z) ≡ cond b (shade boxes x to y z) (f y z)
         one f shown y z true true e h = refl
-        one f shown y z true false e h = absurd (true≢false (sym e ∙ parts-out boxes x r n (first .found before) c c-is y z h))
+        one f shown y z true false e h = absurd (true≢false (sym e ∙ parts-out boxes x r n (first .passes before) c c-is y z h))
         one f shown y z false true e h = shown y z (own y z e h) ∙ sym (own y z e h)
         one f shown y z false false e h = refl

@@ -13,26 +13,26 @@ use Rattle.lattice.specs.Pattern.{byte, corner}
 use Rattle.lattice.proofs.PatternLaws.{still-no-corner}
 use Rattle.lattice_sums.specs.CornerSums.{RoomFor}
 use Rattle.sweep_words.specs.Words.{bitAt, wordOf, patternOf, Lowest, WithoutLowest}
-use Rattle.sweep_tally.specs.Found.{at, Found, meet, found}
+use Rattle.sweep_tally.specs.Found.{cornerOf, Found, meet, found}
 use Rattle.sweep_tally.proofs.FoundLaws.{found-one}
 use Rattle.sweep_columns.specs.Columns.{cornerAt, columnCorners, Inside}
 use Rattle.sweep_columns.proofs.Joins.{join-quiet}
 use Rattle.sweep_columns.proofs.Takes.{Takes, takes-join, takes-point, room-left}
-use Rattle.sweep_columns.proofs.Visits.{Names, Visited, next-set, next-in, visit-to, visit-next}
+use Rattle.sweep_columns.proofs.Visits.{Names, Visited, next-set, next-in, visit-to, visit-more}
 
 -- ---- the corners of a column
 module _ (x y k l₀ l₁ u₀ u₁ : ℕ) where
   corner-none : (b : ℕ) → corner (patternOf l₀ l₁ u₀ u₁ b) ≡ false → cornerAt x y k l₀ l₁ u₀ u₁ b ≡ []
   unfolding cornerAt
-  corner-none b e = ap (λ (t : Bool). cond t (at x y (63 * k + b) (byte (patternOf l₀ l₁ u₀ u₁ b)) ∷ []) []) e
+  corner-none b e = ap (λ (t : Bool). cond t (cornerOf x y (63 * k + b) (byte (patternOf l₀ l₁ u₀ u₁ b)) ∷ []) []) e
 
   -- the corner at a place, as it is met
   pub corner-met : (b : ℕ) {p : ℕ} (g : Found) {h : Found} → corner (patternOf l₀ l₁ u₀ u₁ b) ≡ true → p ≡ byte (patternOf l₀ l₁ u₀ u₁ b)
-      → h ≡ meet g (at x y (63 * k + b) p) → h ≡ found g (cornerAt x y k l₀ l₁ u₀ u₁ b)
+      → h ≡ meet g (cornerOf x y (63 * k + b) p) → h ≡ found g (cornerAt x y k l₀ l₁ u₀ u₁ b)
   unfolding cornerAt
   corner-met b {p} g {h} c q e =
-      e ∙ ap (λ (i : ℕ). meet g (at x y (63 * k + b) i)) q ∙ sym (found-one g (at x y (63 * k + b) (byte (patternOf l₀ l₁ u₀ u₁ b))))
-      ∙ ap (λ (t : Bool). found g (cond t (at x y (63 * k + b) (byte (patternOf l₀ l₁ u₀ u₁ b)) ∷ []) [])) (sym c)
+      e ∙ ap (λ (i : ℕ). meet g (cornerOf x y (63 * k + b) i)) q ∙ sym (found-one g (cornerOf x y (63 * k + b) (byte (patternOf l₀ l₁ u₀ u₁ b))))
+      ∙ ap (λ (t : Bool). found g (cond t (cornerOf x y (63 * k + b) (byte (patternOf l₀ l₁ u₀ u₁ b)) ∷ []) [])) (sym c)
 
   module _ (m : ℕ) (w : (b : ℕ) → bitAt m b ≡ (ltb b 63 && corner (patternOf l₀ l₁ u₀ u₁ b))) where
     pub named-corner : (b : ℕ) → bitAt m b ≡ true → (b < 63) × (corner (patternOf l₀ l₁ u₀ u₁ b) ≡ true)
@@ -88,6 +88,6 @@ module _ (x y k l₀ l₁ u₀ u₁ all : ℕ) (w : (b : ℕ) → bitAt all b �
         room-left f (join j (cornerAt x y k l₀ l₁ u₀ u₁)) (fieldPoints 1024 - 1) (visit-to named d l)
         (takes-points x y k l₀ l₁ u₀ u₁ hx hy i j (omega (arith, point-in))) r (omega (arith, point-top))
 
-  pub point-next : {r p : ℕ} {h : Found} → WithoutLowest m r → p ≡ byte (patternOf l₀ l₁ u₀ u₁ j) → h ≡ meet g (at x y (63 * k + j) p)
+  pub point-next : {r p : ℕ} {h : Found} → WithoutLowest m r → p ≡ byte (patternOf l₀ l₁ u₀ u₁ j) → h ≡ meet g (cornerOf x y (63 * k + j) p)
       → Visited 63 all (cornerAt x y k l₀ l₁ u₀ u₁) r f h
-  point-next v q e = visit-next named d l v (corner-met x y k l₀ l₁ u₀ u₁ j g is-corner q e)
+  point-next v q e = visit-more named d l v (corner-met x y k l₀ l₁ u₀ u₁ j g is-corner q e)

@@ -9,7 +9,7 @@ use Rattle.ground.specs.Sums.{join}
 use Rattle.lattice.specs.Listing.{Corner}
 use Rattle.lattice_sums.specs.CornerSums.{Room}
 use Rattle.lattice_sums.proofs.CornerSumLaws.{room-more}
-use Rattle.sweep_tally.specs.Found.{at, Found, found}
+use Rattle.sweep_tally.specs.Found.{cornerOf, Found, found}
 use Rattle.sweep_tally.proofs.FoundLaws.{found-append, found-one, room-meet}
 
 -- to meet these corners takes room for m
@@ -36,10 +36,10 @@ takes-join m (suc n) f h =
     takes-more (omega (arith, suc-mul n m)) (takes-both (takes-join m n f (λ i l. h i (omega arith))) (h n (omega arith)))
 
 -- a point that is a corner only in the largest field
-pub takes-point : (c : Bool) (x y z p : ℕ) → x ≤ 1024 → y ≤ 1024 → (c ≡ true → z ≤ 1024) → Takes 1 (cond c (at x y z p ∷ []) [])
+pub takes-point : (c : Bool) (x y z p : ℕ) → x ≤ 1024 → y ≤ 1024 → (c ≡ true → z ≤ 1024) → Takes 1 (cond c (cornerOf x y z p ∷ []) [])
 takes-point true x y z p hx hy hz = record {
-  room = λ g n r. subst (λ (h : Found). Room (h .sums) (n + 1)) (sym (found-one g (at x y z p)))
-      (room-meet g (at x y z p) n hx hy (hz refl) r);
+  room = λ g n r. subst (λ (h : Found). Room (h .sums) (n + 1)) (sym (found-one g (cornerOf x y z p)))
+      (room-meet g (cornerOf x y z p) n hx hy (hz refl) r);
 }
 takes-point false x y z p hx hy hz = takes-more (omega arith) takes-none
 

@@ -63,9 +63,9 @@ module _ {n all m : ℕ} {f : ℕ → List Corner} {g h : Found} (v : Names n al
     pub visit-to : h ≡ found g (join k f)
     visit-to = still-to k next-from (omega (arith, next-in)) (l .under)
 
-    pub visit-next : {r : ℕ} {h' : Found} → WithoutLowest m r → h' ≡ found h (f k) → Visited n all f r g h'
+    pub visit-more : {r : ℕ} {h' : Found} → WithoutLowest m r → h' ≡ found h (f k) → Visited n all f r g h'
     unfolding join
-    visit-next w e = record {
+    visit-more w e = record {
       place = suc k;
       top = omega (arith, next-in);
       under = λ b c. left-under l w b (omega arith);

@@ -8,12 +8,12 @@ use Rattle.lattice.specs.Pattern.{byte, corner}
 use Rattle.lattice.specs.Listing.{Corner}
 use Rattle.sweep_words.specs.Words.{patternOf}
 use Rattle.sweep_image.specs.Images.{wordAt}
-use Rattle.sweep_tally.specs.Found.{at}
+use Rattle.sweep_tally.specs.Found.{cornerOf}
 
 -- point b of column k between four words, if it is a corner
 unfoldable pub cornerAt : ℕ → ℕ → ℕ → ℕ → ℕ → ℕ → ℕ → ℕ → List Corner
 cornerAt x y k l₀ l₁ u₀ u₁ b =
-    cond (corner (patternOf l₀ l₁ u₀ u₁ b)) (at x y (63 * k + b) (byte (patternOf l₀ l₁ u₀ u₁ b)) ∷ []) []
+    cond (corner (patternOf l₀ l₁ u₀ u₁ b)) (cornerOf x y (63 * k + b) (byte (patternOf l₀ l₁ u₀ u₁ b)) ∷ []) []
 
 -- the corners among the 63 points of a column
 unfoldable pub columnCorners : ℕ → ℕ → ℕ → ℕ → ℕ → ℕ → ℕ → List Corner

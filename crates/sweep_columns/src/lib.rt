@@ -2,8 +2,8 @@
 // `sweep_image` and `sweep_tally`.
 //
 // `l` and `u` are the images of the lower and the upper layer, `k` is a column of them, `x` the plane and `y` the line; `l0`, `l1`, `u0` and `u1`
-// are the four words, `w` the packed weights, `t` the corner sums before a function and `s` those so far, `buf` is the lent buffer; `m` has the
-// bits of a word that are still to be looked at.
+// are the four words, `t` are the corner sums before a function and `s` those so far, `buf` is the lent buffer; `m` has the bits of a word that
+// are still to be looked at.
 ghost use mathlib.Core.Path.{_≡_};
 ghost use Prim.Native.Nat.{_+_, _-_, _*_, _≤_};
 ghost use lib.ListN.{length};
@@ -24,11 +24,11 @@ fn points(
     k: usize,
     x: u16,
     y: u16,
-    w: &[i8],
+    weights: &[i8],
     t: CornerSums,
     buf: &mut [u8],
 ) -> CornerSums
-    requires { ⌜ (x ≤ 1024) × (y ≤ 1024) × (k ≤ 16) × Packed (now w) × RoomFor (linePoints 1024 - 63 * k) t × Inside k l0 l1 u0 u1 ⌝ }
+    requires { ⌜ (x ≤ 1024) × (y ≤ 1024) × (k ≤ 16) × Packed (now weights) × RoomFor (linePoints 1024 - 63 * k) t × Inside k l0 l1 u0 u1 ⌝ }
     ensures { λ r. ⌜ state r (now (buf .exit)) ≡ found (state t (now (buf .entry))) (columnCorners x y k l0 l1 u0 u1) ⌝ }
 {
     let mut s = t;
@@ -36,7 +36,7 @@ fn points(
     while m != 0 {
         let b = sweep_words::lowest(m);
         let p = sweep_words::pattern(l0, l1, u0, u1, b);
-        s = sweep_tally::meet(s, w, buf, x, y, (63 * k + b) as u16, p);
+        s = sweep_tally::meet(s, weights, buf, x, y, (63 * k + b) as u16, p);
         m = sweep_words::without_lowest(m);
     }
     s
@@ -49,11 +49,11 @@ pub fn column(
     k: usize,
     x: u16,
     y: u16,
-    w: &[i8],
+    weights: &[i8],
     t: CornerSums,
     buf: &mut [u8],
 ) -> CornerSums
-    requires { ⌜ (x ≤ 1024) × (y ≤ 1024) × (k ≤ 16) × Packed (now w) × RoomFor (linePoints 1024 - 63 * k) t ⌝ }
+    requires { ⌜ (x ≤ 1024) × (y ≤ 1024) × (k ≤ 16) × Packed (now weights) × RoomFor (linePoints 1024 - 63 * k) t ⌝ }
     requires { ⌜ ((k + 1) * rows ≤ length (now l)) × ((k + 1) * rows ≤ length (now u)) ⌝ }
     requires { ⌜ Inside k (wordAt (now l) k y) (wordAt (now l) k (y + 1)) (wordAt (now u) k y) (wordAt (now u) k (y + 1)) ⌝ }
     ensures { λ r. ⌜
@@ -65,5 +65,5 @@ pub fn column(
     let l1 = l[i + (j + 1)];
     let u0 = u[i + j];
     let u1 = u[i + (j + 1)];
-    points(l0, l1, u0, u1, k, x, y, w, t, buf)
+    points(l0, l1, u0, u1, k, x, y, weights, t, buf)
 }

@@ -48,7 +48,7 @@ changed-one {g} i w v h e = record {
 }
 
 -- one word more
-pub changed-next : {g : ℕ → ℕ → ℕ} {a i : ℕ} {w w' : List ℕ} (v : ℕ) → a ≤ i → i < length w → v ≡ g i (getD w' i 0)
+pub changed-more : {g : ℕ → ℕ → ℕ} {a i : ℕ} {w w' : List ℕ} (v : ℕ) → a ≤ i → i < length w → v ≡ g i (getD w' i 0)
     → Changed g a i w w' → Changed g a (i + 1) w (set w' i v)
-changed-next {g} {a} {i} {w} {w'} v h k e d =
+changed-more {g} {a} {i} {w} {w'} v h k e d =
     changed-join h (omega arith) d (changed-one i w' v (let s : length w' ≡ length w = d .same-size in omega arith) e)

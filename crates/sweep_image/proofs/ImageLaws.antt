@@ -25,16 +25,16 @@ pub record FilledTo (fill : Bool) (r : Rect) (j : ℕ) (u u' : List ℕ) : Type 
 
 module _ (fill : Bool) where
   -- where no cell of a column lies in the rectangle, the column stays as it is
-  pub filled-first : (r : Rect) (u : List ℕ) → FilledTo fill r (r .from / 63) u u
-  filled-first r u = record {
+  pub filled-none : (r : Rect) (u : List ℕ) → FilledTo fill r (r .from / 63) u u
+  filled-none r u = record {
     same-size = refl;
     done = λ k y b h m l. filling-kept fill (bitAt (wordAt u k y) b) (left-of r y (63 * k + b) (omega arith));
     rest = λ k y h m. refl;
   }
 
-  pub filled-on : {r : Rect} {j : ℕ} {u u' u'' : List ℕ} → FilledTo fill r j u u' → ColumnFilled fill r j u' u''
+  pub filled-more : {r : Rect} {j : ℕ} {u u' u'' : List ℕ} → FilledTo fill r j u u' → ColumnFilled fill r j u' u''
       → FilledTo fill r (j + 1) u u''
-  filled-on {r} {j} {u} {u'} {u''} d c = record {
+  filled-more {r} {j} {u} {u'} {u''} d c = record {
     same-size = c .same-size ∙ d .same-size;
     done = λ k y b h m l. upto k y b h m l (ltb k j) refl;
     rest = λ k y h m. c .other k y (λ e. omega arith) m ∙ d .rest k y (omega arith) m;

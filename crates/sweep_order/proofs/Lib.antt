@@ -1,1 +1,1 @@
-pub mod OrderLaws  -- boxes passed over, and their ends counted
+pub mod OrderLaws  -- the ends of boxes counted

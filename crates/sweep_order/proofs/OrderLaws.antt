@@ -1,4 +1,4 @@
--- Boxes passed over one after the other, and their ends counted.
+-- The ends of boxes counted.
 use mathlib.Core.Path.{_≡_, refl, sym, _∙_, subst}
 use mathlib.Core.Logic.{_≢_}
 use mathlib.Core.Bool.{Bool, true, false}
@@ -11,22 +11,6 @@ use lib.Seq.{getD-set-same, getD-set-other}
 use borrow.Author.Tests.{eqb-true, eqb-false}
 use Rattle.lattice.specs.Boxes.{boxAt}
 use Rattle.sweep_order.specs.Order.{Given, EndsRow}
-
--- ---- loops over boxes
-module _ (boxes : List ℕ) (x : ℕ) where
-  pub past-more : (old i : ℕ) → ((j : ℕ) → old ≤ j → j < i → boxAt boxes j .x ≤ x) → boxAt boxes i .x ≤ x → (j : ℕ) → old ≤ j → j < i + 1 → boxAt boxes j .x ≤ x
-  past-more old i f h j l k = go (eqb j i) refl
-    where
-      go : (b : Bool) → eqb j i ≡ b → boxAt boxes j .x ≤ x
-      go true e = subst (λ m. boxAt boxes m .x ≤ x) (sym (eqb-true j i e)) h
-      go false e = f j l (let m : (j ≡ i → ⊥) = eqb-false j i e in omega arith)
-
-  pub ended-on : (from i : ℕ) → ((j : ℕ) → from ≤ j → j < i → boxAt boxes j .x-end < x) → boxAt boxes i .x-end < x → (j : ℕ) → from ≤ j → j < i + 1 → boxAt boxes j .x-end < x
-  ended-on from i f h j l k = go (eqb j i) refl
-    where
-      go : (b : Bool) → eqb j i ≡ b → boxAt boxes j .x-end < x
-      go true e = subst (λ m. boxAt boxes m .x-end < x) (sym (eqb-true j i e)) h
-      go false e = f j l (let m : (j ≡ i → ⊥) = eqb-false j i e in omega arith)
 
 -- ---- the ends counted
 module _ (field : ℕ) (boxes : List ℕ) (count : ℕ) (g : Given field boxes count) where

@@ -1,8 +1,10 @@
 -- Boxes in their order along x: which begin past a plane, which end before it, and how many end on each plane.
 use mathlib.Core.Path.{_≡_}
 use mathlib.Core.Logic.{_≢_}
+use mathlib.Core.Bool.{Bool}
 use mathlib.Core.List.{List}
 use Prim.Native.Nat.{ℕ, _*_, _≤_, _<_}
+use lib.Dec.{leb, ltb}
 use lib.ListN.{length, getD}
 use Rattle.lattice.specs.Boxes.{boxAt, BoxesIn}
 
@@ -14,18 +16,13 @@ pub record Given (field : ℕ) (boxes : List ℕ) (count : ℕ) : Type 0 where
   pub there : 6 * count ≤ length boxes
   pub boxes-in : BoxesIn field boxes count
 
--- r is the first box from `old` on that begins past the plane x, or their number
-pub record FirstPast (boxes : List ℕ) (count old x r : ℕ) : Type 0 where
-  pub onward : old ≤ r
-  pub within : r ≤ count
-  pub not-past : (i : ℕ) → old ≤ i → i < r → boxAt boxes i .x ≤ x
-  pub past : r < count → x < boxAt boxes r .x
+-- box i begins past the plane x
+abbrev pub beginsPast : List ℕ → ℕ → ℕ → Bool
+beginsPast boxes x i = ltb x (boxAt boxes i .x)
 
--- no box from `from` on and before r reaches the plane x
-pub record Passed (boxes : List ℕ) (from old x r : ℕ) : Type 0 where
-  pub onward : from ≤ r
-  pub within : r ≤ old
-  pub ended : (i : ℕ) → from ≤ i → i < r → boxAt boxes i .x-end < x
+-- box i ends on the plane x or past it
+abbrev pub lastsTo : List ℕ → ℕ → ℕ → Bool
+lastsTo boxes x i = leb x (boxAt boxes i .x-end)
 
 -- how many entries a row has: one for each plane of the largest field, and one more
 abbrev pub rowSize : ℕ

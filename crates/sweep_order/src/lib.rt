@@ -1,17 +1,18 @@
 // Boxes in their order along x: the first that begins past a plane, those that end before it, and how many end on each plane. Stands on
-// `lattice`.
+// `lattice` and `ground`.
 //
 // `boxes` has six numbers a box, `count` of them, rising by where they begin on x; `x` is a plane; the boxes before number `from` end before it,
 // those before `old` begin before it.
 ghost use mathlib.Core.Path.{_≡_};
 ghost use Prim.Native.Nat.{_+_, _*_, _<_, _≤_};
 ghost use lib.ListN.{length, getD, set};
-ghost use Rattle.sweep_order.specs.Order.{Given, FirstPast, Passed, EndsRow};
+ghost use Rattle.ground.specs.FirstPlace.{FirstPlace};
+ghost use Rattle.sweep_order.specs.Order.{Given, beginsPast, lastsTo, EndsRow};
 
 // The first box from `old` on that begins past the plane x, or the number of boxes.
 pub fn first_past(boxes: &[u16], count: usize, old: usize, x: u16) -> usize
     requires { ⌜ (6 * count ≤ length (now boxes)) × (old ≤ count) × (count ≤ 4096) ⌝ }
-    ensures { λ r. ⌜ FirstPast (now (boxes .entry)) count old x r ⌝ }
+    ensures { λ r. ⌜ FirstPlace (beginsPast (now (boxes .entry)) x) old count r ⌝ }
 {
     let mut i = old;
     loop {
@@ -28,7 +29,7 @@ pub fn first_past(boxes: &[u16], count: usize, old: usize, x: u16) -> usize
 // Passes over the boxes from `from` on that end before the plane x, up to the first that does not, or to `old`.
 pub fn pass(boxes: &[u16], from: usize, old: usize, x: u16) -> usize
     requires { ⌜ (6 * old ≤ length (now boxes)) × (from ≤ old) × (old ≤ 4096) ⌝ }
-    ensures { λ r. ⌜ Passed (now (boxes .entry)) from old x r ⌝ }
+    ensures { λ r. ⌜ FirstPlace (lastsTo (now (boxes .entry)) x) from old r ⌝ }
 {
     let mut i = from;
     loop {

@@ -5,13 +5,14 @@ use mathlib.Core.List.{List}
 use Prim.Native.Nat.{ℕ, _+_, _-_, _≤_, _<_}
 use native.Mathlib.Omega.{arith}
 use lib.Dec.{leb, ltb}
-use borrow.Author.Tests.{le-leb, lt-leb, leb-false, ltb-true}
+use borrow.Author.Tests.{le-leb, lt-leb, leb-true, leb-false, ltb-true}
+use Rattle.ground.specs.FirstPlace.{FirstPlace}
 use Rattle.ground.proofs.Bools.{and-true, not-so}
 use Rattle.ground.proofs.AnyLaws.{any-to-less, any-to-more, any-to-true, any-to-false, any-to-none, any-to-ext}
 use Rattle.lattice.specs.Boxes.{boxAt}
 use Rattle.sweep_image.specs.Images.{inRect}
 use Rattle.sweep_image.specs.declared.Rect.{Rect}
-use Rattle.sweep_overlaps.specs.Overlaps.{rectOf, shadeOf, shade, shadeFrom, meetsRect, FirstMeeting, LastMeeting}
+use Rattle.sweep_overlaps.specs.Overlaps.{rectOf, shadeOf, shade, shadeFrom, meetsRect, meetsAt, LastMeeting}
 use Rattle.sweep_overlaps.proofs.RectLaws.{in-has, has-meets}
 
 -- ---- the layer at a cell
@@ -60,23 +61,15 @@ missed boxes x r n miss y z h =
     meeting : (ltb x (boxAt boxes n .x-end) ≡ true) × (inRect (rectOf (boxAt boxes n)) y z ≡ true) → meetsRect (boxAt boxes n) x r ≡ true
     meeting e = has-meets (boxAt boxes n) x r y z (in-has r y z h) (ltb-true x (boxAt boxes n .x-end) (e .0)) (in-has (rectOf (boxAt boxes n)) y z (e .1))
 
-module _ (boxes : List ℕ) (x from : ℕ) (r : Rect) where
-  -- no box before number n has a cell of the rectangle
-  abbrev pub BareTo : ℕ → Type 0
-  BareTo n = (y z : ℕ) → inRect r y z ≡ true → shadeFrom boxes x from n y z ≡ false
-
-  pub bare-none : BareTo from
-  bare-none y z h = from-none boxes x y z from
-
-  pub bare-more : (n : ℕ) → from ≤ n → {t : Bool} → t ≡ meetsRect (boxAt boxes n) x r → t ≡ false → BareTo n → BareTo (n + 1)
-  bare-more n l is miss bare y z h = from-more boxes x y z from n l ∙ rw (bare y z h, missed boxes x r n (sym is ∙ miss) y z h)
-
-  module _ (to n : ℕ) (l : from ≤ n) where
-    pub none-meets : n ≡ to → BareTo n → FirstMeeting boxes x from to r n
-    none-meets e bare = record { onward = l; within = omega arith; bare = bare; found = λ h. absurd (omega (arith, e, h)) }
-
-    pub box-found : n ≤ to → BareTo n → {t : Bool} → t ≡ meetsRect (boxAt boxes n) x r → t ≡ true → FirstMeeting boxes x from to r n
-    box-found k bare is e = record { onward = l; within = k; bare = bare; found = λ h. sym is ∙ e }
+-- no box before the first that meets it has a cell of it
+pub first-bare : (boxes : List ℕ) (x : ℕ) (r : Rect) {from to n : ℕ} → FirstPlace (meetsAt boxes x r) from to n → (y z : ℕ) → inRect r y z ≡ true
+    → shadeFrom boxes x from n y z ≡ false
+unfolding shadeFrom
+first-bare boxes x r {from} {to} {n} first y z h = any-to-none n λ i l. one i l (leb from i) refl
+  where
+    one : (i : ℕ) → i < n → (b : Bool) → leb from i ≡ b → b && shadeOf boxes x i y z ≡ false
+    one i l true e = missed boxes x r i (first .earlier i (leb-true from i e) l) y z h
+    one i l false e = refl
 
 module _ (boxes : List ℕ) (x from to : ℕ) (r : Rect) (n : ℕ) (k : n ≤ to) where
   pub none-down : n ≡ from → LastMeeting boxes x from to r n

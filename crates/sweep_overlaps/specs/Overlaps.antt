@@ -1,7 +1,7 @@
 -- Rectangles of the layer above a plane across x, and the boxes that begin on the plane or before it: which cells they have, which of them meet
 -- a rectangle, and what is left of it around one of them.
 use mathlib.Core.Path.{_≡_}
-use mathlib.Core.Bool.{Bool, true, false, _&&_, _||_}
+use mathlib.Core.Bool.{Bool, true, _&&_, _||_}
 use mathlib.Core.List.{List}
 use Prim.Native.Nat.{ℕ, zero, suc, _+_, _*_, _≤_, _<_, min, max, _-_}
 use lib.Dec.{leb, ltb}
@@ -50,14 +50,11 @@ overlapsRect t r = (ltb (t .y) (r .high) && ltb (r .low) (t .y-end)) && (ltb (t 
 unfoldable pub meetsRect : Box → ℕ → Rect → Bool
 meetsRect t x r = overlapsRect t r && ltb x (t .x-end)
 
--- the number of the first such box, from number `from` on, or else `to`: none before it has a cell of the rectangle
-pub record FirstMeeting (boxes : List ℕ) (x from to : ℕ) (r : Rect) (n : ℕ) : Type 0 where
-  pub onward : from ≤ n
-  pub within : n ≤ to
-  pub bare : (y z : ℕ) → inRect r y z ≡ true → shadeFrom boxes x from n y z ≡ false
-  pub found : n < to → meetsRect (boxAt boxes n) x r ≡ true
+-- box number i does
+abbrev pub meetsAt : List ℕ → ℕ → Rect → ℕ → Bool
+meetsAt boxes x r i = meetsRect (boxAt boxes i) x r
 
--- one past the number of the last such box before number `to`, down to number `from`, or else `from`
+-- one past the number of the last box that does before number `to`, down to number `from`, or else `from`
 pub record LastMeeting (boxes : List ℕ) (x from to : ℕ) (r : Rect) (n : ℕ) : Type 0 where
   pub onward : from ≤ n
   pub within : n ≤ to

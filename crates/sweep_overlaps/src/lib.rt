@@ -10,7 +10,8 @@ ghost use Prim.Native.Nat.{_+_, _*_, _≤_, min, max};
 ghost use lib.ListN.{length};
 ghost use Rattle.lattice.specs.Boxes.{boxAt};
 ghost use Rattle.sweep_image.specs.Images.{RectIn};
-ghost use Rattle.sweep_overlaps.specs.Overlaps.{rectOf, FirstBoxes, emptyRect, fourOf, overlapsRect, meetsRect, FirstMeeting, LastMeeting, sharedRect, partOf};
+ghost use Rattle.ground.specs.FirstPlace.{FirstPlace};
+ghost use Rattle.sweep_overlaps.specs.Overlaps.{rectOf, FirstBoxes, emptyRect, fourOf, overlapsRect, meetsRect, meetsAt, LastMeeting, sharedRect, partOf};
 use sweep_image::Rect;
 
 fn lesser(a: u16, b: u16) -> u16
@@ -79,7 +80,7 @@ pub fn first_meeting(boxes: &[u16], x: u16, from: usize, to: usize, r: Rect) -> 
     requires { ⌜ FirstBoxes 1024 (now boxes) to ⌝ }
     requires { ⌜ from ≤ to ⌝ }
     requires { ⌜ RectIn 1024 r ⌝ }
-    ensures { λ n. ⌜ FirstMeeting (now (boxes .entry)) x from to r n ⌝ }
+    ensures { λ n. ⌜ FirstPlace (meetsAt (now (boxes .entry)) x r) from to n ⌝ }
 {
     let mut n = from;
     loop {

@@ -19,7 +19,7 @@ use Rattle.sweep_image.specs.Images.{Layer, Shows, imageSize}
 use Rattle.sweep_settling.specs.Settling.{Settled}
 use Rattle.sweep_names.specs.Names.{Lent}
 use Rattle.sweep_overlaps.specs.Overlaps.{shade}
-use Rattle.sweep_layer.specs.Layers.{About, touching, Becomes}
+use Rattle.sweep_faces.specs.Layers.{About, touching, Becomes}
 use Rattle.sweep_image.proofs.ImageLaws.{shows-ext}
 use Rattle.sweep_layer.proofs.LayerLaws.{below-touching, below-shade, bare-plane}
 use Rattle.sweep_tally.specs.Found.{Found, state, found}

@@ -8,7 +8,7 @@ ghost use Rattle.lattice.specs.Cells.{planePoints};
 ghost use Rattle.lattice_sums.specs.CornerSums.{RoomFor};
 ghost use Rattle.lattice_weights.specs.Packed.{Packed};
 ghost use Rattle.sweep_overlaps.specs.Overlaps.{shade};
-ghost use Rattle.sweep_layer.specs.Layers.{About, touching};
+ghost use Rattle.sweep_faces.specs.Layers.{About, touching};
 ghost use Rattle.sweep_tally.specs.Found.{state};
 ghost use Rattle.sweep_plane.specs.Plane.{Both, PlaneOut, EndsOn};
 use lattice_sums::sums::CornerSums;

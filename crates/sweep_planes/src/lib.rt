@@ -6,7 +6,7 @@
 ghost use mathlib.Core.Path.{_≡_};
 ghost use Rattle.lattice.specs.Boxes.{boxCells};
 ghost use Rattle.lattice_weights.specs.Packed.{Packed};
-ghost use Rattle.sweep_layer.specs.Layers.{touching};
+ghost use Rattle.sweep_faces.specs.Layers.{touching};
 ghost use Rattle.sweep_order.specs.Order.{Given, EndsRow};
 ghost use Rattle.sweep_plane.specs.Plane.{Both};
 ghost use Rattle.sweep_planes.specs.Planes.{AllFound};

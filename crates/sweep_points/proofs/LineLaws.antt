@@ -14,7 +14,7 @@ use Rattle.sweep_words.specs.Words.{bitAt}
 use Rattle.sweep_words.proofs.BitLaws.{bit-or, bit-zero}
 use Rattle.sweep_image.specs.Images.{columns, wordAt}
 use Rattle.sweep_names.specs.Names.{Tells}
-use Rattle.sweep_tally.specs.Found.{at, Found, found}
+use Rattle.sweep_tally.specs.Found.{Found, found}
 use Rattle.sweep_tally.proofs.FoundLaws.{found-append}
 use Rattle.sweep_blanks.specs.Blanks.{Blank}
 use Rattle.sweep_columns.specs.Columns.{columnAt}

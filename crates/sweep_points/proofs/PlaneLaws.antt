@@ -14,7 +14,7 @@ use Rattle.lattice.proofs.Inside.{outside-no-corner}
 use Rattle.lattice.proofs.SameSolid.{here-none}
 use Rattle.sweep_words.specs.Words.{bitAt, wordOf, patternOf}
 use Rattle.sweep_image.specs.Images.{columns, wordAt}
-use Rattle.sweep_tally.specs.Found.{at}
+use Rattle.sweep_tally.specs.Found.{cornerOf}
 use Rattle.sweep_columns.specs.Columns.{cornerAt, columnCorners, columnAt, Inside}
 use Rattle.sweep_columns.proofs.CornerLaws.{takes-points}
 use Rattle.sweep_columns.proofs.Joins.{join-below, join-blocks, join-quiet}
@@ -58,7 +58,7 @@ module _ (n x : ℕ) {l u : List ℕ} {s : Cells} (a : Shown n x l u s) (y k : �
 
   column-is : columnAt x y l u k ≡ join 63 (λ b. here s x y (63 * k + b))
   unfolding columnAt columnCorners cornerAt here
-  column-is = join-below 63 (λ b h. ap (λ (p : Pattern). cond (corner p) (at x y (63 * k + b) (byte p) ∷ []) []) (pattern-is b h))
+  column-is = join-below 63 (λ b h. ap (λ (p : Pattern). cond (corner p) (cornerOf x y (63 * k + b) (byte p) ∷ []) []) (pattern-is b h))
 
 module _ (n x : ℕ) {l u : List ℕ} {s : Cells} (a : Shown n x l u s) where
   line-is : (y : ℕ) → y ≤ 1024 → lineAt n x l u y ≡ join (suc n) (λ z. here s x y z)

@@ -14,7 +14,7 @@ use Rattle.sweep_names.specs.Names.{Tells}
 use Rattle.sweep_tally.specs.Found.{Found, found}
 use Rattle.sweep_columns.specs.Columns.{columnAt, Inside}
 use Rattle.sweep_columns.proofs.Takes.{room-left}
-use Rattle.sweep_columns.proofs.Visits.{Names, Visited, next-in, visit-to, visit-next}
+use Rattle.sweep_columns.proofs.Visits.{Names, Visited, next-in, visit-to, visit-more}
 use Rattle.sweep_points.specs.Points.{Layers, PlaneFound, lineAt}
 use Rattle.sweep_points.proofs.PlaneLaws.{inside, plane-is, takes-columns, takes-lines}
 use Rattle.sweep_points.proofs.LineLaws.{names-columns}
@@ -44,7 +44,7 @@ module _ (n x y : ℕ) (hn : n ≤ 1024) (hy : y ≤ n) {l u names : List ℕ} (
 
   pub column-next : {r : ℕ} {h : Found} → WithoutLowest m r → h ≡ found g (columnAt x y l u j)
       → Visited (columns n) (bitOr (getD names y 0) (getD names (y + 1) 0)) (columnAt x y l u) r f h
-  column-next v e = visit-next columns-named d k v e
+  column-next v e = visit-more columns-named d k v e
 
 -- ---- a line
 module _ (n x : ℕ) (hn : n ≤ 1024) (hx : x ≤ n) {l u : List ℕ} (a : Layers n x l u) (f : Found) {g : Found} where

@@ -2,8 +2,8 @@
 // two rows about it name. Stands on `sweep_columns`, `sweep_blanks`, `sweep_names` and `sweep_tally`.
 //
 // `l` and `u` are the images of the lower and the upper layer, `names` the columns in which they may differ, row by row, and `k` is a column.
-// `x` is the plane, `y` a line of it, `w` are the packed weights, `t` the corner sums before a function and `s` those so far, `buf` is the lent
-// buffer; `m` has the bits of a word that are still to be looked at.
+// `x` is the plane, `y` a line of it, `t` are the corner sums before a function and `s` those so far, `buf` is the lent buffer; `m` has the bits of
+// a word that are still to be looked at.
 ghost use mathlib.Core.Path.{_≡_};
 ghost use Prim.Native.Nat.{_+_, _<_, _≤_};
 ghost use Rattle.lattice.specs.Cells.{linePoints, planePoints};
@@ -24,11 +24,11 @@ fn line(
     l: &[u64],
     u: &[u64],
     names: &[u64],
-    w: &[i8],
+    weights: &[i8],
     t: CornerSums,
     buf: &mut [u8],
 ) -> CornerSums
-    requires { ⌜ (field ≤ 1024) × (x ≤ 1024) × (y ≤ field) × Packed (now w) × RoomFor (linePoints 1024) t ⌝ }
+    requires { ⌜ (field ≤ 1024) × (x ≤ 1024) × (y ≤ field) × Packed (now weights) × RoomFor (linePoints 1024) t ⌝ }
     requires { ⌜ Layers field x (now l) (now u) × Tells field (now l) (now u) (now names) ⌝ }
     ensures { λ r. ⌜
         state r (now (buf .exit)) ≡ found (state t (now (buf .entry))) (lineAt field x (now (l .entry)) (now (u .entry)) y) ⌝ }
@@ -38,7 +38,7 @@ fn line(
     let mut m = names[j] | names[j + 1];
     while m != 0 {
         let k = sweep_words::lowest(m);
-        s = column(l, u, k, x, y, w, s, buf);
+        s = column(l, u, k, x, y, weights, s, buf);
         m = sweep_words::without_lowest(m);
     }
     s
@@ -52,11 +52,11 @@ pub fn lines(
     l: &[u64],
     u: &[u64],
     names: &[u64],
-    w: &[i8],
+    weights: &[i8],
     t: CornerSums,
     buf: &mut [u8],
 ) -> CornerSums
-    requires { ⌜ (field ≤ 1024) × (x ≤ field) × Packed (now w) × RoomFor (planePoints 1024) t ⌝ }
+    requires { ⌜ (field ≤ 1024) × (x ≤ field) × Packed (now weights) × RoomFor (planePoints 1024) t ⌝ }
     requires { ⌜ Layers field x (now l) (now u) × Tells field (now l) (now u) (now names) ⌝ }
     ensures { λ r. ⌜
         PlaneFound field x (now (l .entry)) (now (u .entry)) (state t (now (buf .entry))) (state r (now (buf .exit))) ⌝ }
@@ -65,7 +65,7 @@ pub fn lines(
     let mut s = t;
     let mut y = next_named(names, 0, end);
     while y < end {
-        s = line(field, x, y as u16, l, u, names, w, s, buf);
+        s = line(field, x, y as u16, l, u, names, weights, s, buf);
         y = next_named(names, y + 1, end);
     }
     s

@@ -18,9 +18,9 @@ use Rattle.sweep_settling.specs.Settling.{Settled}
 
 -- ---- rows that are 0
 -- eight rows, one after the other
-pub blank-next : (names : List ℕ) (y i w : ℕ) → (w ≡ 0 → (j : ℕ) → y ≤ j → j < y + i → getD names j 0 ≡ 0)
+pub blank-more : (names : List ℕ) (y i w : ℕ) → (w ≡ 0 → (j : ℕ) → y ≤ j → j < y + i → getD names j 0 ≡ 0)
     → bitOr w (getD names (y + i) 0) ≡ 0 → (j : ℕ) → y ≤ j → j < y + (i + 1) → getD names j 0 ≡ 0
-blank-next names y i w before e j h k = go (ltb j (y + i)) refl
+blank-more names y i w before e j h k = go (ltb j (y + i)) refl
   where
     zero-both : (w ≡ 0) × (getD names (y + i) 0 ≡ 0)
     zero-both = or-none w (getD names (y + i) 0) e

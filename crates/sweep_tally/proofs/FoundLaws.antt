@@ -10,7 +10,7 @@ use Rattle.lattice.specs.Listing.{Corner, cornerRecord}
 use Rattle.lattice_sums.specs.CornerSums.{added, Room}
 use Rattle.lattice_sums.specs.declared.sums.CornerSums.{CornerSums}
 use Rattle.lattice_sums.proofs.CornerSumLaws.{added-room}
-use Rattle.sweep_tally.specs.Found.{at, withRecord, storedRecord, Found, state, meet, found}
+use Rattle.sweep_tally.specs.Found.{cornerOf, withRecord, storedRecord, Found, state, meet, found}
 
 -- ---- the buffer
 -- seven stores one after the other
@@ -29,7 +29,7 @@ seven l i a b c d e f g h =
 
 pub record-stored : (l : List ℕ) (i x y z p : ℕ) → i + 7 ≤ length l
     → set (set (set (set (set (set (set l i (x % 256)) (i + 1) (x / 256)) (i + 2) (y % 256)) (i + 3) (y / 256)) (i + 4) (z % 256)) (i + 5) (z / 256)) (i + 6) p
-    ≡ withRecord l i (cornerRecord (at x y z p))
+    ≡ withRecord l i (cornerRecord (cornerOf x y z p))
 unfolding cornerRecord
 record-stored l i x y z p h = seven l i (x % 256) (x / 256) (y % 256) (y / 256) (z % 256) (z / 256) p h
 

@@ -8,8 +8,9 @@ use Rattle.lattice.specs.Listing.{Corner, cornerRecord}
 use Rattle.lattice_sums.specs.CornerSums.{added}
 use Rattle.lattice_sums.specs.declared.sums.CornerSums.{CornerSums}
 
-abbrev pub at : ℕ → ℕ → ℕ → ℕ → Corner
-at x y z p = record { x = x; y = y; z = z; pattern = p }
+-- a corner by its coordinates and its pattern
+abbrev pub cornerOf : ℕ → ℕ → ℕ → ℕ → Corner
+cornerOf x y z p = record { x = x; y = y; z = z; pattern = p }
 
 -- the buffer with the seven bytes of a record at a place
 abbrev pub withRecord : List ℕ → ℕ → List ℕ → List ℕ

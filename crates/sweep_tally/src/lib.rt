@@ -8,13 +8,13 @@ ghost use lib.ListN.{length};
 ghost use Rattle.lattice.specs.Listing.{cornerRecord};
 ghost use Rattle.lattice_sums.specs.CornerSums.{RoomFor};
 ghost use Rattle.lattice_weights.specs.Packed.{Packed};
-ghost use Rattle.sweep_tally.specs.Found.{at, withRecord, storedRecord, state, meet};
+ghost use Rattle.sweep_tally.specs.Found.{cornerOf, withRecord, storedRecord, state, meet};
 use lattice_sums::sums::CornerSums;
 
 // Writes a record at a place of the buffer.
 fn put_record(buf: &mut [u8], start: usize, x: u16, y: u16, z: u16, p: u8)
     requires { ⌜ start + 7 ≤ length (now buf) ⌝ }
-    ensures { λ _. ⌜ now (buf .exit) ≡ withRecord (now (buf .entry)) start (cornerRecord (at x y z p)) ⌝ }
+    ensures { λ _. ⌜ now (buf .exit) ≡ withRecord (now (buf .entry)) start (cornerRecord (cornerOf x y z p)) ⌝ }
 {
     buf[start] = (x % 256) as u8;
     buf[start + 1] = (x / 256) as u8;
@@ -27,7 +27,7 @@ fn put_record(buf: &mut [u8], start: usize, x: u16, y: u16, z: u16, p: u8)
 
 // Writes record n, if the buffer has room for it.
 fn put(buf: &mut [u8], n: usize, x: u16, y: u16, z: u16, p: u8)
-    ensures { λ _. ⌜ now (buf .exit) ≡ storedRecord (now (buf .entry)) n (cornerRecord (at x y z p)) ⌝ }
+    ensures { λ _. ⌜ now (buf .exit) ≡ storedRecord (now (buf .entry)) n (cornerRecord (cornerOf x y z p)) ⌝ }
 {
     if buf.len() / 7 <= n {
         return;
@@ -46,7 +46,7 @@ pub fn meet(
     p: u8,
 ) -> CornerSums
     requires { ⌜ (x ≤ 1024) × (y ≤ 1024) × (z ≤ 1024) × RoomFor 1 t × Packed (now weights) ⌝ }
-    ensures { λ r. ⌜ state r (now (buf .exit)) ≡ meet (state t (now (buf .entry))) (at x y z p) ⌝ }
+    ensures { λ r. ⌜ state r (now (buf .exit)) ≡ meet (state t (now (buf .entry))) (cornerOf x y z p) ⌝ }
 {
     let n = t.corners;
     put(buf, n, x, y, z, p);

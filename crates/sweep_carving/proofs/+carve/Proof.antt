@@ -134,7 +134,7 @@ carve-carve-requires t c κs =
     let before : c .before .before .before .before .before .before .before .before .first-meeting .result < start .args .to = omega (arith, first .within, c .before .before .before .before .before .before .if3 .left) in
     let inv = c .before .before .before .before .loop .inv in
     let fits =
-    part-ready (start .args .boxes .now) (start .args .x) (start .args .r) _ (first .found before) _
+    part-ready (start .args .boxes .now) (start .args .x) (start .args .r) _ (first .passes before) _
     (c .before .before .before .before .before .common .ensures) (start .args .field)
     (cells-in (start .args .r) (start .args .field) cells (start .pre .1 .0) (start .pre .1 .1 .0))
     (c .before .before .before .before .loop .side) (c .before .before .part .ensures) in

@@ -3,7 +3,7 @@ use mathlib.Core.Path.{_≡_, refl}
 use Prim.Native.Nat.{_+_, _-_, _/_, _≤_}
 use native.Mathlib.Omega.{arith}
 use Rattle.sweep_image.specs.Images.{Beside}
-use Rattle.sweep_image.proofs.ImageLaws.{FilledTo, filled-first, filled-on, filled-all}
+use Rattle.sweep_image.proofs.ImageLaws.{FilledTo, filled-none, filled-more, filled-all}
 use Rattle.sweep_image.proofs.WordLaws.{beside-none, beside-then}
 use borrow.Author.Needs.{needs}
 use Rattle.sweep_image.proofs.fill_rect.Statement.{statement}
@@ -32,7 +32,7 @@ loop-holds c =
       omega arith,
       omega (arith, start .pre .0 .0 .z-order),
       refl,
-      filled-first (given .fill) (given .r) (given .u .now),
+      filled-none (given .fill) (given .r) (given .u .now),
       beside-none (given .r) (given .u .now),
     )
 
@@ -53,7 +53,7 @@ loop-again c =
     let inv = c .before .before .before .before .before .loop .inv in
     let turn = c .before .before .fill-column .ensures in
     let given = c .before .before .before .before .before .before .before .before .before .args in
-    (omega arith, omega arith, inv .2, filled-on (given .fill) (inv .3) (turn .0), beside-then (inv .4) (turn .1))
+    (omega arith, omega arith, inv .2, filled-more (given .fill) (inv .3) (turn .0), beside-then (inv .4) (turn .1))
 
 same-length : tie.Need-same-length Inv-loop μ-loop
 same-length c = c .before .loop .inv .3 .same-size

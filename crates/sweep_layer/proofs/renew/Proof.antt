@@ -1,6 +1,6 @@
 -- Either way the layer above the plane is shown.
 use native.Mathlib.Omega.{arith}
-use Rattle.sweep_layer.proofs.LayerLaws.{rect-small}
+use Rattle.sweep_faces.proofs.FaceLaws.{rect-small}
 use borrow.Author.Needs.{needs}
 use Rattle.sweep_layer.proofs.renew.Statement.{statement}
 use Rattle.sweep_layer.proofs.renew.Tie as tie

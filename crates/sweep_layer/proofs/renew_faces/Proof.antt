@@ -1,6 +1,6 @@
 -- The faces that end, then those that begin.
 use Rattle.sweep_names.proofs.NameLaws.{lent-still}
-use Rattle.sweep_layer.proofs.LayerLaws.{becomes-more}
+use Rattle.sweep_faces.proofs.FaceLaws.{becomes-more}
 use borrow.Author.Needs.{needs}
 use Rattle.sweep_layer.proofs.renew_faces.Statement.{statement}
 use Rattle.sweep_layer.proofs.renew_faces.Tie as tie

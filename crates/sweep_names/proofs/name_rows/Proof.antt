@@ -4,7 +4,7 @@ use Prim.Native.Nat.{_≤_, _-_}
 use native.Mathlib.Omega.{arith}
 use Rattle.sweep_image.specs.Changes.{Changed}
 use Rattle.sweep_names.specs.Names.{namedIf}
-use Rattle.sweep_image.proofs.ChangeLaws.{changed-none, changed-next}
+use Rattle.sweep_image.proofs.ChangeLaws.{changed-none, changed-more}
 use borrow.Author.Needs.{needs}
 use Rattle.sweep_names.proofs.name_rows.Statement.{statement}
 use Rattle.sweep_names.proofs.name_rows.Tie as tie
@@ -62,7 +62,7 @@ loop-less c = search needs
 loop-again : tie.Need-loop-again Inv-loop μ-loop
 loop-again c =
     let at = c .before .before .before .before .before .loop in
-    (omega arith, omega arith, changed-next (c .with-unless .result) (at .inv .0) (omega arith) (c .with-unless .ensures) (at .inv .2))
+    (omega arith, omega arith, changed-more (c .with-unless .result) (at .inv .0) (omega arith) (c .with-unless .ensures) (at .inv .2))
 
 same-length : tie.Need-same-length Inv-loop μ-loop
 same-length c = c .before .loop .inv .2 .same-size

@@ -40,7 +40,11 @@ loop-less : tie.Need-loop-less Inv-loop μ-loop
 loop-less c = search needs
 
 loop-again : tie.Need-loop-again Inv-loop μ-loop
-loop-again c = (omega arith, ends-more _ _ _ (c .before .before .before .before .before .before .before .before .before .pre .0) _ _ _ (c .before .before .before .before .before .loop-test .taken) (c .before .before .before .before .before .before .loop .inv .1) (c .before .before .count-one .ensures), search needs)
+loop-again c =
+    let at-loop = c .before .before .before .before .before .before in
+    let given = at-loop .before .before .before .pre .0 in
+    let more = ends-more _ _ _ given _ _ _ (c .before .before .before .before .before .loop-test .taken) (at-loop .loop .inv .1) (c .before .before .count-one .ensures) in
+    (omega arith, more, search needs)
 
 same-length : tie.Need-same-length Inv-loop μ-loop
 same-length c = search needs

@@ -1,20 +1,22 @@
--- Every box before that of the loop ends before the plane.
-use Prim.Native.Nat.{ℕ, _-_, _≤_, _<_}
+-- Every box before that of the loop ends before the plane; so the first that does not, or `old`, is the answer.
+use mathlib.Core.Path.{refl}
+use Prim.Native.Nat.{_-_}
 use native.Mathlib.Omega.{arith}
-use Rattle.lattice.specs.Boxes.{boxAt}
-use Rattle.sweep_order.proofs.OrderLaws.{ended-on}
+use borrow.Author.Tests.{lt-leb, le-leb}
+use Rattle.ground.proofs.SearchLaws.{Searched, search-none, search-more, search-all, search-found}
+use Rattle.sweep_order.specs.Order.{lastsTo}
 use borrow.Author.Needs.{needs}
 use Rattle.sweep_order.proofs.pass.Statement.{statement}
 use Rattle.sweep_order.proofs.pass.Tie as tie
 
 abbrev Inv-loop : tie.InvT-loop
-Inv-loop boxes from old x i₀ i = (from ≤ i) × (i ≤ old) × ((j : ℕ) → from ≤ j → j < i → boxAt boxes j .x-end < x)
+Inv-loop boxes from old x i₀ i = Searched (lastsTo boxes x) from old i
 
 abbrev μ-loop : tie.MeasureT-loop
 μ-loop boxes from old x i₀ i = old - i
 
 loop-holds : tie.Need-loop-holds Inv-loop μ-loop
-loop-holds c = (omega arith, c .pre .1, λ j l k. absurd (omega arith))
+loop-holds c = search-none (c .pre .1)
 
 mul-if2 : tie.Need-mul-if2 Inv-loop μ-loop
 mul-if2 c = search needs
@@ -35,13 +37,13 @@ loop-less : tie.Need-loop-less Inv-loop μ-loop
 loop-less c = search needs
 
 loop-again : tie.Need-loop-again Inv-loop μ-loop
-loop-again c = (omega arith, omega arith, ended-on (c .before .before .before .before .args .boxes .now) _ _ _ (c .before .before .before .loop .inv .2) (c .if2 .left))
+loop-again c = search-more (c .before .before .before .loop .inv) (omega arith) refl (lt-leb _ _ (c .if2 .left))
 
 returns : tie.Need-returns Inv-loop μ-loop
-returns c = let i = c .before .loop .inv in record { onward = i .0; within = i .1; ended = i .2 }
+returns c = search-all (c .before .loop .inv) (omega arith)
 
 returns-2 : tie.Need-returns-2 Inv-loop μ-loop
-returns-2 c = let i = c .before .before .before .loop .inv in record { onward = i .0; within = i .1; ended = i .2 }
+returns-2 c = search-found (c .before .before .before .loop .inv) refl (le-leb _ _ (c .if2 .taken))
 
 pub pass-spec : {M : Type 1} → statement M
 pass-spec =

@@ -7,11 +7,11 @@ use Rattle.lattice.specs.Cells.{planePoints}
 use Rattle.lattice.specs.Boxes.{boxCells}
 use Rattle.lattice_sums.specs.CornerSums.{Room}
 use Rattle.lattice_sums.proofs.CornerSumLaws.{room-more}
-use Rattle.sweep_layer.specs.Layers.{touching}
+use Rattle.sweep_faces.specs.Layers.{touching}
 use Rattle.sweep_tally.specs.Found.{state, found}
 use Rattle.sweep_plane.specs.Plane.{Both}
 use Rattle.sweep_planes.specs.Planes.{Before, cornersBelow}
-use Rattle.sweep_planes.proofs.PlanesLaws.{about, before-none, before-next, both-next, planes-none, plane-next, room-none, room-next, all-found, ends-on}
+use Rattle.sweep_planes.proofs.PlanesLaws.{about, before-none, before-more, both-more, planes-none, plane-more, room-none, room-next, all-found, ends-on}
 use borrow.Author.Needs.{needs}
 use Rattle.sweep_planes.proofs.planes.Statement.{statement}
 use Rattle.sweep_planes.proofs.planes.Tie as tie
@@ -85,9 +85,9 @@ loop-again c =
     let past = first .first-past .ensures in
     let turn = c .before .before .before .before .before .before .before .before .plane .ensures in (
       omega arith,
-      before-next _ _ _ given _ _ _ _ _ (inv .1) (c .before .before .before .before .before .before .before .before .before .before .before .before .before .before .before .pass .ensures) past,
-      both-next _ _ _ (turn .1),
-      plane-next _ _ _ given _ _ _ past _ (inv .3) (turn .0),
+      before-more _ _ _ given _ _ _ _ _ (inv .1) (c .before .before .before .before .before .before .before .before .before .before .before .before .before .before .before .pass .ensures) past,
+      both-more _ _ _ (turn .1),
+      plane-more _ _ _ given _ _ _ past _ (inv .3) (turn .0),
       room-next _ (inv .4) (turn .0),
       search needs,
       search needs,

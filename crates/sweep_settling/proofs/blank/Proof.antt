@@ -4,7 +4,7 @@ use Prim.Native.Nat.{ℕ, _+_, _-_, _≤_, _<_}
 use native.Mathlib.Omega.{arith}
 use lib.ListN.{getD}
 use borrow.Author.Tests.{eqb-true}
-use Rattle.sweep_settling.proofs.SettlingLaws.{blank-next}
+use Rattle.sweep_settling.proofs.SettlingLaws.{blank-more}
 use borrow.Author.Needs.{needs}
 use Rattle.sweep_settling.proofs.blank.Statement.{statement}
 use Rattle.sweep_settling.proofs.blank.Tie as tie
@@ -37,7 +37,7 @@ loop-again : tie.Need-loop-again Inv-loop μ-loop
 loop-again c =
     let at = c .before .before .loop in
     let given = c .before .before .before .args in
-    (omega arith, blank-next (given .names .now) (given .y) (at .i) (at .w) (at .inv .1))
+    (omega arith, blank-more (given .names .now) (given .y) (at .i) (at .w) (at .inv .1))
 
 returns : tie.Need-returns Inv-loop μ-loop
 returns c e j h k = c .before .loop .inv .1 (eqb-true (c .before .loop .w) 0 e) j h (omega arith)

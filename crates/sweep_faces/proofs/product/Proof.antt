@@ -1,8 +1,8 @@
 -- The product of two sides is at most 2²⁰.
 use native.Mathlib.Omega.{arith}
 use Rattle.lattice.proofs.TermBounds.{two-small}
-use Rattle.sweep_layer.proofs.product.Statement.{statement}
-use Rattle.sweep_layer.proofs.product.Tie as tie
+use Rattle.sweep_faces.proofs.product.Statement.{statement}
+use Rattle.sweep_faces.proofs.product.Tie as tie
 
 mul-result : tie.Need-mul-result
 mul-result c = record { fits = omega (arith, two-small (c .args .a) (c .args .b) (c .pre .0) (c .pre .1)) }

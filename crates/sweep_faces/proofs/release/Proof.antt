@@ -2,13 +2,13 @@
 use mathlib.Core.Path.{_≡_}
 use Prim.Native.Nat.{_-_, _≤_}
 use native.Mathlib.Omega.{arith}
-use Rattle.sweep_layer.specs.Layers.{released, Becomes}
+use Rattle.sweep_faces.specs.Layers.{released, Becomes}
 use Rattle.sweep_names.specs.Names.{Tells}
 use Rattle.sweep_names.proofs.NameLaws.{lent-still}
-use Rattle.sweep_layer.proofs.LayerLaws.{becomes-none, becomes-more, released-all}
+use Rattle.sweep_faces.proofs.FaceLaws.{becomes-none, becomes-more, released-all}
 use borrow.Author.Needs.{needs}
-use Rattle.sweep_layer.proofs.release.Statement.{statement}
-use Rattle.sweep_layer.proofs.release.Tie as tie
+use Rattle.sweep_faces.proofs.release.Statement.{statement}
+use Rattle.sweep_faces.proofs.release.Tie as tie
 
 abbrev Inv-loop : tie.InvT-loop
 Inv-loop field boxes x from old n l u₀ names₀ q₀ u names q = (from ≤ q) × (q ≤ old) × Becomes field (released boxes x old from) (released boxes x old q) u₀ u × Tells field l u names

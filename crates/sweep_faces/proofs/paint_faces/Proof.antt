@@ -2,14 +2,14 @@
 use mathlib.Core.Path.{_≡_}
 use Prim.Native.Nat.{_-_, _≤_}
 use native.Mathlib.Omega.{arith}
-use Rattle.sweep_layer.specs.Layers.{Becomes}
+use Rattle.sweep_faces.specs.Layers.{Becomes}
 use Rattle.sweep_names.specs.Names.{Tells}
 use Rattle.sweep_names.proofs.NameLaws.{lent-still}
 use Rattle.sweep_overlaps.specs.Overlaps.{shade}
-use Rattle.sweep_layer.proofs.LayerLaws.{becomes-none, becomes-more}
+use Rattle.sweep_faces.proofs.FaceLaws.{becomes-none, becomes-more}
 use borrow.Author.Needs.{needs}
-use Rattle.sweep_layer.proofs.paint_faces.Statement.{statement}
-use Rattle.sweep_layer.proofs.paint_faces.Tie as tie
+use Rattle.sweep_faces.proofs.paint_faces.Statement.{statement}
+use Rattle.sweep_faces.proofs.paint_faces.Tie as tie
 
 abbrev Inv-loop : tie.InvT-loop
 Inv-loop field boxes x from old n l u₀ names₀ q₀ u names q = (old ≤ q) × (q ≤ n) × Becomes field (shade boxes x old) (shade boxes x q) u₀ u × Tells field l u names

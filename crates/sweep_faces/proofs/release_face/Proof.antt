@@ -1,10 +1,10 @@
 -- A face that ends on the plane is carved from the boxes that reach past it; any other stays.
 use native.Mathlib.Omega.{arith}
 use Rattle.sweep_overlaps.proofs.PartLaws.{boxes-less}
-use Rattle.sweep_layer.proofs.LayerLaws.{rect-in, rect-small, released-face, released-same}
+use Rattle.sweep_faces.proofs.FaceLaws.{rect-in, rect-small, released-face, released-same}
 use borrow.Author.Needs.{needs}
-use Rattle.sweep_layer.proofs.release_face.Statement.{statement}
-use Rattle.sweep_layer.proofs.release_face.Tie as tie
+use Rattle.sweep_faces.proofs.release_face.Statement.{statement}
+use Rattle.sweep_faces.proofs.release_face.Tie as tie
 
 mul-if1 : tie.Need-mul-if1
 mul-if1 c = search needs

@@ -1,10 +1,10 @@
 -- A face that begins on the plane is put in beside the boxes before it.
 use native.Mathlib.Omega.{arith}
 use Rattle.sweep_overlaps.proofs.PartLaws.{boxes-less}
-use Rattle.sweep_layer.proofs.LayerLaws.{rect-in, rect-small, painted-face}
+use Rattle.sweep_faces.proofs.FaceLaws.{rect-in, rect-small, painted-face}
 use borrow.Author.Needs.{needs}
-use Rattle.sweep_layer.proofs.paint_face.Statement.{statement}
-use Rattle.sweep_layer.proofs.paint_face.Tie as tie
+use Rattle.sweep_faces.proofs.paint_face.Statement.{statement}
+use Rattle.sweep_faces.proofs.paint_face.Tie as tie
 
 rect-requires : tie.Need-rect-requires
 rect-requires c κs = search needs

@@ -1,0 +1,1 @@
+pub mod FaceLaws  -- the layers about a plane, face by face
