@@ -1,4 +1,2 @@
--- nothing, one number, one list after another
-pub mod WroteLaws
--- a list that goes in part by part
-pub mod Underway
+pub mod WroteLaws  -- nothing, one number, one list after another
+pub mod Underway  -- a list that goes in part by part

@@ -1,2 +1,1 @@
--- numbers stored one after the other
-pub mod StoreLaws
+pub mod StoreLaws  -- numbers stored one after the other

@@ -3,7 +3,7 @@
 // by the shots after that one.
 //
 // specs/Blocks.antt says what is counted; proofs/BlockLaws.antt, that a block's count is that of a block in it and of the six parts around that.
-// Stands on `grid_cover`, whose cover test it counts by, and on `job`, `grid` and `lattice`.
+// Stands on `grid_cover`, whose cover test it counts by, and on `job` and `lattice`.
 pub mod blocks;
 
 ghost use mathlib.Core.Path.{_≡_};

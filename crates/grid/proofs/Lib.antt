@@ -1,16 +1,8 @@
--- needs that docs/SCOPE.md names
-pub mod Examples
--- the need, counted shot by shot
-pub mod NeedLaws
--- when an interval meets a span, and how many do
-pub mod TouchLaws
--- the lowest interval that a span meets
-pub mod ShotLaws
--- a table of quotients
-pub mod QuotientLaws
--- the runs of a valid list are few
-pub mod CellLaws
--- the starting places of a series of runs
-pub mod StartLaws
--- a number that is wanted or not, put at a place
-pub mod PutLaws
+pub mod Examples  -- needs that docs/SCOPE.md names
+pub mod NeedLaws  -- the need, counted shot by shot
+pub mod TouchLaws  -- when an interval meets a span, and how many do
+pub mod ShotLaws  -- the lowest interval that a span meets
+pub mod QuotientLaws  -- a table of quotients
+pub mod CellLaws  -- the runs of a valid list are few
+pub mod StartLaws  -- the starting places of a series of runs
+pub mod PutLaws  -- a number that is wanted or not, put at a place

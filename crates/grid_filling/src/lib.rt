@@ -2,7 +2,7 @@
 //
 // `build` leaves the index as a function of the list (specs/Grid.antt of `grid`), and past it what was there. The shots are narrowed to a
 // slab, a row and a cell, and each run goes behind the one before it; nothing of the work slice serves as scratch. specs/Filling.antt says
-// what stands in the slice while it is filled. Stands on `grid`, whose index it puts in, and on `buffer`, `lattice` and `job`.
+// what stands in the slice while it is filled. Stands on `grid`, whose index it puts in, and on `buffer`, `job` and `ground`.
 ghost use mathlib.Core.Path.{_≡_};
 ghost use Prim.Native.Nat.{_+_, _-_, _*_, _≤_, _<_};
 ghost use lib.ListN.{length, set};

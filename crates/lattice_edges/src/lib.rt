@@ -1,5 +1,5 @@
 // The unit edges at a lattice point, and the corner test, from the pattern byte: docs/SCOPE.md, 'Cells and totals' and
-// 'Corner points'.
+// 'Corner points'. specs/UnitEdges.antt has the four cells about a unit edge. Stands on `lattice`.
 ghost use mathlib.Core.Path.{_≡_};
 ghost use mathlib.Core.Bool.{Bool, false};
 ghost use Prim.Native.Nat.{ℕ, _<_};

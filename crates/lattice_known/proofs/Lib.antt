@@ -1,1 +1,1 @@
-pub mod KnownTotals
+pub mod KnownTotals  -- the totals of the proved jobs, by computing

@@ -1,2 +1,1 @@
--- what listing a file leaves, and that it fits
-pub mod ListingLaws
+pub mod ListingLaws  -- what listing a file leaves, and that it fits

@@ -1,4 +1,2 @@
--- when measuring accepts and refuses, each exactly
-pub mod Refused
--- how the promises follow from checks, length and index
-pub mod IntakeLaws
+pub mod Refused  -- when measuring accepts and refuses, each exactly
+pub mod IntakeLaws  -- how the promises follow from checks, length and index

@@ -1,4 +1,4 @@
-// What one lattice point counts, from its pattern byte.
+// What one lattice point counts, from its pattern byte: specs/Tallies.antt. Stands on `lattice`, `lattice_edges` and `lattice_sums`.
 ghost use mathlib.Core.Path.{_≡_};
 ghost use Rattle.lattice.specs.Pattern.{ofByte};
 ghost use Rattle.measure_tallies.specs.Tallies.{atPattern, plus, AtMost, beforePoint, differs};

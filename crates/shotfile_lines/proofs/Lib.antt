@@ -1,2 +1,1 @@
--- the lines, by what stands in them, and how long they are
-pub mod LineLaws
+pub mod LineLaws  -- the lines, by what stands in them, and how long they are

@@ -1,6 +1,3 @@
--- the ways to take a record
-pub mod Taking
--- a record taken apart
-pub mod Parts
--- the shortest record, written field by field
-pub mod Putting
+pub mod Taking  -- the ways to take a record
+pub mod Parts  -- a record taken apart
+pub mod Putting  -- the shortest record, written field by field

@@ -1,2 +1,1 @@
--- the lines of the shots, one after another
-pub mod ShotLaws
+pub mod ShotLaws  -- the lines of the shots, one after another

@@ -1,4 +1,2 @@
--- what the text shows, in words of what reading gives
-pub mod Listing
--- the text, by its header
-pub mod TextLaws
+pub mod Listing  -- what the text shows, in words of what reading gives
+pub mod TextLaws  -- the text, by its header

@@ -1,2 +1,1 @@
--- the line, by what reading and checking answer
-pub mod VerdictLaws
+pub mod VerdictLaws  -- the line, by what reading and checking answer

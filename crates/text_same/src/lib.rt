@@ -1,4 +1,5 @@
 // Whether two texts have the same bytes: for words that people type and for the names in a file. specs/Same.antt says what that is.
+// Stands on nothing.
 ghost use mathlib.Core.Path.{_≡_};
 ghost use Rattle.text_same.specs.Same.{same};
 

@@ -1,2 +1,1 @@
--- how long the sentences are
-pub mod SentenceLaws
+pub mod SentenceLaws  -- how long the sentences are

@@ -1,8 +1,4 @@
--- an accepted file reads back as its list
-pub mod Retyped
--- a refused file is a mistake
-pub mod Refused
--- the text fits its buffer
-pub mod Fits
--- printed lines, read back
-pub mod Lines
+pub mod Retyped  -- an accepted file reads back as its list
+pub mod Refused  -- a refused file is a mistake
+pub mod Fits  -- the text fits its buffer
+pub mod Lines  -- printed lines, read back

@@ -1,2 +1,1 @@
--- the ways of one line more
-pub mod DraftLaws
+pub mod DraftLaws  -- the ways of one line more

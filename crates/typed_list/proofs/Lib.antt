@@ -1,4 +1,2 @@
--- the lines of a text one after another
-pub mod Listing
--- small texts, by computation
-pub mod Examples
+pub mod Listing  -- the lines of a text one after another
+pub mod Examples  -- small texts, by computation

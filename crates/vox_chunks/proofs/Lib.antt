@@ -1,2 +1,1 @@
--- the tests of a chunk, and what a chunk has that passes
-pub mod ChunkLaws
+pub mod ChunkLaws  -- the tests of a chunk, and what a chunk has that passes

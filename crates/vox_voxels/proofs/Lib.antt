@@ -1,2 +1,1 @@
--- the tests of sides and voxels, and the first wrong voxel
-pub mod VoxelLaws
+pub mod VoxelLaws  -- the tests of sides and voxels, and the first wrong voxel

@@ -1,2 +1,1 @@
--- what is written fits its buffer
-pub mod Fits
+pub mod Fits  -- what is written fits its buffer

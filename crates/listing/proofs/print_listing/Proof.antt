@@ -30,7 +30,10 @@ slice-reshare-prefix-write-text : tie.Need-slice-reshare-prefix-write-text
 slice-reshare-prefix-write-text c = let f = c .before .before .before .before .before .before .before .before .list-file in omega (arith, listed-fits (f .ensures) (c .before .before .measured .given .1), f .kept .1 .1 .1 .0)
 
 slice-aggregate-write-text-2 : tie.Need-slice-aggregate-write-text-2
-slice-aggregate-write-text-2 c = let f = c .before .before .before .before .before .before .before .before .before .list-file in sym (length-take-le (7 * c .before .before .before .measured .given .0 .0 .corners) (f .last .1 .1 .1 .0) (omega (arith, listed-fits (f .ensures) (c .before .before .before .measured .given .1), f .kept .1 .1 .1 .0)))
+slice-aggregate-write-text-2 c =
+    let f = c .before .before .before .before .before .before .before .before .before .list-file in
+    let at-measured = c .before .before .before in
+    sym (length-take-le (7 * at-measured .measured .given .0 .0 .corners) (f .last .1 .1 .1 .0) (omega (arith, listed-fits (f .ensures) (at-measured .measured .given .1), f .kept .1 .1 .1 .0)))
 
 write-text-requires : tie.Need-write-text-requires
 write-text-requires c κs = search needs

@@ -22,7 +22,9 @@ abbrev μ-loop : tie.MeasureT-loop
 μ-loop coords edge run x y to₀ next₀ i₀ i-end to next i = i-end - i
 
 loop-holds : tie.Need-loop-holds Inv-loop μ-loop
-loop-holds c = let a = c .before .before .before in (omega arith, refl, put-those-none (reachesLine (a .args .edge) (a .args .coords .now) (a .args .x) (a .args .y)) (a .args .run .now) (a .args .to .now) 0 (line-room (reachesLine (a .args .edge) (a .args .coords .now) (a .args .x) (a .args .y)) (a .args .run .now) (a .pre .1)))
+loop-holds c =
+    let a = c .before .before .before in
+    (omega arith, refl, put-those-none (reachesLine (a .args .edge) (a .args .coords .now) (a .args .x) (a .args .y)) (a .args .run .now) (a .args .to .now) 0 (line-room (reachesLine (a .args .edge) (a .args .coords .now) (a .args .x) (a .args .y)) (a .args .run .now) (a .pre .1)))
 
 mul-reaches-line : tie.Need-mul-reaches-line Inv-loop μ-loop
 mul-reaches-line c = search needs
@@ -40,7 +42,10 @@ shared-slice-read-put-if : tie.Need-shared-slice-read-put-if Inv-loop μ-loop
 shared-slice-read-put-if c = search needs
 
 put-if-requires : tie.Need-put-if-requires Inv-loop μ-loop
-put-if-requires c κs = let a = c .before .before .before .before .before .before .before .before .before in put-those-room (reachesLine (a .args .edge) (a .args .coords .now) (a .args .x) (a .args .y)) (a .args .run .now) (a .args .to .now) 0 (c .before .before .before .before .loop-test .taken) (c .before .before .before .before .before .loop .inv .2) (line-room (reachesLine (a .args .edge) (a .args .coords .now) (a .args .x) (a .args .y)) (a .args .run .now) (a .pre .1)) (c .before .before .reaches-line .ensures)
+put-if-requires c κs =
+    let a = c .before .before .before .before .before .before .before .before .before in
+    put-those-room (reachesLine (a .args .edge) (a .args .coords .now) (a .args .x) (a .args .y)) (a .args .run .now) (a .args .to .now) 0 (c .before .before .before .before .loop-test .taken) (c .before .before .before .before .before .loop .inv .2)
+    (line-room (reachesLine (a .args .edge) (a .args .coords .now) (a .args .x) (a .args .y)) (a .args .run .now) (a .pre .1)) (c .before .before .reaches-line .ensures)
 
 add-i : tie.Need-add-i Inv-loop μ-loop
 add-i c = search needs
@@ -49,7 +54,13 @@ loop-less : tie.Need-loop-less Inv-loop μ-loop
 loop-less c = search needs
 
 loop-again : tie.Need-loop-again Inv-loop μ-loop
-loop-again c = let a = c .before .before .before .before .before .before .before .before .before .before .before .before in (omega arith, refl, put-those-turn (reachesLine (a .args .edge) (a .args .coords .now) (a .args .x) (a .args .y)) (a .args .run .now) (a .args .to .now) 0 (c .before .before .before .before .before .before .before .loop-test .taken) (c .before .before .before .before .before .before .before .before .loop .inv .2) (c .before .before .before .before .before .reaches-line .ensures) (c .before .before .put-if .ensures))
+loop-again c =
+    let a = c .before .before .before .before .before .before .before .before .before .before .before .before in (
+      omega arith,
+      refl,
+      put-those-turn (reachesLine (a .args .edge) (a .args .coords .now) (a .args .x) (a .args .y)) (a .args .run .now) (a .args .to .now) 0 (c .before .before .before .before .before .before .before .loop-test .taken)
+          (c .before .before .before .before .before .before .before .before .loop .inv .2) (c .before .before .before .before .before .reaches-line .ensures) (c .before .before .put-if .ensures),
+    )
 
 same-length : tie.Need-same-length Inv-loop μ-loop
 same-length c = wrote-length (c .before .loop .inv .2)

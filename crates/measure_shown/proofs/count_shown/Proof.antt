@@ -46,7 +46,10 @@ clear-requires : tie.Need-clear-requires Inv-loop μ-loop
 clear-requires c κs = search needs
 
 returns : tie.Need-returns Inv-loop μ-loop
-returns c = let a = c .before .before .before .before .before .before in let e : c .before .before .loop .x ≡ a .args .field + 1 = omega arith in (rw e at (c .before .before .loop .inv .1)) ∙ field-totals (a .args .field) (cells (shotsOf (a .args .edge) (a .args .coords .now))) (valid-within (a .pre .valid))
+returns c =
+    let a = c .before .before .before .before .before .before in
+    let at-loop = c .before .before in
+    let e : at-loop .loop .x ≡ a .args .field + 1 = omega arith in (rw e at (at-loop .loop .inv .1)) ∙ field-totals (a .args .field) (cells (shotsOf (a .args .edge) (a .args .coords .now))) (valid-within (a .pre .valid))
 
 pub count-shown-spec : {M : Type 1} → statement M
 count-shown-spec =

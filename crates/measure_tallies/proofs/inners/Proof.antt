@@ -34,7 +34,9 @@ add-result-2 c = search needs
 
 returns : tie.Need-returns
 unfolding atPattern
-returns c = edges-are innerEdge (ofByte (c .before .before .before .before .before .before .args .p)) (c .before .before .before .before .wide .ensures ∙ c .before .before .before .before .before .unit-inner .ensures) (c .before .before .wide2 .ensures ∙ c .before .before .before .unit-inner2 .ensures) (c .wide3 .ensures ∙ c .before .unit-inner3 .ensures)
+returns c =
+    edges-are innerEdge (ofByte (c .before .before .before .before .before .before .args .p)) (c .before .before .before .before .wide .ensures ∙ c .before .before .before .before .before .unit-inner .ensures) (c .before .before .wide2 .ensures ∙ c .before .before .before .unit-inner2 .ensures)
+    (c .wide3 .ensures ∙ c .before .unit-inner3 .ensures)
 
 pub inners-spec : {M : Type 1} → statement M
 inners-spec =

@@ -19,7 +19,9 @@ square-of-requires-3 : tie.Need-square-of-requires-3
 square-of-requires-3 c κs = search needs
 
 add-result-2 : tie.Need-add-result-2
-add-result-2 c = omega (arith, c .square-of3 .ensures, c .before .square-of2 .ensures, c .before .before .square-of .ensures, differs-most (c .before .before .before .args .p / 8 % 2) (c .before .before .before .args .p / 128), differs-most (c .before .before .before .args .p / 32 % 2) (c .before .before .before .args .p / 128), differs-most (c .before .before .before .args .p / 64 % 2) (c .before .before .before .args .p / 128))
+add-result-2 c =
+    let start = c .before .before .before in
+    omega (arith, c .square-of3 .ensures, c .before .square-of2 .ensures, c .before .before .square-of .ensures, differs-most (start .args .p / 8 % 2) (start .args .p / 128), differs-most (start .args .p / 32 % 2) (start .args .p / 128), differs-most (start .args .p / 64 % 2) (start .args .p / 128))
 
 returns : tie.Need-returns
 returns c = squares-are (c .before .before .before .args .p) (omega arith) (c .before .before .square-of .ensures) (c .before .square-of2 .ensures) (c .square-of3 .ensures)

@@ -23,7 +23,10 @@ same-length : tie.Need-same-length
 same-length c = search needs
 
 returns : tie.Need-returns
-returns c = let s = c .before .before .before .before .before .before .before .before .before .before in let g = c .before .before .before .before .before .before .read .given in answer-measured (s .args .coords .now) (g .0 .0) (g .0 .1 .0) (g .0 .1 .1 .0) (g .0 .1 .1 .1 .0) (g .1) (c .before .before .before .before .first .ensures) (c .before .before .recount .ensures)
+returns c =
+    let s = c .before .before .before .before .before .before .before .before .before .before in
+    let g = c .before .before .before .before .before .before .read .given in
+    answer-measured (s .args .coords .now) (g .0 .0) (g .0 .1 .0) (g .0 .1 .1 .0) (g .0 .1 .1 .1 .0) (g .1) (c .before .before .before .before .first .ensures) (c .before .before .recount .ensures)
 
 returns-2 : tie.Need-returns-2
 returns-2 c = let g = c .before .read2 .given in answer-refused (c .before .before .before .before .before .args .coords .now) (g .0 .0) (g .1)

@@ -40,13 +40,19 @@ loop-less : tie.Need-loop-less Inv-loop μ-loop
 loop-less c = omega arith
 
 loop-again : tie.Need-loop-again Inv-loop μ-loop
-loop-again c = (omega arith, count-shot _ _ _ _ (c .before .before .before .before .before .before .before .loop .inv .1) (c .before .before .before .before .before .before .if1 .left) (omega arith) (c .before .before .before .before .if3 .left) (sym (c .before .next .given .1) ∙ c .before .before .before .step .ensures))
+loop-again c = (
+  omega arith,
+  count-shot _ _ _ _ (c .before .before .before .before .before .before .before .loop .inv .1) (c .before .before .before .before .before .before .if1 .left) (omega arith) (c .before .before .before .before .if3 .left)
+      (sym (c .before .next .given .1) ∙ c .before .before .before .step .ensures),
+)
 
 enum-known-refusal : tie.Need-enum-known-refusal Inv-loop μ-loop
 enum-known-refusal c = c .match .keys2
 
 returns-4 : tie.Need-returns-4 Inv-loop μ-loop
-returns-4 c = count-stopped _ _ _ _ (c .before .before .before .before .before .before .before .loop .inv .1) (c .before .before .before .before .before .before .if1 .left) (omega arith) (c .before .before .before .before .if3 .left) (sym (c .before .refusal .given .1) ∙ c .before .before .before .step .ensures)
+returns-4 c =
+    count-stopped _ _ _ _ (c .before .before .before .before .before .before .before .loop .inv .1) (c .before .before .before .before .before .before .if1 .left) (omega arith) (c .before .before .before .before .if3 .left)
+    (sym (c .before .refusal .given .1) ∙ c .before .before .before .step .ensures)
 
 enum-told : tie.Need-enum-told Inv-loop μ-loop
 enum-told c = c .match .keys3

@@ -28,7 +28,14 @@ enum-known-n : tie.Need-enum-known-n
 enum-known-n c = c .match2 .keys1
 
 store-shots-requires : tie.Need-store-shots-requires
-store-shots-requires c κs = omega (arith, counted (c .before .before .before .before .before .before .before .before .before .before .before .before .before .before .before .args .bytes .now) (c .before .before .before .before .before .count .result) _ (sym (c .before .before .n .given .1) ∙ (c .before .before .before .before .count-shots .ensures)) .room, (c .before .before .before .before .before .count .ensures))
+store-shots-requires c κs =
+    let at-count = c .before .before .before .before .before in
+    omega (
+      arith,
+      counted (c .before .before .before .before .before .before .before .before .before .before .before .before .before .before .before .args .bytes .now) (at-count .count .result) _
+          (sym (c .before .before .n .given .1) ∙ (c .before .before .before .before .count-shots .ensures)) .room,
+      (at-count .count .ensures),
+    )
 
 enum-known-refusal : tie.Need-enum-known-refusal
 enum-known-refusal c = c .match2 .keys2
@@ -40,13 +47,20 @@ same-length : tie.Need-same-length
 same-length c = search needs
 
 returns : tie.Need-returns
-returns c = read-stored _ _ (c .before .before .before .before .before .before .before .before .before .before .before .before .before .before .before .header-absent .ensures) (sym (c .before .before .before .before .before .before .before .before .before .before .before .before .fields .given .1) ∙ (c .before .before .before .before .before .before .before .before .before .before .before .before .before .before .take-record .ensures)) (c .before .before .before .before .before .before .before .before .before .before .first-absent .ensures) (c .before .before .before .before .before .before .before .before .count .ensures) (sym (c .before .before .before .before .before .n .given .1) ∙ (c .before .before .before .before .before .before .before .count-shots .ensures)) (c .before .before .store-shots .ensures)
+returns c =
+    read-stored _ _ (c .before .before .before .before .before .before .before .before .before .before .before .before .before .before .before .header-absent .ensures)
+    (sym (c .before .before .before .before .before .before .before .before .before .before .before .before .fields .given .1) ∙ (c .before .before .before .before .before .before .before .before .before .before .before .before .before .before .take-record .ensures))
+    (c .before .before .before .before .before .before .before .before .before .before .first-absent .ensures) (c .before .before .before .before .before .before .before .before .count .ensures)
+    (sym (c .before .before .before .before .before .n .given .1) ∙ (c .before .before .before .before .before .before .before .count-shots .ensures)) (c .before .before .store-shots .ensures)
 
 same-length-2 : tie.Need-same-length-2
 same-length-2 c = search needs
 
 returns-2 : tie.Need-returns-2
-returns-2 c = read-uncounted _ _ (c .before .before .before .before .before .before .before .before .before .before .before .header-absent .ensures) (sym (c .before .before .before .before .before .before .before .before .fields .given .1) ∙ (c .before .before .before .before .before .before .before .before .before .before .take-record .ensures)) (c .before .before .before .before .before .before .first-absent .ensures) (c .before .before .before .before .count .ensures) (sym (c .before .refusal .given .1) ∙ (c .before .before .before .count-shots .ensures))
+returns-2 c =
+    read-uncounted _ _ (c .before .before .before .before .before .before .before .before .before .before .before .header-absent .ensures)
+    (sym (c .before .before .before .before .before .before .before .before .fields .given .1) ∙ (c .before .before .before .before .before .before .before .before .before .before .take-record .ensures)) (c .before .before .before .before .before .before .first-absent .ensures)
+    (c .before .before .before .before .count .ensures) (sym (c .before .refusal .given .1) ∙ (c .before .before .before .count-shots .ensures))
 
 returns-3 : tie.Need-returns-3
 returns-3 c = read-headless _ _ (c .before .before .before .before .header-absent .ensures) (sym (c .before .refusal2 .given .1) ∙ (c .before .before .before .take-record .ensures))

@@ -56,7 +56,16 @@ loop-less : tie.Need-loop-less Inv-loop μ-loop
 loop-less c = search needs
 
 loop-again : tie.Need-loop-again Inv-loop μ-loop
-loop-again c = (omega (arith, (c .before .before .before .before .before .before .before .before .before .loop-test .taken)), (c .before .before .put .kept .0) ∙ (c .before .before .before .before .before .before .before .before .before .before .loop .inv .1), underway-more (c .before .before .before .before .before .before .before .before .before .before .loop .inv .2) (shotNumbers ((c .before .before .before .before .before .before .next .given .0 .0) .last)) _ (next-shot _ _ _ _ (c .before .before .before .before .before .before .before .before .before .loop-test .taken) (sym (c .before .before .before .before .before .before .next .given .1) ∙ (c .before .before .before .before .before .before .before .before .step .ensures))) (c .before .before .put .ensures))
+loop-again c =
+    let at-loop = c .before .before .before .before .before .before .before .before .before .before in
+    let at-loop-test = c .before .before .before .before .before .before .before .before .before in
+    let at-next = c .before .before .before .before .before .before in
+    let at-put = c .before .before in (
+      omega (arith, (at-loop-test .loop-test .taken)),
+      (at-put .put .kept .0) ∙ (at-loop .loop .inv .1),
+      underway-more (at-loop .loop .inv .2) (shotNumbers ((at-next .next .given .0 .0) .last)) _
+          (next-shot _ _ _ _ (at-loop-test .loop-test .taken) (sym (at-next .next .given .1) ∙ (c .before .before .before .before .before .before .before .before .step .ensures))) (at-put .put .ensures),
+    )
 
 same-length-3 : tie.Need-same-length-3 Inv-loop μ-loop
 same-length-3 c = (c .before .loop .inv .1)

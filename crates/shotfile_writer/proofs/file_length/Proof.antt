@@ -28,7 +28,9 @@ first-absent-requires : tie.Need-first-absent-requires Inv-loop μ-loop
 first-absent-requires c κs = search needs
 
 loop-holds : tie.Need-loop-holds Inv-loop μ-loop
-loop-holds c = (omega arith, measured-none (jobOf (c .before .before .before .before .before .args .field) (c .before .before .before .before .before .args .edge) (c .before .before .before .before .before .args .grid) (c .before .before .before .before .before .args .coords .now)) (c .before .before .before .header-absent .ensures) (c .first-absent .ensures) (c .before .before .record-length .ensures))
+loop-holds c =
+    let start = c .before .before .before .before .before in
+    (omega arith, measured-none (jobOf (start .args .field) (start .args .edge) (start .args .grid) (start .args .coords .now)) (c .before .before .before .header-absent .ensures) (c .first-absent .ensures) (c .before .before .record-length .ensures))
 
 shot-at-requires : tie.Need-shot-at-requires Inv-loop μ-loop
 shot-at-requires c κs = omega (arith, (c .loop-test .taken), (c .before .before .before .count .ensures))
@@ -37,7 +39,14 @@ record-length-requires-2 : tie.Need-record-length-requires-2 Inv-loop μ-loop
 record-length-requires-2 c κs = search needs
 
 add-total : tie.Need-add-total Inv-loop μ-loop
-add-total c = omega (arith, measured-more (c .before .before .before .loop .inv .1) (omega (arith, (c .before .before .loop-test .taken), (c .before .before .before .before .before .count .ensures))) (c .before .shot-at .ensures) (c .record-length2 .ensures) .is, file-most (jobOf (c .before .before .before .before .before .before .before .before .before .args .field) (c .before .before .before .before .before .before .before .before .before .args .edge) (c .before .before .before .before .before .before .before .before .before .args .grid) (c .before .before .before .before .before .before .before .before .before .args .coords .now)) (c .before .before .before .before .before .before .before .before .before .pre))
+add-total c =
+    let start = c .before .before .before .before .before .before .before .before .before in
+    omega (
+      arith,
+      measured-more (c .before .before .before .loop .inv .1) (omega (arith, (c .before .before .loop-test .taken), (c .before .before .before .before .before .count .ensures))) (c .before .shot-at .ensures) (c .record-length2 .ensures) .is,
+      file-most
+          (jobOf (start .args .field) (start .args .edge) (start .args .grid) (start .args .coords .now)) (start .pre),
+    )
 
 add-i : tie.Need-add-i Inv-loop μ-loop
 add-i c = search needs
@@ -46,7 +55,10 @@ loop-less : tie.Need-loop-less Inv-loop μ-loop
 loop-less c = search needs
 
 loop-again : tie.Need-loop-again Inv-loop μ-loop
-loop-again c = (omega (arith, (c .before .before .loop-test .taken), (c .before .before .before .before .before .count .ensures)), measured-more (c .before .before .before .loop .inv .1) (omega (arith, (c .before .before .loop-test .taken), (c .before .before .before .before .before .count .ensures))) (c .before .shot-at .ensures) (c .record-length2 .ensures))
+loop-again c =
+    let at-count = c .before .before .before .before .before in
+    let at-loop-test = c .before .before in
+    (omega (arith, (at-loop-test .loop-test .taken), (at-count .count .ensures)), measured-more (c .before .before .before .loop .inv .1) (omega (arith, (at-loop-test .loop-test .taken), (at-count .count .ensures))) (c .before .shot-at .ensures) (c .record-length2 .ensures))
 
 returns : tie.Need-returns Inv-loop μ-loop
 returns c = measured-all (c .before .loop .inv .1) (omega (arith, (c .loop-test .left), (c .before .before .before .count .ensures)))

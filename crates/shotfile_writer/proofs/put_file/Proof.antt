@@ -37,7 +37,13 @@ shot-at-requires : tie.Need-shot-at-requires Inv-loop μ-loop
 shot-at-requires c κs = omega (arith, (c .loop-test .taken), (c .before .before .before .count .ensures))
 
 put-record-requires-2 : tie.Need-put-record-requires-2 Inv-loop μ-loop
-put-record-requires-2 c κs = underway-room (c .before .before .before .loop .inv .2) (recordOf (c .before .before .before .loop .last) (c .before .shot-at .result)) (recordsFrom (c .before .before .before .before .before .before .before .before .before .before .before .before .before .args .edge) (c .before .before .before .before .before .before .before .before .before .before .before .before .before .args .coords .now) ((c .before .before .before .loop .i) + 1) (c .before .shot-at .result)) (records-on (c .before .before .before .before .before .before .before .before .before .before .before .before .before .args .edge) (c .before .before .before .before .before .before .before .before .before .before .before .before .before .args .coords .now) (c .before .before .before .loop .i) (c .before .before .before .loop .last) (omega (arith, (c .before .before .loop-test .taken), (c .before .before .before .before .before .count .ensures))) (c .before .shot-at .ensures)) (shots-room _ (c .before .before .before .before .before .before .before .before .before .before .header-absent .ensures) (c .before .before .before .before .first-absent .ensures) (c .before .before .before .before .before .before .before .before .put-record .ensures) (c .before .before .before .before .before .before .before .before .before .before .before .before .before .pre) (c .before .before .before .before .before .before .before .before .put-record .kept .0))
+put-record-requires-2 c κs =
+    let start = c .before .before .before .before .before .before .before .before .before .before .before .before .before in
+    let at-put-record = c .before .before .before .before .before .before .before .before in
+    let at-loop = c .before .before .before in
+    underway-room (at-loop .loop .inv .2) (recordOf (at-loop .loop .last) (c .before .shot-at .result)) (recordsFrom (start .args .edge) (start .args .coords .now) ((at-loop .loop .i) + 1) (c .before .shot-at .result))
+    (records-on (start .args .edge) (start .args .coords .now) (at-loop .loop .i) (at-loop .loop .last) (omega (arith, (c .before .before .loop-test .taken), (c .before .before .before .before .before .count .ensures))) (c .before .shot-at .ensures))
+    (shots-room _ (c .before .before .before .before .before .before .before .before .before .before .header-absent .ensures) (c .before .before .before .before .first-absent .ensures) (at-put-record .put-record .ensures) (start .pre) (at-put-record .put-record .kept .0))
 
 add-i : tie.Need-add-i Inv-loop μ-loop
 add-i c = search needs
@@ -46,13 +52,28 @@ loop-less : tie.Need-loop-less Inv-loop μ-loop
 loop-less c = search needs
 
 loop-again : tie.Need-loop-again Inv-loop μ-loop
-loop-again c = (omega (arith, (c .before .before .before .before .before .loop-test .taken), (c .before .before .before .before .before .before .before .before .count .ensures)), (c .before .before .put-record2 .kept .0) ∙ (c .before .before .before .before .before .before .loop .inv .1), underway-more (c .before .before .before .before .before .before .loop .inv .2) (recordOf (c .before .before .before .before .before .before .loop .last) (c .before .before .before .before .shot-at .result)) (recordsFrom (c .before .before .before .before .before .before .before .before .before .before .before .before .before .before .before .before .args .edge) (c .before .before .before .before .before .before .before .before .before .before .before .before .before .before .before .before .args .coords .now) ((c .before .before .before .before .before .before .loop .i) + 1) (c .before .before .before .before .shot-at .result)) (records-on (c .before .before .before .before .before .before .before .before .before .before .before .before .before .before .before .before .args .edge) (c .before .before .before .before .before .before .before .before .before .before .before .before .before .before .before .before .args .coords .now) (c .before .before .before .before .before .before .loop .i) (c .before .before .before .before .before .before .loop .last) (omega (arith, (c .before .before .before .before .before .loop-test .taken), (c .before .before .before .before .before .before .before .before .count .ensures))) (c .before .before .before .before .shot-at .ensures)) (c .before .before .put-record2 .ensures))
+loop-again c =
+    let start = c .before .before .before .before .before .before .before .before .before .before .before .before .before .before .before .before in
+    let at-loop = c .before .before .before .before .before .before in
+    let at-count = c .before .before .before .before .before .before .before .before in
+    let at-shot-at = c .before .before .before .before in
+    let at-loop-test = c .before .before .before .before .before in
+    let at-put-record2 = c .before .before in (
+      omega (arith, (at-loop-test .loop-test .taken), (at-count .count .ensures)),
+      (at-put-record2 .put-record2 .kept .0) ∙ (at-loop .loop .inv .1),
+      underway-more (at-loop .loop .inv .2) (recordOf (at-loop .loop .last) (at-shot-at .shot-at .result))
+          (recordsFrom (start .args .edge) (start .args .coords .now) ((at-loop .loop .i) + 1) (at-shot-at .shot-at .result))
+          (records-on (start .args .edge) (start .args .coords .now) (at-loop .loop .i) (at-loop .loop .last) (omega (arith, (at-loop-test .loop-test .taken), (at-count .count .ensures))) (at-shot-at .shot-at .ensures)) (at-put-record2 .put-record2 .ensures),
+    )
 
 same-length : tie.Need-same-length Inv-loop μ-loop
 same-length c = (c .before .loop .inv .1) ∙ (c .before .before .before .before .before .before .put-record .kept .0)
 
 returns : tie.Need-returns Inv-loop μ-loop
-returns c = all-written _ (c .before .before .before .before .before .before .before .before .header-absent .ensures) (c .before .before .first-absent .ensures) (c .before .before .before .before .before .before .put-record .ensures) (underway-all (c .before .loop .inv .2) (records-end (c .before .before .before .before .before .before .before .before .before .before .before .args .edge) (c .before .before .before .before .before .before .before .before .before .before .before .args .coords .now) (c .before .loop .i) (c .before .loop .last) (omega (arith, (c .loop-test .left), (c .before .before .before .count .ensures)))))
+returns c =
+    let start = c .before .before .before .before .before .before .before .before .before .before .before in
+    all-written _ (c .before .before .before .before .before .before .before .before .header-absent .ensures) (c .before .before .first-absent .ensures) (c .before .before .before .before .before .before .put-record .ensures)
+    (underway-all (c .before .loop .inv .2) (records-end (start .args .edge) (start .args .coords .now) (c .before .loop .i) (c .before .loop .last) (omega (arith, (c .loop-test .left), (c .before .before .before .count .ensures)))))
 
 pub put-file-spec : {M : Type 1} → statement M
 put-file-spec =

@@ -31,7 +31,9 @@ same-length : tie.Need-same-length
 same-length c = c .before .before .put-file .kept .0
 
 returns-3 : tie.Need-returns-3
-returns-3 c = write-done _ _ (sym (c .before .before .before .before .before .before .enum-told .given .1) ∙ c .before .before .before .before .before .before .before .before .check .ensures .answer) (c .before .before .before .before .before .file-length .ensures) (c .before .before .before .before .if1 .left) (c .before .before .put-file .ensures)
+returns-3 c =
+    write-done _ _ (sym (c .before .before .before .before .before .before .enum-told .given .1) ∙ c .before .before .before .before .before .before .before .before .check .ensures .answer) (c .before .before .before .before .before .file-length .ensures)
+    (c .before .before .before .before .if1 .left) (c .before .before .put-file .ensures)
 
 pub write-spec : {M : Type 1} → statement M
 write-spec =

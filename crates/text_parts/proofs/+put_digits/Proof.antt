@@ -72,7 +72,9 @@ put-digits-returns-2 : (t : ℕ) → put-digits-lts.Need-returns-2 (
   put-digits-below t,
   put-digits.Post,
 ) (put-digits-at t) put-digits.Post
-put-digits-returns-2 t c = let s = c .before .before .before .before .before .before .before .before in number-last (s .args .n) (s .args .a) (c .before .before .before .before .before .before .if1 .left) (c .before .before .before .before .before .if2 .taken) (c .before .before .before .digit .ensures) (c .before .before .put-byte .ensures)
+put-digits-returns-2 t c =
+    let s = c .before .before .before .before .before .before .before .before in
+    number-last (s .args .n) (s .args .a) (c .before .before .before .before .before .before .if1 .left) (c .before .before .before .before .before .if2 .taken) (c .before .before .before .digit .ensures) (c .before .before .put-byte .ensures)
 
 put-digits-sub-put-digits : (t : ℕ) → put-digits-lts.Need-sub-put-digits (
   digit-reads.Asked,
@@ -112,7 +114,10 @@ put-digits-put-byte-requires-2 : (t : ℕ) → put-digits-lts.Need-put-byte-requ
   put-digits-below t,
   put-digits.Post,
 ) (put-digits-at t) put-digits.Post
-put-digits-put-byte-requires-2 t c κs = let s = c .before .before .before .before .before .before .before .before .before in omega (arith, c .before .before .before .before .before .before .before .if1 .left, s .pre .1, c .before .before .before .before .put-digits .ensures .next, digits-length (s .args .n - 1) (s .args .a / 10), c .before .before .before .before .put-digits .kept .0)
+put-digits-put-byte-requires-2 t c κs =
+    let s = c .before .before .before .before .before .before .before .before .before in
+    let at-put-digits = c .before .before .before .before in
+    omega (arith, c .before .before .before .before .before .before .before .if1 .left, s .pre .1, at-put-digits .put-digits .ensures .next, digits-length (s .args .n - 1) (s .args .a / 10), at-put-digits .put-digits .kept .0)
 
 put-digits-same-length-2 : (t : ℕ) → put-digits-lts.Need-same-length-2 (
   digit-reads.Asked,
@@ -132,7 +137,10 @@ put-digits-returns-3 : (t : ℕ) → put-digits-lts.Need-returns-3 (
   put-digits-below t,
   put-digits.Post,
 ) (put-digits-at t) put-digits.Post
-put-digits-returns-3 t c = let s = c .before .before .before .before .before .before .before .before .before .before .before .before in number-more (s .args .n) (s .args .a) (c .before .before .before .before .before .before .before .before .before .before .if1 .left) (c .before .before .before .before .before .before .before .before .before .if2 .left) (c .before .before .before .before .before .before .before .put-digits .ensures) (c .before .before .before .digit2 .ensures) (c .before .before .put-byte2 .ensures)
+put-digits-returns-3 t c =
+    let s = c .before .before .before .before .before .before .before .before .before .before .before .before in
+    number-more (s .args .n) (s .args .a) (c .before .before .before .before .before .before .before .before .before .before .if1 .left) (c .before .before .before .before .before .before .before .before .before .if2 .left)
+    (c .before .before .before .before .before .before .before .put-digits .ensures) (c .before .before .before .digit2 .ensures) (c .before .before .put-byte2 .ensures)
 
 pub +put-digits-spec : {M : Type 1} → statement M
 +put-digits-spec = close μ-put-digits λ t. put-digits-lts.spec (

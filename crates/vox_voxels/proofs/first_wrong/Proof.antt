@@ -21,7 +21,10 @@ is-wrong-voxel-requires : tie.Need-is-wrong-voxel-requires Inv-loop μ-loop
 is-wrong-voxel-requires c κs = search needs
 
 returns : tie.Need-returns Inv-loop μ-loop
-returns c = wrong-found (c .before .before .before .before .before .args .bytes .now) (c .before .before .before .before .before .args .count) (c .before .before .before .loop .n) (c .before .before .loop-test .taken) (sym (c .before .is-wrong-voxel .ensures) ∙ c .if1 .taken) ∙ c .before .before .before .loop .inv .1
+returns c =
+    let start = c .before .before .before .before .before in
+    let at-loop = c .before .before .before in
+    wrong-found (start .args .bytes .now) (start .args .count) (at-loop .loop .n) (c .before .before .loop-test .taken) (sym (c .before .is-wrong-voxel .ensures) ∙ c .if1 .taken) ∙ at-loop .loop .inv .1
 
 add-n : tie.Need-add-n Inv-loop μ-loop
 add-n c = search needs
@@ -30,7 +33,10 @@ loop-less : tie.Need-loop-less Inv-loop μ-loop
 loop-less c = search needs
 
 loop-again : tie.Need-loop-again Inv-loop μ-loop
-loop-again c = (omega arith, wrong-next (c .before .before .before .before .before .args .bytes .now) (c .before .before .before .before .before .args .count) (c .before .before .before .loop .n) (c .before .before .loop-test .taken) (sym (c .before .is-wrong-voxel .ensures) ∙ c .if1 .left) ∙ c .before .before .before .loop .inv .1)
+loop-again c =
+    let start = c .before .before .before .before .before in
+    let at-loop = c .before .before .before in
+    (omega arith, wrong-next (start .args .bytes .now) (start .args .count) (at-loop .loop .n) (c .before .before .loop-test .taken) (sym (c .before .is-wrong-voxel .ensures) ∙ c .if1 .left) ∙ at-loop .loop .inv .1)
 
 returns-2 : tie.Need-returns-2 Inv-loop μ-loop
 returns-2 c = wrong-none (c .before .before .before .args .bytes .now) (c .before .before .before .args .count) (c .before .loop .n) (c .loop-test .left) ∙ c .before .loop .inv .1

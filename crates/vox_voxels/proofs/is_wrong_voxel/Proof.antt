@@ -21,7 +21,10 @@ is-beyond-requires-3 : tie.Need-is-beyond-requires-3
 is-beyond-requires-3 c κs = search needs
 
 returns-3 : tie.Need-returns-3
-returns-3 c = beyond-z (c .before .before .before .before .before .before .before .args .bytes .now) (c .before .before .before .before .before .before .before .args .n) (sym (c .before .before .before .before .before .is-beyond .ensures) ∙ c .before .before .before .before .if1 .left) (sym (c .before .before .before .is-beyond2 .ensures) ∙ c .before .before .if2 .left) (sym (c .before .is-beyond3 .ensures) ∙ c .if3 .taken)
+returns-3 c =
+    let start = c .before .before .before .before .before .before .before in
+    beyond-z (start .args .bytes .now) (start .args .n) (sym (c .before .before .before .before .before .is-beyond .ensures) ∙ c .before .before .before .before .if1 .left) (sym (c .before .before .before .is-beyond2 .ensures) ∙ c .before .before .if2 .left)
+    (sym (c .before .is-beyond3 .ensures) ∙ c .if3 .taken)
 
 mul-result : tie.Need-mul-result
 mul-result c = search needs
@@ -36,7 +39,10 @@ shared-slice-read-result : tie.Need-shared-slice-read-result
 shared-slice-read-result c = search needs
 
 returns-4 : tie.Need-returns-4
-returns-4 c = by-colour (c .before .before .before .before .before .before .before .before .args .bytes .now) (c .before .before .before .before .before .before .before .before .args .n) (sym (c .before .before .before .before .before .before .is-beyond .ensures) ∙ c .before .before .before .before .before .if1 .left) (sym (c .before .before .before .before .is-beyond2 .ensures) ∙ c .before .before .before .if2 .left) (sym (c .before .before .is-beyond3 .ensures) ∙ c .before .if3 .left)
+returns-4 c =
+    let start = c .before .before .before .before .before .before .before .before in
+    by-colour (start .args .bytes .now) (start .args .n) (sym (c .before .before .before .before .before .before .is-beyond .ensures) ∙ c .before .before .before .before .before .if1 .left) (sym (c .before .before .before .before .is-beyond2 .ensures) ∙ c .before .before .before .if2 .left)
+    (sym (c .before .before .is-beyond3 .ensures) ∙ c .before .if3 .left)
 
 pub is-wrong-voxel-spec : {M : Type 1} → statement M
 is-wrong-voxel-spec =

@@ -23,7 +23,10 @@ array-share-prefix-bytes : tie.Need-array-share-prefix-bytes
 array-share-prefix-bytes c = omega (arith, written-within (c .before .before .before .before .before .write .ensures) (c .before .before .answer .given .1), (c .before .before .before .before .before .write .kept .1 .1 .1 .1 .0))
 
 slice-aggregate-write-text-2 : tie.Need-slice-aggregate-write-text-2
-slice-aggregate-write-text-2 c = sym (length-take-le (c .before .before .before .answer .given .0 .0) (c .before .before .before .before .before .before .write .last .1 .1 .1 .1 .0) (written-within (c .before .before .before .before .before .before .write .ensures) (c .before .before .before .answer .given .1)))
+slice-aggregate-write-text-2 c =
+    let at-write = c .before .before .before .before .before .before in
+    let at-answer = c .before .before .before in
+    sym (length-take-le (at-answer .answer .given .0 .0) (at-write .write .last .1 .1 .1 .1 .0) (written-within (at-write .write .ensures) (at-answer .answer .given .1)))
 
 write-text-requires : tie.Need-write-text-requires
 write-text-requires c κs = search needs

@@ -31,7 +31,25 @@ mul-count-interval : tie.Need-mul-count-interval Inv-loop μ-loop
 mul-count-interval c = let a = c .before .before .before .before .before in omega (arith, interval-fits (a .pre .0 .valid) (c .before .loop .gz) (c .loop-test .taken))
 
 count-interval-requires : tie.Need-count-interval-requires Inv-loop μ-loop
-count-interval-requires c κs = let a = c .before .before .before .before .before .before in (a .pre .0, (a .pre .1 .0, (a .pre .1 .1 .0, (interval-points (a .pre .0 .valid) (c .before .before .loop .gz) (c .before .loop-test .taken), (c .before .before .loop .inv .1, points-low (λ (z : ℕ). around (cells (shotsOf (a .args .edge) (a .args .coords .now))) (a .args .x) (a .args .y) z) (c .before .before .loop .gz * (a .args .field / a .args .grid)) (omega (arith, interval-fits (a .pre .0 .valid) (c .before .before .loop .gz) (c .before .loop-test .taken))) beforeLine beforePoints (omega arith) (a .args .t) (a .pre .1 .1 .1 .1) (c .before .before .loop .inv .2))))))
+count-interval-requires c κs =
+    let a = c .before .before .before .before .before .before in
+    let at-loop = c .before .before in (
+      a .pre .0,
+      (
+        a .pre .1 .0,
+        (
+          a .pre .1 .1 .0,
+          (
+            interval-points (a .pre .0 .valid) (at-loop .loop .gz) (c .before .loop-test .taken),
+            (
+              at-loop .loop .inv .1,
+              points-low (λ (z : ℕ). around (cells (shotsOf (a .args .edge) (a .args .coords .now))) (a .args .x) (a .args .y) z) (at-loop .loop .gz * (a .args .field / a .args .grid))
+                  (omega (arith, interval-fits (a .pre .0 .valid) (at-loop .loop .gz) (c .before .loop-test .taken))) beforeLine beforePoints (omega arith) (a .args .t) (a .pre .1 .1 .1 .1) (at-loop .loop .inv .2),
+            ),
+          ),
+        ),
+      ),
+    )
 
 add-gz : tie.Need-add-gz Inv-loop μ-loop
 add-gz c = search needs

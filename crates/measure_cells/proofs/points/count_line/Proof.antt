@@ -19,7 +19,25 @@ sub-count-interval : tie.Need-sub-count-interval
 sub-count-interval c = search needs
 
 count-interval-requires : tie.Need-count-interval-requires
-count-interval-requires c κs = let a = c .before .before .before .before .before .before .before .before in (a .pre .0, (a .pre .1 .0, (a .pre .1 .1 .0, (last-interval-points (a .pre .0 .valid), (c .before .before .before .count-intervals .kept .1 .1 .1 .1 .1 .1 .1 .0 ∙ a .pre .1 .1 .1 .0, points-low (λ (z : ℕ). around (cells (shotsOf (a .args .edge) (a .args .coords .now))) (a .args .x) (a .args .y) z) (a .args .field) (omega (arith, a .pre .0 .valid .field-most)) beforeLine beforePoints (omega arith) (a .args .t) (a .pre .1 .1 .1 .1) (c .before .before .before .count-intervals .ensures))))))
+count-interval-requires c κs =
+    let a = c .before .before .before .before .before .before .before .before in
+    let at-count-intervals = c .before .before .before in (
+      a .pre .0,
+      (
+        a .pre .1 .0,
+        (
+          a .pre .1 .1 .0,
+          (
+            last-interval-points (a .pre .0 .valid),
+            (
+              at-count-intervals .count-intervals .kept .1 .1 .1 .1 .1 .1 .1 .0 ∙ a .pre .1 .1 .1 .0,
+              points-low (λ (z : ℕ). around (cells (shotsOf (a .args .edge) (a .args .coords .now))) (a .args .x) (a .args .y) z) (a .args .field) (omega (arith, a .pre .0 .valid .field-most)) beforeLine beforePoints
+                  (omega arith) (a .args .t) (a .pre .1 .1 .1 .1) (at-count-intervals .count-intervals .ensures),
+            ),
+          ),
+        ),
+      ),
+    )
 
 same-length : tie.Need-same-length
 same-length c = search needs

@@ -22,7 +22,18 @@ loop-holds : tie.Need-loop-holds Inv-loop μ-loop
 loop-holds c = let a = c .before .before .before in (omega arith, a .pre .1 .1 .0, sums-none (λ (y : ℕ). lineTo (cells (shotsOf (a .args .edge) (a .args .coords .now))) (a .args .field + 1) (a .args .x) y) (a .args .t))
 
 count-line-requires : tie.Need-count-line-requires Inv-loop μ-loop
-count-line-requires c κs = let a = c .before .before .before .before .before .before in (a .pre .0, (a .pre .1 .0, (c .before .loop-test .taken, (c .before .before .loop .inv .1, plane-low (cells (shotsOf (a .args .edge) (a .args .coords .now))) (a .args .field + 1) (c .before .before .loop .y) (a .args .x) (omega (arith, a .pre .0 .valid .field-most)) (omega (arith, a .pre .0 .valid .field-most)) (a .args .t) (a .pre .1 .1 .1) (c .before .before .loop .inv .2)))))
+count-line-requires c κs =
+    let a = c .before .before .before .before .before .before in
+    let at-loop = c .before .before in (
+      a .pre .0,
+      (
+        a .pre .1 .0,
+        (
+          c .before .loop-test .taken,
+          (at-loop .loop .inv .1, plane-low (cells (shotsOf (a .args .edge) (a .args .coords .now))) (a .args .field + 1) (at-loop .loop .y) (a .args .x) (omega (arith, a .pre .0 .valid .field-most)) (omega (arith, a .pre .0 .valid .field-most)) (a .args .t) (a .pre .1 .1 .1) (at-loop .loop .inv .2)),
+        ),
+      ),
+    )
 
 add-y : tie.Need-add-y Inv-loop μ-loop
 add-y c = search needs

@@ -24,7 +24,19 @@ slice-aggregate-count-plane : tie.Need-slice-aggregate-count-plane Inv-loop μ-l
 slice-aggregate-count-plane c = search needs
 
 count-plane-requires : tie.Need-count-plane-requires Inv-loop μ-loop
-count-plane-requires c κs = let a = c .before .before .before .before .before in (a .pre .0, (omega (arith, a .pre .1 .1 .0, c .before .loop-test .taken), (c .before .before .loop .inv .1, field-low (cells (shotsOf (a .args .edge) (a .args .coords .now))) (a .args .field + 1) (a .args .field + 1) (c .before .before .loop .x) (omega (arith, a .pre .0 .valid .field-most)) (omega (arith, a .pre .0 .valid .field-most)) (omega (arith, a .pre .0 .valid .field-most, a .pre .1 .1 .0)) (c .before .before .loop .inv .2))))
+count-plane-requires c κs =
+    let a = c .before .before .before .before .before in
+    let at-loop = c .before .before in (
+      a .pre .0,
+      (
+        omega (arith, a .pre .1 .1 .0, c .before .loop-test .taken),
+        (
+          at-loop .loop .inv .1,
+          field-low (cells (shotsOf (a .args .edge) (a .args .coords .now))) (a .args .field + 1) (a .args .field + 1) (at-loop .loop .x) (omega (arith, a .pre .0 .valid .field-most)) (omega (arith, a .pre .0 .valid .field-most))
+              (omega (arith, a .pre .0 .valid .field-most, a .pre .1 .1 .0)) (at-loop .loop .inv .2),
+        ),
+      ),
+    )
 
 add-x : tie.Need-add-x Inv-loop μ-loop
 add-x c = search needs

@@ -40,7 +40,10 @@ add-tally : tie.Need-add-tally Inv-loop μ-loop
 add-tally c = search needs
 
 tally-requires : tie.Need-tally-requires Inv-loop μ-loop
-tally-requires c κs = let a = c .before .before .before .before .before .before in points-low (λ (i : ℕ). around (runCovers (a .args .edge) (a .args .coords .now) (a .args .run .now)) (a .args .x) (a .args .y) (a .args .from + i)) (c .before .before .loop .i) (omega (arith, a .pre .1 .1 .0)) beforePoints beforePoint (omega arith) (a .args .t) (a .pre .1 .1 .1) (c .before .before .loop .inv .3)
+tally-requires c κs =
+    let a = c .before .before .before .before .before .before in
+    let at-loop = c .before .before in
+    points-low (λ (i : ℕ). around (runCovers (a .args .edge) (a .args .coords .now) (a .args .run .now)) (a .args .x) (a .args .y) (a .args .from + i)) (at-loop .loop .i) (omega (arith, a .pre .1 .1 .0)) beforePoints beforePoint (omega arith) (a .args .t) (a .pre .1 .1 .1) (at-loop .loop .inv .3)
 
 add-i : tie.Need-add-i Inv-loop μ-loop
 add-i c = search needs
