@@ -57,14 +57,23 @@ place-agree {r = r} h a =
       passes = λ k. sym (h r k) ∙ a .passes k;
     }
 
--- of a list: its head's place, or that of its tail and one more
-module _ (f : ℕ → Bool) (n : ℕ) where
-  pub place-here : f 0 ≡ true → FirstPlace f 0 n 0
-  place-here e = record { onward = omega arith; within = omega arith; earlier = λ i l k. absurd (omega arith); passes = λ k. e }
+-- it is where a search begins, or else that of the places after
+pub place-here : {f : ℕ → Bool} {from to : ℕ} → from ≤ to → f from ≡ true → FirstPlace f from to from
+place-here h e = record { onward = omega arith; within = h; earlier = λ i l k. absurd (omega arith); passes = λ k. e }
 
-  pub place-later : {r : ℕ} → f 0 ≡ false → FirstPlace (λ i. f (suc i)) 0 n r → FirstPlace f 0 (suc n) (suc r)
-  place-later {r} e a = record { onward = omega arith; within = omega (arith, a .within); earlier = earlier; passes = λ k. a .passes (omega arith) }
-    where
-      earlier : (i : ℕ) → 0 ≤ i → i < suc r → f i ≡ false
-      earlier zero l k = e
-      earlier (suc i) l k = a .earlier i (omega arith) (omega arith)
+pub place-next : {f : ℕ → Bool} {from to r : ℕ} → f from ≡ false → FirstPlace f (suc from) to r → FirstPlace f from to r
+place-next {f} {from} {r = r} e a = record { onward = omega (arith, a .onward); within = a .within; earlier = λ i l k. go i (decLt from i) l k; passes = a .passes }
+  where
+    go : (i : ℕ) → Dec (from < i) → from ≤ i → i < r → f i ≡ false
+    go i (yes l) m k = a .earlier i l k
+    go i (no h) m k =
+        let is : from ≡ i = omega arith in
+        rw (← is) e
+
+-- the same in a list, where the places after are those of its tail
+pub place-later : (f : ℕ → Bool) {n r : ℕ} → f 0 ≡ false → FirstPlace (λ i. f (suc i)) 0 n r → FirstPlace f 0 (suc n) (suc r)
+place-later f {r = r} e a = record { onward = omega arith; within = omega (arith, a .within); earlier = earlier; passes = λ k. a .passes (omega arith) }
+  where
+    earlier : (i : ℕ) → 0 ≤ i → i < suc r → f i ≡ false
+    earlier zero l k = e
+    earlier (suc i) l k = a .earlier i (omega arith) (omega arith)

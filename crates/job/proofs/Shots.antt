@@ -73,8 +73,8 @@ module _ (F : ℕ) where
   leaving-first (t ∷ ts) o = go (leaves F t) refl (leaving-first ts o)
     where
       go : (b : Bool) → leaves F t ≡ b → FirstPlace (λ i. leaves F (getD ts i o)) 0 (length ts) (firstLeaving F ts) → FirstPlace (λ i. leaves F (getD (t ∷ ts) i o)) 0 (suc (length ts)) (cond b 0 (suc (firstLeaving F ts)))
-      go true e r = place-here (λ i. leaves F (getD (t ∷ ts) i o)) (suc (length ts)) e
-      go false e r = place-later (λ i. leaves F (getD (t ∷ ts) i o)) (length ts) e r
+      go true e r = place-here (omega arith) e
+      go false e r = place-later (λ i. leaves F (getD (t ∷ ts) i o)) e r
 
   -- so a search of a coordinate list finds it
   pub leaving-found : (e : ℕ) (coords : List ℕ) {r : ℕ} → FirstPlace (λ i. leaves F (shotAt e coords i)) 0 (length coords / 3) r → r ≡ firstLeaving F (shotsOf e coords)
