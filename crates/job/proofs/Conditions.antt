@@ -22,7 +22,7 @@ use Rattle.refusals.specs.Deciding.{Each, Says, First, Decides}
 use Rattle.job.proofs.Tests.{within, out, is-out}
 use Rattle.ground.proofs.Tests.{settled}
 use Rattle.ground.proofs.Bools.{or-false, or-true, or-true-left, or-true-right}
-use Rattle.job.proofs.Shots.{shots-count, shots-at, any-leaves, stays, stays-not, all-stay, first-leaves, earlier-stays, stay-at}
+use Rattle.job.proofs.Shots.{shots-count, shots-at, any-leaves, stays, stays-not, all-stay, leaving-first, stay-at}
 use Rattle.refusals.proofs.FirstOf.{passes, none-each, none-iff}
 use Rattle.refusals.proofs.Deciding.{decides-by, decides-then, decides-as}
 
@@ -41,8 +41,8 @@ module _ (job : Job) where
       let o = shot job 0 in
       record {
         is-shot = h;
-        leaves-field = rw (shots-at E coords found o h) at (stays-not F _ (first-leaves F (shots job) o (omega (arith, shots-count E coords))));
-        earlier-stay = λ i l. rw (shots-at E coords i o (omega arith)) at (stays F _ (earlier-stays F (shots job) o i l));
+        leaves-field = rw (shots-at E coords found o h) at (stays-not F _ (leaving-first F (shots job) o .passes (omega (arith, shots-count E coords))));
+        earlier-stay = λ i l. rw (shots-at E coords i o (omega arith)) at (stays F _ (leaving-first F (shots job) o .earlier i (omega arith) l));
       }
 
   -- ---- each test says the condition of its refusal

@@ -9,6 +9,8 @@ use lib.ListN.{length, getD, drop, length-drop}
 use lib.Seq.{drop-cons}
 use borrow.Author.Tests.{lt-ltb, le-ltb, ltb-false}
 use Rattle.lattice.specs.Shots.{Shot, any, InField, AllInField}
+use Rattle.ground.specs.FirstPlace.{FirstPlace}
+use Rattle.ground.proofs.SearchLaws.{search-none, search-all, place-unique, place-agree, place-here, place-later}
 use Rattle.job.specs.Job.{shotsOf, shotAt, xAt, yAt, zAt, edgeAt}
 use Rattle.job.specs.Checking.{past, leaves, firstLeaving}
 use Rattle.ground.proofs.Bools.{or-false, or-left, or-right, or-elim}
@@ -63,14 +65,22 @@ module _ (e : ℕ) where
     shots-end h = shots-short (drop (3 * i) coords) (omega (arith, length-drop (3 * i) coords))
 
 -- ---- the first shot that leaves the field
-module _ (F : ℕ) (t : Shot) (ts : List Shot) where
-  first-here : leaves F t ≡ true → firstLeaving F (t ∷ ts) ≡ 0
+module _ (F : ℕ) where
+  -- it stands at the first place whose shot leaves it
+  pub leaving-first : (ts : List Shot) (o : Shot) → FirstPlace (λ i. leaves F (getD ts i o)) 0 (length ts) (firstLeaving F ts)
   unfolding firstLeaving
-  first-here l = simp l
+  leaving-first [] o = search-all (search-none (omega arith)) (omega arith)
+  leaving-first (t ∷ ts) o = go (leaves F t) refl (leaving-first ts o)
+    where
+      go : (b : Bool) → leaves F t ≡ b → FirstPlace (λ i. leaves F (getD ts i o)) 0 (length ts) (firstLeaving F ts) → FirstPlace (λ i. leaves F (getD (t ∷ ts) i o)) 0 (suc (length ts)) (cond b 0 (suc (firstLeaving F ts)))
+      go true e r = place-here (omega arith) e
+      go false e r = place-later (λ i. leaves F (getD (t ∷ ts) i o)) e r
 
-  first-later : leaves F t ≡ false → firstLeaving F (t ∷ ts) ≡ suc (firstLeaving F ts)
-  unfolding firstLeaving
-  first-later l = simp l
+  -- so a search of a coordinate list finds it
+  pub leaving-found : (e : ℕ) (coords : List ℕ) {r : ℕ} → FirstPlace (λ i. leaves F (shotAt e coords i)) 0 (length coords / 3) r → r ≡ firstLeaving F (shotsOf e coords)
+  leaving-found e coords a =
+      let o = shotAt e coords 0 in
+      place-unique a (place-agree (λ i h. ap (leaves F) (shots-at e coords i o h)) (rw (shots-count e coords) at (leaving-first (shotsOf e coords) o)))
 
 -- what is asked of a shot's numbers is asked of the shot
 pub asked-of : {edge x y z : ℕ} {r : Bool} (F e : ℕ) (coords : List ℕ) (i : ℕ)
@@ -81,26 +91,6 @@ pub asked-of : {edge x y z : ℕ} {r : Bool} (F e : ℕ) (coords : List ℕ) (i 
     → r ≡ leaves F (record { x = x; y = y; z = z; edge = edge })
     → r ≡ leaves F (shotAt e coords i)
 asked-of F e coords i pe px py pz k = k ∙ rw (pe, px, py, pz)
-
-module _ (F e : ℕ) (coords : List ℕ) (i : ℕ) where
-  -- the search has passed i shots
-  abbrev pub Passed : Type 0
-  Passed = firstLeaving F (shotsOf e coords) ≡ i + firstLeaving F (shotsOf e (drop (3 * i) coords))
-
-  module _ (h : i < length coords / 3) (p : Passed) where
-    pub leaving-here : leaves F (shotAt e coords i) ≡ true → i ≡ firstLeaving F (shotsOf e coords)
-    leaving-here l = omega (arith, p, ap (firstLeaving F) (shots-from e coords i h) ∙ first-here F (shotAt e coords i) (shotsOf e (drop (3 * (i + 1)) coords)) l)
-
-    pub leaving-later : leaves F (shotAt e coords i) ≡ false → firstLeaving F (shotsOf e coords) ≡ (i + 1) + firstLeaving F (shotsOf e (drop (3 * (i + 1)) coords))
-    leaving-later l = omega (arith, p, ap (firstLeaving F) (shots-from e coords i h) ∙ first-later F (shotAt e coords i) (shotsOf e (drop (3 * (i + 1)) coords)) l)
-
-  pub leaving-none : length coords / 3 ≤ i → Passed → i ≡ firstLeaving F (shotsOf e coords)
-  unfolding firstLeaving
-  leaving-none h p = omega (arith, p, ap (firstLeaving F) (shots-end e coords i h))
-
--- nothing is passed at first
-pub passed-none : (F e : ℕ) (coords : List ℕ) → Passed F e coords 0
-passed-none F e coords = omega arith
 
 -- ---- a shot leaves the field if and only if one is found
 module _ (F : ℕ) where
@@ -136,25 +126,6 @@ module _ (F : ℕ) where
       go : (b : Bool) → leaves F t ≡ b → suc (length ts) ≤ cond b 0 (suc (firstLeaving F ts)) → (length ts ≤ firstLeaving F ts → AllInField F ts) → InField F t × AllInField F ts
       go true e l r = absurd (omega arith)
       go false e l r = (stays F t e, r (omega arith))
-
-  pub first-leaves : (ts : List Shot) (o : Shot) → firstLeaving F ts < length ts → leaves F (getD ts (firstLeaving F ts) o) ≡ true
-  unfolding firstLeaving
-  first-leaves [] o h = absurd (omega arith)
-  first-leaves (t ∷ ts) o h = go (leaves F t) refl h (first-leaves ts o)
-    where
-      go : (b : Bool) → leaves F t ≡ b → cond b 0 (suc (firstLeaving F ts)) < suc (length ts) → (firstLeaving F ts < length ts → leaves F (getD ts (firstLeaving F ts) o) ≡ true) → leaves F (getD (t ∷ ts) (cond b 0 (suc (firstLeaving F ts))) o) ≡ true
-      go true e l r = e
-      go false e l r = r (omega arith)
-
-  pub earlier-stays : (ts : List Shot) (o : Shot) (i : ℕ) → i < firstLeaving F ts → leaves F (getD ts i o) ≡ false
-  unfolding firstLeaving
-  earlier-stays [] o i h = absurd (omega arith)
-  earlier-stays (t ∷ ts) o i h = go (leaves F t) refl i h (earlier-stays ts o)
-    where
-      go : (b : Bool) → leaves F t ≡ b → (i : ℕ) → i < cond b 0 (suc (firstLeaving F ts)) → ((j : ℕ) → j < firstLeaving F ts → leaves F (getD ts j o) ≡ false) → leaves F (getD (t ∷ ts) i o) ≡ false
-      go true e i l r = absurd (omega arith)
-      go false e zero l r = e
-      go false e (suc i) l r = r i (omega arith)
 
 -- the shots of a coordinate list stay in the field if each one does, by its number
 module _ (F e : ℕ) where

@@ -6,7 +6,7 @@ use native.Mathlib.Nat.{add-zero, mod-eq-of-lt}
 use native.Mathlib.Omega.{arith}
 use lib.Dec.{eqb, leb, leb→le}
 use borrow.Author.Tests.{eq-eqb, ne-eqb}
-use Rattle.ground.specs.Numbers.{bit}
+use Rattle.ground.proofs.Bits.{bit-most, bit-of}
 use Rattle.lattice.specs.Cells.{square, OfFour, covered, edge, innerEdge}
 use Rattle.lattice.specs.Pattern.{Pattern, ofByte, w, ax, ay, az, ex, ey, ez, ix, iy, iz, someNonzero, corner}
 use Rattle.lattice_sums.specs.declared.sums.Totals.{Totals}
@@ -20,11 +20,7 @@ pub apart : (a b : ℕ) → (a ≡ b → ⊥) → 1 ≡ differs a b
 apart a b h = rw (ne-eqb a b h)
 
 pub differs-most : (a b : ℕ) → differs a b ≤ 1
-differs-most a b = one (not (eqb a b))
-  where
-    one : (t : Bool) → bit t ≤ 1
-    one true = omega arith
-    one false = omega arith
+differs-most a b = bit-most (not (eqb a b))
 
 -- a unit square by the bits of its two cells
 square-bits : (x y : ℕ) → x < 2 → y < 2 → (q : Bool → Bool) → q false ≡ eqb x 1 → q true ≡ eqb y 1 → differs x y ≡ square q
@@ -47,21 +43,12 @@ module _ (p : ℕ) (h : p < 256) where
 
   pub cell-is : p / 128 ≡ atPattern (ofByte p) .volume
   unfolding atPattern ofByte
-  cell-is = rw top (one (p / 128) (omega arith))
-    where
-      one : (n : ℕ) → n < 2 → n ≡ bit (eqb n 1)
-      one zero l = refl
-      one (suc zero) l = refl
-      one (suc (suc n)) l = absurd (omega arith)
+  cell-is = rw top (bit-of (p / 128) (omega arith))
 
 -- ---- no point counts much
 
 pub edge-most : (q : Bool → Bool → Bool) → edge q ≤ 2
 edge-most q = leb→le (edge q) 2 (eachFour-at (λ q. leb (edge q) 2) tt q)
-
-bit-most : (b : Bool) → bit b ≤ 1
-bit-most true = omega arith
-bit-most false = omega arith
 
 inner-most : (q : Bool → Bool → Bool) → innerEdge q ≤ 1
 inner-most q = bit-most (eqb (covered q) 3)

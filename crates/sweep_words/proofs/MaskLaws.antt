@@ -4,16 +4,12 @@ use mathlib.Core.Bool.{Bool, true, false}
 use Prim.Native.Nat.{ℕ, suc, _+_, _-_, _*_, _/_, _%_, _^_, _<_, _≤_}
 use native.Mathlib.Nat.{one-mul}
 use native.Mathlib.Omega.{arith}
-use lib.Dec.{leb, leb→le, le→leb, lit<}
+use lib.Dec.{leb, lit<}
 use lib.Pow.{shl-exact}
 use borrow.Author.Tests.{lt-ltb, leb-true, leb-false}
-use Rattle.ground.proofs.Bools.{bool-ext}
+use Rattle.ground.proofs.Tests.{leb-alike}
 use Rattle.sweep_words.specs.Words.{bitAt}
 use Rattle.sweep_words.proofs.BitLaws.{bit-shr, bit-shl-low, bit-shl-high, bit-mod, bit-ones}
-
--- tests of the same order are the same
-pub leb-same : (a b c d : ℕ) → (a ≤ b → c ≤ d) → (c ≤ d → a ≤ b) → leb a b ≡ leb c d
-leb-same a b c d f g = bool-ext (leb a b) (leb c d) (λ t. le→leb c d (f (leb→le a b t))) (λ t. le→leb a b (g (leb→le c d t)))
 
 -- bits a to 63
 pub bit-upper : (a i : ℕ) → i < 64 → bitAt ((2 ^ 64 - 1) * 2 ^ a % 2 ^ 64) i ≡ leb a i
@@ -30,7 +26,7 @@ bit-upper a i h = bit-mod 64 ((2 ^ 64 - 1) * 2 ^ a) i h ∙ go (leb a i) refl
 pub bit-lower : (b i : ℕ) → b < 64 → bitAt ((2 ^ 64 - 1) / 2 ^ (63 - b)) i ≡ leb i b
 bit-lower b i h =
     bit-shr (2 ^ 64 - 1) (63 - b) i ∙ bit-ones 64 (i + (63 - b))
-    ∙ leb-same (suc (i + (63 - b))) 64 i b (λ l. omega arith) (λ l. omega arith)
+    ∙ leb-alike (suc (i + (63 - b))) 64 i b (λ l. omega arith) (λ l. omega arith)
 
 -- bit k
 pub one-shl : (k : ℕ) → k < 64 → 1 * 2 ^ k % 2 ^ 64 ≡ 2 ^ k

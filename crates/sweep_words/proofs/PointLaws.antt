@@ -1,12 +1,13 @@
 -- The points of four words: which are corners, and their patterns.
-use mathlib.Core.Path.{_≡_, refl, sym, _∙_, ap, ap₂}
+use mathlib.Core.Path.{_≡_, sym, _∙_, ap, ap₂}
 use mathlib.Core.Bool.{Bool, true, false, xor, _&&_, _||_, and-comm}
-use Prim.Native.Nat.{ℕ, zero, suc, _+_, _-_, _*_, _/_, _%_, _^_, _<_}
+use Prim.Native.Nat.{ℕ, suc, _+_, _-_, _*_, _/_, _%_, _^_}
 use native.Mathlib.Numerals.{add-one}
 use native.Mathlib.Omega.{arith}
 use lib.Bits.{bitAnd, bitOr, bitXor}
-use lib.Dec.{eqb, ltb}
+use lib.Dec.{ltb}
 use lib.Pow.{shr-shr}
+use Rattle.ground.proofs.Bits.{bit-of}
 use Rattle.lattice.specs.Axes.{Axis, x-axis, y-axis, z-axis}
 use Rattle.ground.specs.Numbers.{bit}
 use Rattle.lattice.specs.Pattern.{Pattern, byte, corner}
@@ -76,18 +77,13 @@ corner-word l₀ l₁ u₀ u₁ x y z b ex ey ez =
     ∙ and-comm (corner (patternOf l₀ l₁ u₀ u₁ b)) (ltb b 63)
 
 -- ---- patterns
-digit-bit : (x : ℕ) → x < 2 → x ≡ bit (eqb x 1)
-digit-bit zero h = refl
-digit-bit (suc zero) h = refl
-digit-bit (suc (suc x)) h = absurd (omega arith)
-
 -- the two cells of a word are two of its digits
 pub two-digits : (w b : ℕ) → w / 2 ^ b % 4 ≡ twoAt w b
 unfolding bitAt
 two-digits w b =
     let next : w / 2 ^ b / 2 ≡ w / 2 ^ suc b = shr-shr w b 1 ∙ ap (λ (n : ℕ). w / 2 ^ n) (add-one b) in
-    let low : w / 2 ^ b % 2 ≡ bit (bitAt w b) = digit-bit (w / 2 ^ b % 2) (omega arith) in
-    let high : w / 2 ^ suc b % 2 ≡ bit (bitAt w (suc b)) = digit-bit (w / 2 ^ suc b % 2) (omega arith) in
+    let low : w / 2 ^ b % 2 ≡ bit (bitAt w b) = bit-of (w / 2 ^ b % 2) (omega arith) in
+    let high : w / 2 ^ suc b % 2 ≡ bit (bitAt w (suc b)) = bit-of (w / 2 ^ suc b % 2) (omega arith) in
     omega arith
 
 -- the byte of a pattern from the two cells of each word

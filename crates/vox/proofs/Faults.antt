@@ -6,12 +6,13 @@ use mathlib.Core.List.{List}
 use mathlib.Core.Logic.{_↔_}
 use Prim.Native.Nat.{ℕ, zero, suc, _+_, _≤_, _<_}
 use native.Mathlib.Omega.{arith}
-use lib.Dec.{ltb, leb, eqb}
+use lib.Dec.{ltb, eqb}
 use lib.ListN.{length}
-use borrow.Author.Tests.{ltb-true, lt-ltb, le-ltb, leb-true, leb-false}
+use borrow.Author.Tests.{ltb-true, lt-ltb, le-ltb}
 use Rattle.ground.proofs.Tests.{leb-says, eqb-says, or-says}
 use Rattle.vox_chunks.specs.Chunks.{afterChunk, overruns}
 use Rattle.vox_voxels.specs.Voxels.{sideOn, voxelAt, byteOf, beyond, wrongVoxel, firstWrong}
+use Rattle.vox_voxels.proofs.VoxelLaws.{wrong-first}
 use Rattle.vox.specs.Vox.{voxelCount, firstOverrun, overrunFrom}
 use Rattle.vox.specs.Conditions.{Ends, LaterChunk, first-later, next-later, BrokenAt, later-broken, WrongVoxel, FirstWrong}
 use Rattle.vox.proofs.Walks.{over-found, over-next}
@@ -25,38 +26,14 @@ module _ (s : List ℕ) where
       (or-says (beyond s n 1) _ (leb-says (sideOn s 1) (byteOf s n 1))
       (or-says (beyond s n 2) (eqb (byteOf s n 3) 0) (leb-says (sideOn s 2) (byteOf s n 2)) (eqb-says (byteOf s n 3) 0)))
 
-  first-wrong-at : (n left : ℕ) → firstWrong s n left < n + left → wrongVoxel s (firstWrong s n left) ≡ true
-  unfolding firstWrong
-  first-wrong-at n zero h = absurd (omega arith)
-  first-wrong-at n (suc left) h = go (wrongVoxel s n) refl h (first-wrong-at (suc n) left)
-    where
-      go : (b : Bool) → wrongVoxel s n ≡ b → cond b n (firstWrong s (suc n) left) < n + suc left → (firstWrong s (suc n) left < suc n + left → wrongVoxel s (firstWrong s (suc n) left) ≡ true) → wrongVoxel s (cond b n (firstWrong s (suc n) left)) ≡ true
-      go true e h f = e
-      go false e h f = f (omega arith)
-
-  pub first-before : (n left m : ℕ) → n ≤ m → m < firstWrong s n left → wrongVoxel s m ≡ false
-  unfolding firstWrong
-  first-before n zero m l h = absurd (omega arith)
-  first-before n (suc left) m l h = go (wrongVoxel s n) refl h (first-before (suc n) left m)
-    where
-      here : wrongVoxel s n ≡ false → (b : Bool) → leb (suc n) m ≡ b → (suc n ≤ m → wrongVoxel s m ≡ false) → wrongVoxel s m ≡ false
-      here e true k f = f (leb-true (suc n) m k)
-      here e false k f =
-          let q : m ≡ n = omega (arith, leb-false (suc n) m k) in
-          rw q e
-
-      go : (b : Bool) → wrongVoxel s n ≡ b → m < cond b n (firstWrong s (suc n) left) → (suc n ≤ m → m < firstWrong s (suc n) left → wrongVoxel s m ≡ false) → wrongVoxel s m ≡ false
-      go true e h f = absurd (omega arith)
-      go false e h f = here e (leb (suc n) m) refl (λ k. f k h)
-
   abbrev pub firstFault : ℕ
   firstFault = firstWrong s 0 (voxelCount s)
 
   pub right-before : (n : ℕ) → n < firstFault → ¬ WrongVoxel s n
-  right-before n h w = true≢false (sym (wrong-says n .1 w) ∙ first-before 0 (voxelCount s) n (omega arith) h)
+  right-before n h w = true≢false (sym (wrong-says n .1 w) ∙ wrong-first s 0 (voxelCount s) (voxelCount s) (omega arith) .earlier n (omega arith) h)
 
   pub fault-is : firstFault < voxelCount s → FirstWrong s firstFault
-  fault-is h = record { is-voxel = h; is-wrong = wrong-says firstFault .0 (first-wrong-at 0 (voxelCount s) (omega arith)); earlier-right = right-before }
+  fault-is h = record { is-voxel = h; is-wrong = wrong-says firstFault .0 (wrong-first s 0 (voxelCount s) (voxelCount s) (omega arith) .passes h); earlier-right = right-before }
 
   -- ---- the chunks after XYZI
   abbrev pub afterVoxels : ℕ

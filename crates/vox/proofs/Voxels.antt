@@ -24,7 +24,7 @@ use Rattle.vox.specs.Vox.{voxelCount, voxelFields, voxels, voxJob, voxIn
 use Rattle.vox.specs.Conditions.{voxelShot, HasVoxel, VoxList}
 use Rattle.vox.proofs.Passed.{Passed, voxels-count, voxels-whole}
 use Rattle.vox.proofs.Fits.{vox-fits, vox-accepted}
-use Rattle.vox.proofs.Faults.{first-before}
+use Rattle.vox_voxels.proofs.VoxelLaws.{wrong-first}
 
 -- ---- the voxels as shots
 module _ (s : List ℕ) where
@@ -49,7 +49,7 @@ module _ (s : List ℕ) where
     voxel-inside : (m : ℕ) → m < voxelCount s → InField (largestSide s) (voxelShot s m)
     unfolding wrongVoxel
     voxel-inside m h =
-        let x = or-false (beyond s m 0) (beyond s m 1 || (beyond s m 2 || eqb (byteOf s m 3) 0)) (first-before s 0 (voxelCount s) m (omega arith) (omega (arith, p .none-wrong))) in
+        let x = or-false (beyond s m 0) (beyond s m 1 || (beyond s m 2 || eqb (byteOf s m 3) 0)) (wrong-first s 0 (voxelCount s) (voxelCount s) (omega arith) .earlier m (omega arith) (omega (arith, p .none-wrong))) in
         let y = or-false (beyond s m 1) (beyond s m 2 || eqb (byteOf s m 3) 0) (x .1) in
         let z = or-false (beyond s m 2) (eqb (byteOf s m 3) 0) (y .1) in
         record {

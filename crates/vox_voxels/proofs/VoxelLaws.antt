@@ -1,12 +1,14 @@
 -- What the tests of the sides and the voxels answer, one way out after the other, and the first voxel that is at fault. Assumes nothing.
 use mathlib.Core.Path.{_≡_, refl, ap, _∙_}
-use mathlib.Core.Bool.{Bool, true, false}
+use mathlib.Core.Bool.{Bool, true, false, cond}
 use mathlib.Core.List.{List}
-use Prim.Native.Nat.{ℕ, suc, _+_, _-_, _≤_, _<_}
+use Prim.Native.Nat.{ℕ, zero, suc, _+_, _≤_, _<_}
 use native.Mathlib.Omega.{arith}
 use lib.Dec.{leb, ltb, eqb}
 use borrow.Author.Tests.{lt-ltb, le-ltb}
+use Rattle.ground.specs.FirstPlace.{FirstPlace}
 use Rattle.ground.proofs.Bools.{or-first, or-second}
+use Rattle.ground.proofs.SearchLaws.{search-none, search-all, place-unique, place-here, place-next}
 use Rattle.vox_voxels.specs.Voxels.{sideOn, wrongSide, beyond, byteOf, wrongVoxel, firstWrong}
 
 module _ (s : List ℕ) where
@@ -40,30 +42,18 @@ module _ (s : List ℕ) where
         unfolding wrongVoxel
         by-colour z = or-second _ _ x (or-second _ _ y (or-second _ _ z refl))
 
--- ---- voxel after voxel
-module _ (s : List ℕ) (count : ℕ) where
-  pub wrong-all : firstWrong s 0 (count - 0) ≡ firstWrong s 0 count
-  wrong-all =
-      let e : count - 0 ≡ count = omega arith in
-      rw e
+-- ---- the first wrong voxel
+module _ (s : List ℕ) where
+  -- it is the first place of one
+  pub wrong-first : (n left to : ℕ) → n + left ≡ to → FirstPlace (wrongVoxel s) n to (firstWrong s n left)
+  unfolding firstWrong
+  wrong-first n zero to e = search-all (search-none (omega arith)) (omega arith)
+  wrong-first n (suc left) to e = go (wrongVoxel s n) refl (wrong-first (suc n) left to (omega arith))
+    where
+      go : (b : Bool) → wrongVoxel s n ≡ b → FirstPlace (wrongVoxel s) (suc n) to (firstWrong s (suc n) left) → FirstPlace (wrongVoxel s) n to (cond b n (firstWrong s (suc n) left))
+      go true w r = place-here (omega arith) w
+      go false w r = place-next w r
 
-  module _ (n : ℕ) where
-    pub wrong-none : count ≤ n → n ≡ firstWrong s n (count - n)
-    unfolding firstWrong
-    wrong-none h =
-        let e : count - n ≡ 0 = omega arith in
-        rw e
-
-    module _ (h : n < count) where
-      one-more : count - n ≡ suc (count - (n + 1))
-      one-more = omega arith
-
-      pub wrong-found : wrongVoxel s n ≡ true → n ≡ firstWrong s n (count - n)
-      unfolding firstWrong
-      wrong-found e = rw (one-more, e)
-
-      pub wrong-next : wrongVoxel s n ≡ false → firstWrong s (n + 1) (count - (n + 1)) ≡ firstWrong s n (count - n)
-      unfolding firstWrong
-      wrong-next e =
-          let m : suc n ≡ n + 1 = omega arith in
-          rw (one-more, e, m)
+  -- so a search finds it
+  pub wrong-found : {count r : ℕ} → FirstPlace (wrongVoxel s) 0 count r → r ≡ firstWrong s 0 count
+  wrong-found {count} a = place-unique a (wrong-first 0 count count (omega arith))

@@ -3,7 +3,7 @@ use mathlib.Core.Path.{_∙_}
 use borrow.Author.Needs.{needs}
 use Prim.Native.Nat.{suc, _+_, _-_, _*_}
 use native.Mathlib.Omega.{arith}
-use Rattle.sweep_words.proofs.MaskLaws.{leb-same}
+use Rattle.ground.proofs.Tests.{leb-alike}
 use Rattle.sweep_words.proofs.after.Statement.{statement}
 use Rattle.sweep_words.proofs.after.Tie as tie
 
@@ -16,7 +16,7 @@ upper-requires c κs = search needs
 returns : tie.Need-returns
 returns c i h =
     let given = c .before .before .args in
-    c .upper .ensures i h ∙ leb-same 0 i (suc (given .a)) (63 * given .k + i) (λ l. omega arith) (λ l. omega arith)
+    c .upper .ensures i h ∙ leb-alike 0 i (suc (given .a)) (63 * given .k + i) (λ l. omega arith) (λ l. omega arith)
 
 add-upper : tie.Need-add-upper
 add-upper c = search needs
@@ -34,7 +34,7 @@ returns-2 : tie.Need-returns-2
 returns-2 c i h =
     let given = c .before .before .args in
     c .upper2 .ensures i h
-    ∙ leb-same (given .a + 1 - 63 * given .k) i (suc (given .a)) (63 * given .k + i) (λ l. omega arith) (λ l. omega arith)
+    ∙ leb-alike (given .a + 1 - 63 * given .k) i (suc (given .a)) (63 * given .k + i) (λ l. omega arith) (λ l. omega arith)
 
 pub after-spec : {M : Type 1} → statement M
 after-spec =

@@ -3,7 +3,7 @@ use mathlib.Core.Path.{_∙_}
 use borrow.Author.Needs.{needs}
 use Prim.Native.Nat.{_+_, _-_, _*_}
 use native.Mathlib.Omega.{arith}
-use Rattle.sweep_words.proofs.MaskLaws.{leb-same}
+use Rattle.ground.proofs.Tests.{leb-alike}
 use Rattle.sweep_words.proofs.up_to.Statement.{statement}
 use Rattle.sweep_words.proofs.up_to.Tie as tie
 
@@ -19,7 +19,7 @@ lower-requires c κs = search needs
 returns : tie.Need-returns
 returns c i h =
     let given = c .before .before .args in
-    c .lower .ensures i ∙ leb-same i 63 (63 * given .k + i) (given .b) (λ l. omega arith) (λ l. omega arith)
+    c .lower .ensures i ∙ leb-alike i 63 (63 * given .k + i) (given .b) (λ l. omega arith) (λ l. omega arith)
 
 mul-lower : tie.Need-mul-lower
 mul-lower c = search needs
@@ -33,7 +33,7 @@ lower-requires-2 c κs = search needs
 returns-2 : tie.Need-returns-2
 returns-2 c i h =
     let given = c .before .before .args in
-    c .lower2 .ensures i ∙ leb-same i (given .b - 63 * given .k) (63 * given .k + i) (given .b) (λ l. omega arith) (λ l. omega arith)
+    c .lower2 .ensures i ∙ leb-alike i (given .b - 63 * given .k) (63 * given .k + i) (given .b) (λ l. omega arith) (λ l. omega arith)
 
 pub up-to-spec : {M : Type 1} → statement M
 up-to-spec =
