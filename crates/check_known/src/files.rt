@@ -63,36 +63,25 @@ fn put_bytes(numbers: &[u16], file: &mut [u8]) {
     }
 }
 
-// Reads, and prints the coordinate slice before, the answer, and the slice after.
-fn read_in(file: &[u8], coords: &mut [u16]) {
+// Reads the file of these numbers, of so many bytes, with so many places lent, and prints these before, the answer, and these after.
+pub(crate) fn show_read(numbers: &[u16], length: u16, most: u16) {
+    let mut lent = [9u16; 12291];
+    let mut more = [0u8; 4098];
+    let coords = places(&mut lent, most);
+    let file = bytes(&mut more, length);
+    put_bytes(numbers, file);
     print_places(coords);
     let answer = shotfile_reader::read(file, coords);
     print_read(answer);
     print_places(coords);
 }
 
-// Writes, and prints the byte buffer before, the answer, and the buffer after.
-fn write_in(field: u16, edge: u16, grid: u16, coords: &[u16], file: &mut [u8]) {
+// Writes a list, with so many bytes lent, and prints these before, the answer, and these after.
+pub(crate) fn show_write(field: u16, edge: u16, grid: u16, coords: &[u16], most: u16) {
+    let mut lent = [9u8; 16];
+    let file = bytes(&mut lent, most);
     print_bytes(file);
     let answer = shotfile_writer::write(field, edge, grid, coords, file);
     print_written(answer);
     print_bytes(file);
-}
-
-// Reads the file of these numbers, which are put into as many bytes, with so many places lent.
-fn read_with(numbers: &[u16], file: &mut [u8], most: u16) {
-    put_bytes(numbers, file);
-    let mut coords = [9u16; 12291];
-    read_in(file, places(&mut coords, most));
-}
-
-pub(crate) fn show_read(numbers: &[u16], length: u16, most: u16) {
-    let mut file = [0u8; 4098];
-    read_with(numbers, bytes(&mut file, length), most);
-}
-
-// Writes a list, with so many bytes lent.
-pub(crate) fn show_write(field: u16, edge: u16, grid: u16, coords: &[u16], most: u16) {
-    let mut file = [9u8; 16];
-    write_in(field, edge, grid, coords, bytes(&mut file, most));
 }

@@ -90,14 +90,10 @@ fn widen(listing: &[u8], wide: &mut [u32]) {
     }
 }
 
-// Prints what became of a listing buffer, and the listing in it, by way of as many entries.
-fn print_widened(listing: &[u8], wide: &mut [u32]) {
+// Prints what became of a listing buffer of at most 150 bytes, and the listing in it, by way of as many entries.
+pub(crate) fn print_listing(listing: &[u8]) {
+    let mut more = [ENTRY; 150];
+    let wide = entries(&mut more, (listing.len() % 65536) as u16);
     widen(listing, wide);
     print_front(b"; listing", wide, 150);
-}
-
-// Prints what became of a listing buffer of at most 150 bytes, and the listing in it.
-pub(crate) fn print_listing(listing: &[u8]) {
-    let mut wide = [ENTRY; 150];
-    print_widened(listing, entries(&mut wide, (listing.len() % 65536) as u16));
 }

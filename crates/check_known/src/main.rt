@@ -88,49 +88,32 @@ fn print_credited(answer: Checked, work: &[u32], credits: &[u32]) {
     junk::print_front(b"; credits", credits, 40);
 }
 
-fn measure_in(list: Settings, coords: &[u16], work: &mut [u32]) {
+// Measures, with the entries lent.
+fn show_measure(list: Settings, sizes: Sizes, coords: &[u16]) {
+    let mut lent = [junk::ENTRY; 4100];
+    let work = entries(&mut lent, sizes.entries);
     let answer = measure::measure(list.field, list.edge, list.grid, coords, work);
     print_measured(b": measure", answer, work);
 }
 
-fn list_in(list: Settings, coords: &[u16], work: &mut [u32], listing: &mut [u8]) {
+// Lists, with the entries and the bytes lent.
+fn show_list(list: Settings, sizes: Sizes, coords: &[u16]) {
+    let mut lent = [junk::ENTRY; 4100];
+    let mut more = [junk::BYTE; 150];
+    let work = entries(&mut lent, sizes.entries);
+    let listing = bytes(&mut more, sizes.bytes);
     let answer = measure::list(list.field, list.edge, list.grid, coords, work, listing);
     print_listed(answer, work, listing);
 }
 
-fn credit_in(list: Settings, coords: &[u16], work: &mut [u32], credits: &mut [u32]) {
-    let answer = crediting::credit(list.field, list.edge, list.grid, coords, work, credits);
-    print_credited(answer, work, credits);
-}
-
-// Measures, with the entries lent.
-fn show_measure(list: Settings, sizes: Sizes, coords: &[u16]) {
-    let mut work = [junk::ENTRY; 4100];
-    measure_in(list, coords, entries(&mut work, sizes.entries));
-}
-
-// Lists, with the entries and the bytes lent.
-fn show_list(list: Settings, sizes: Sizes, coords: &[u16]) {
-    let mut work = [junk::ENTRY; 4100];
-    let mut listing = [junk::BYTE; 150];
-    list_in(
-        list,
-        coords,
-        entries(&mut work, sizes.entries),
-        bytes(&mut listing, sizes.bytes),
-    );
-}
-
 // Credits, with the entries and the credit places lent.
 fn show_credit(list: Settings, sizes: Sizes, coords: &[u16]) {
-    let mut work = [junk::ENTRY; 4100];
-    let mut credits = [junk::ENTRY; 4100];
-    credit_in(
-        list,
-        coords,
-        entries(&mut work, sizes.entries),
-        entries(&mut credits, sizes.places),
-    );
+    let mut lent = [junk::ENTRY; 4100];
+    let mut more = [junk::ENTRY; 4100];
+    let work = entries(&mut lent, sizes.entries);
+    let credits = entries(&mut more, sizes.places);
+    let answer = crediting::credit(list.field, list.edge, list.grid, coords, work, credits);
+    print_credited(answer, work, credits);
 }
 
 // Ends a line of output, and begins the next of the same job.
