@@ -106,8 +106,8 @@ pub extern "C" fn heqdanu_credit(
     credits: &mut [u32],
     answer: &mut [u64],
 ) -> u8
-    ensures { λ r. ⌜ CreditTold (jobOf field edge grid (now (coords .entry))) (now (work .entry)) (now (credits .entry)) (now (answer .entry))
-        r (now (work .exit)) (now (credits .exit)) (now (answer .exit)) ⌝ }
+    ensures { λ r. ⌜ CreditTold (jobOf field edge grid (now (coords .entry))) (now (work .entry)) (now (credits .entry))
+        (now (answer .entry)) r (now (work .exit)) (now (credits .exit)) (now (answer .exit)) ⌝ }
 {
     if answer.len() < CREDIT_ANSWER {
         return 0;

@@ -46,8 +46,8 @@ fn credit_list(
     out: &mut [u8],
 ) -> usize
     requires { ⌜ 172032 ≤ length (now out) ⌝ }
-    ensures { λ r. ⌜ ListCredited (jobOf field edge grid (now (coords .entry))) (now (work .entry)) (now (credits .entry)) (now (out .entry))
-        r (now (work .exit)) (now (credits .exit)) (now (out .exit)) ⌝ }
+    ensures { λ r. ⌜ ListCredited (jobOf field edge grid (now (coords .entry))) (now (work .entry)) (now (credits .entry))
+        (now (out .entry)) r (now (work .exit)) (now (credits .exit)) (now (out .exit)) ⌝ }
 {
     let checked = crediting::credit(field, edge, grid, coords, work, credits);
     match checked {

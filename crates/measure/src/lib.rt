@@ -34,7 +34,8 @@ fn count(field: u16, edge: u16, grid: u16, coords: &[u16], work: &[u32]) -> Tota
 fn store(field: u16, edge: u16, grid: u16, coords: &[u16], work: &[u32], buffer: &mut [u8])
     requires { ⌜ Holds (jobOf field edge grid (now coords)) (now work) ⌝ }
     requires { ⌜ 7 * cornerCount field (solid (jobOf field edge grid (now coords))) ≤ length (now buffer) ⌝ }
-    ensures { λ _. ⌜ now (buffer .exit) ≡ inFront (listing field (solid (jobOf field edge grid (now (coords .entry))))) (now (buffer .entry)) ⌝ }
+    ensures { λ _. ⌜ now (buffer .exit)
+        ≡ inFront (listing field (solid (jobOf field edge grid (now (coords .entry))))) (now (buffer .entry)) ⌝ }
 {
     sweep::sweep(field, edge, grid, coords, work, buffer);
 }
@@ -49,7 +50,8 @@ fn list_corners(
     buffer: &mut [u8],
 ) -> Measured
     requires { ⌜ Holds (jobOf field edge grid (now coords)) (now work) ⌝ }
-    ensures { λ r. ⌜ CornersListed field (solid (jobOf field edge grid (now (coords .entry)))) (now (buffer .entry)) r (now (buffer .exit)) ⌝ }
+    ensures { λ r. ⌜ CornersListed field (solid (jobOf field edge grid (now (coords .entry)))) (now (buffer .entry))
+        r (now (buffer .exit)) ⌝ }
 {
     let totals = count(field, edge, grid, coords, work);
     let corners = totals.corners;

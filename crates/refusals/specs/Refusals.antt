@@ -27,6 +27,7 @@ noticeOf (BrokenChunk at) = record { number = 14; detail = at; met = Byte }
 noticeOf (VoxelRange at) = record { number = 15; detail = at; met = Byte }
 noticeOf (ShortCredits shots) = record { number = 16; detail = shots; met = Nowhere }
 
+-- the number alone, and the detail alone
 abbrev pub numberOf : Refusal → ℕ
 numberOf r = noticeOf r .number
 

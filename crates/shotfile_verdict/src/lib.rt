@@ -21,7 +21,8 @@ fn put_list_verdict(
     at: usize,
 ) -> usize
     requires { ⌜ at + 128 ≤ length (now out) ⌝ }
-    ensures { λ r. ⌜ Wrote (now (out .entry)) (now (out .exit)) at r (listVerdict (checked (jobOf field edge grid (now (coords .entry))))) ⌝ }
+    ensures { λ r. ⌜ Wrote (now (out .entry)) (now (out .exit)) at r
+        (listVerdict (checked (jobOf field edge grid (now (coords .entry))))) ⌝ }
 {
     match job::check(field, edge, grid, coords) {
         Checked::Accepted => at,

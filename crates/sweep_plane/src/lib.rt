@@ -30,7 +30,8 @@ fn turn(
     buf: &mut [u8],
 ) -> CornerSums
     requires { ⌜ About field (now boxes) x from old n × (1 ≤ field) × (x ≤ field) × (0 < n) × (n ≤ 4096) × (ends ≤ 4096) ⌝ }
-    requires { ⌜ Both field (touching (now boxes) x old) (now l) (now u) (now names) × Packed (now weights) × RoomFor (planePoints 1024) t ⌝ }
+    requires { ⌜ Both field (touching (now boxes) x old) (now l) (now u) (now names)
+        × Packed (now weights) × RoomFor (planePoints 1024) t ⌝ }
     ensures { λ r. ⌜ PlaneOut field (now (boxes .entry)) x n (state t (now (buf .entry))) (state r (now (buf .exit))) ⌝ }
     ensures { λ _. ⌜ Both field (shade (now (boxes .entry)) x n) (now (l .exit)) (now (u .exit)) (now (names .exit)) ⌝ }
 {
@@ -58,7 +59,8 @@ pub fn plane(
     buf: &mut [u8],
 ) -> CornerSums
     requires { ⌜ About field (now boxes) x from old n × (1 ≤ field) × (x ≤ field) × (n ≤ 4096) × EndsOn (now boxes) x old ends ⌝ }
-    requires { ⌜ Both field (touching (now boxes) x old) (now l) (now u) (now names) × Packed (now weights) × RoomFor (planePoints 1024) t ⌝ }
+    requires { ⌜ Both field (touching (now boxes) x old) (now l) (now u) (now names)
+        × Packed (now weights) × RoomFor (planePoints 1024) t ⌝ }
     ensures { λ r. ⌜ PlaneOut field (now (boxes .entry)) x n (state t (now (buf .entry))) (state r (now (buf .exit))) ⌝ }
     ensures { λ _. ⌜ Both field (shade (now (boxes .entry)) x n) (now (l .exit)) (now (u .exit)) (now (names .exit)) ⌝ }
 {

@@ -56,7 +56,11 @@ loop-again : tie.Need-loop-again Inv-loop μ-loop
 loop-again c =
     let a = c .before .before .before .before .before .before .before .before .before .before .before .before .before .before in
     let i = c .before .before .before .before .before .before .before .before .loop in
-    (omega arith, c .before .before .before .before .fill-cell .kept .1 .1 .1 .1 .1 .1 .1 .0 ∙ i .inv .1, cell-turn _ (a .pre .0) (a .args .line) (a .pre .1 .0) (a .pre .1 .1 .1 .1) (a .args .row .now) (a .pre .1 .1 .0) (i .gz) (c .before .before .before .before .before .before .before .loop-test .taken) (i .inv .2) (c .before .before .before .before .before .before .before .before .before .cells-of .ensures) (c .before .before .before .before .fill-cell .ensures))
+    let filled = c .before .before .before .before .fill-cell in
+    let turn = c .before .before .before .before .before .before .before .loop-test .taken in
+    let cells = c .before .before .before .before .before .before .before .before .before .cells-of .ensures in
+    let next = cell-turn _ (a .pre .0) (a .args .line) (a .pre .1 .0) (a .pre .1 .1 .1 .1) (a .args .row .now) (a .pre .1 .1 .0) (i .gz) turn (i .inv .2) cells (filled .ensures) in
+    (omega arith, filled .kept .1 .1 .1 .1 .1 .1 .1 .0 ∙ i .inv .1, next)
 
 same-length : tie.Need-same-length Inv-loop μ-loop
 same-length c = c .before .loop .inv .1

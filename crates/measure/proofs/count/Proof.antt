@@ -10,7 +10,8 @@ use borrow.Author.Needs.{needs}
 use Rattle.measure.proofs.count.Statement.{statement}
 use Rattle.measure.proofs.count.Tie as tie
 
-swept : (c : tie.After-sweep) → c .sweep .result ≡ sumsOf (corners (c .before .before .before .before .args .field) (solid (jobOf (c .before .before .before .before .args .field) (c .before .before .before .before .args .edge) (c .before .before .before .before .args .grid) (c .before .before .before .before .args .coords .now))))
+swept : (c : tie.After-sweep)
+    → let a = c .before .before .before .before .args in c .sweep .result ≡ sumsOf (corners (a .field) (solid (jobOf (a .field) (a .edge) (a .grid) (a .coords .now))))
 swept c = let s = c .before .before .before .before in swept-sums _ (s .args .field) (solid (jobOf (s .args .field) (s .args .edge) (s .args .grid) (s .args .coords .now))) (c .sweep .ensures)
 
 slice-aggregate-sweep : tie.Need-slice-aggregate-sweep

@@ -57,7 +57,21 @@ put-byte-requires c κs =
     let place-put = c .before .before .before .before .before .before .before .before .before .before .before .before .put-place in
     let word-put = c .before .before .before .before .before .before .before .put-word in
     let sentence-put = c .before .before .before .put-sentence in
-    omega (arith, start .pre, labelled-put .ensures .next, labelled-put .kept .0, labelled-length (text "refused ") (told .result .number), place-put .ensures .next, place-put .kept .0, place-length (told .result .detail) (told .result .met), word-put .ensures .next, word-put .kept .0, sentence-put .ensures .next, sentence-put .kept .0, sentence-length (start .args .refusal))
+    omega (
+      arith,
+      start .pre,
+      labelled-put .ensures .next,
+      labelled-put .kept .0,
+      labelled-length (text "refused ") (told .result .number),
+      place-put .ensures .next,
+      place-put .kept .0,
+      place-length (told .result .detail) (told .result .met),
+      word-put .ensures .next,
+      word-put .kept .0,
+      sentence-put .ensures .next,
+      sentence-put .kept .0,
+      sentence-length (start .args .refusal),
+    )
 
 same-length : tie.Need-same-length
 same-length c = search needs

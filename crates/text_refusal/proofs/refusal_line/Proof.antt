@@ -46,7 +46,20 @@ put-digits-requires-2 c κs =
     let at-put-byte = c .before .before .before .before .before .before .before .before .before .before .before in
     let at-put-digits = c .before .before .before .before .before .before .before in
     let at-put-byte2 = c .before .before .before in
-    omega (arith, at-put-byte2 .put-byte2 .ensures .next, at-put-byte2 .put-byte2 .kept .0, at-put-digits .put-digits .ensures .next, at-put-digits .put-digits .kept .0, at-put-byte .put-byte .ensures .next, at-put-byte .put-byte .kept .0, at-put-word .put-word .ensures .next, at-put-word .put-word .kept .0, digits-length 20 (s .args .number), digits-length 20 (s .args .detail), s .pre)
+    omega (
+      arith,
+      at-put-byte2 .put-byte2 .ensures .next,
+      at-put-byte2 .put-byte2 .kept .0,
+      at-put-digits .put-digits .ensures .next,
+      at-put-digits .put-digits .kept .0,
+      at-put-byte .put-byte .ensures .next,
+      at-put-byte .put-byte .kept .0,
+      at-put-word .put-word .ensures .next,
+      at-put-word .put-word .kept .0,
+      digits-length 20 (s .args .number),
+      digits-length 20 (s .args .detail),
+      s .pre,
+    )
 
 put-byte-requires-3 : tie.Need-put-byte-requires-3
 put-byte-requires-3 c κs =
@@ -56,7 +69,22 @@ put-byte-requires-3 c κs =
     let at-put-digits = c .before .before .before .before .before .before .before .before .before .before .before in
     let at-put-byte2 = c .before .before .before .before .before .before .before in
     let at-put-digits2 = c .before .before .before in
-    omega (arith, at-put-digits2 .put-digits2 .ensures .next, at-put-digits2 .put-digits2 .kept .0, at-put-byte2 .put-byte2 .ensures .next, at-put-byte2 .put-byte2 .kept .0, at-put-digits .put-digits .ensures .next, at-put-digits .put-digits .kept .0, at-put-byte .put-byte .ensures .next, at-put-byte .put-byte .kept .0, at-put-word .put-word .ensures .next, at-put-word .put-word .kept .0, digits-length 20 (s .args .number), digits-length 20 (s .args .detail), s .pre)
+    omega (
+      arith,
+      at-put-digits2 .put-digits2 .ensures .next,
+      at-put-digits2 .put-digits2 .kept .0,
+      at-put-byte2 .put-byte2 .ensures .next,
+      at-put-byte2 .put-byte2 .kept .0,
+      at-put-digits .put-digits .ensures .next,
+      at-put-digits .put-digits .kept .0,
+      at-put-byte .put-byte .ensures .next,
+      at-put-byte .put-byte .kept .0,
+      at-put-word .put-word .ensures .next,
+      at-put-word .put-word .kept .0,
+      digits-length 20 (s .args .number),
+      digits-length 20 (s .args .detail),
+      s .pre,
+    )
 
 same-length : tie.Need-same-length
 same-length c = search needs

@@ -24,16 +24,10 @@ loop-holds c = let a = c .before .before .before in (omega arith, a .pre .1 .1 .
 count-line-requires : tie.Need-count-line-requires Inv-loop μ-loop
 count-line-requires c κs =
     let a = c .before .before .before .before .before .before in
-    let at-loop = c .before .before in (
-      a .pre .0,
-      (
-        a .pre .1 .0,
-        (
-          c .before .loop-test .taken,
-          (at-loop .loop .inv .1, plane-low (cells (shotsOf (a .args .edge) (a .args .coords .now))) (a .args .field + 1) (at-loop .loop .y) (a .args .x) (omega (arith, a .pre .0 .valid .field-most)) (omega (arith, a .pre .0 .valid .field-most)) (a .args .t) (a .pre .1 .1 .1) (at-loop .loop .inv .2)),
-        ),
-      ),
-    )
+    let turn = c .before .before .loop in
+    let most = a .pre .0 .valid .field-most in
+    let low = plane-low (cells (shotsOf (a .args .edge) (a .args .coords .now))) (a .args .field + 1) (turn .y) (a .args .x) (omega (arith, most)) (omega (arith, most)) (a .args .t) (a .pre .1 .1 .1) (turn .inv .2) in
+    (a .pre .0, (a .pre .1 .0, (c .before .loop-test .taken, (turn .inv .1, low))))
 
 add-y : tie.Need-add-y Inv-loop μ-loop
 add-y c = search needs
