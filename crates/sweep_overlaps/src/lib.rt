@@ -6,7 +6,7 @@
 //
 // specs/Overlaps.antt says which cells these are. Stands on `lattice` and `sweep_image`.
 ghost use mathlib.Core.Path.{_≡_};
-ghost use Prim.Native.Nat.{_+_, _*_, _≤_, min, max};
+ghost use Prim.Native.Nat.{_+_, _-_, _*_, _≤_, min, max};
 ghost use lib.ListN.{length};
 ghost use Rattle.lattice.specs.Boxes.{boxAt};
 ghost use Rattle.sweep_image.specs.Images.{RectIn};
@@ -160,9 +160,11 @@ pub fn part(r: Rect, core: Rect, side: u16) -> Rect
     }
 }
 
-// The fuel that is left when the boxes from one number up to another were asked: fuel bounds how many boxes a carving may ask.
+// The fuel that is left when the boxes from one number up to another were asked: fuel bounds how many boxes a carving may ask. None is left
+// where they were as many as it was for, or more.
 pub fn fuel_left(fuel: usize, from: usize, place: usize) -> usize
     requires { ⌜ from ≤ place ⌝ }
+    ensures { λ r. ⌜ r ≡ fuel - (place - from + 1) ⌝ }
 {
     let spent = place - from;
     if fuel <= spent {
