@@ -128,12 +128,6 @@ module _ (field : ℕ) (boxes : List ℕ) (x from old n : ℕ) (a : About field 
   pub rect-in : (q : ℕ) (r : Rect) → q < n → r ≡ rectOf (boxAt boxes q) → (r .high ≤ field) × (r .to ≤ field)
   rect-in q r l e = (subst (λ (s : Rect). s .high ≤ field) (sym e) (a .known .inside q l .y-in), subst (λ (s : Rect). s .to ≤ field) (sym e) (a .known .inside q l .z-in))
 
-  pub rect-small : (q : ℕ) (r : Rect) → q < n → field ≤ 1024 → r ≡ rectOf (boxAt boxes q) → (r .high ≤ 1024) × (r .to ≤ 1024)
-  rect-small q r l h e = let i = rect-in q r l e in (omega (arith, i .0), omega (arith, i .1))
-
-  pub place-in : (q : ℕ) → q < n → 6 * q + 6 ≤ length boxes
-  place-in q l = omega (arith, a .known .there)
-
   pub released-face : (q : ℕ) (r : Rect) {u u' : List ℕ} → r ≡ rectOf (boxAt boxes q) → boxAt boxes q .x-end ≡ x → Carved field boxes x from old r u u'
       → Becomes field (released boxes x old q) (released boxes x old (q + 1)) u u'
   released-face q r {u} {u'} er e k = record {

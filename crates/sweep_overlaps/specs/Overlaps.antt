@@ -38,6 +38,10 @@ pub record FirstBoxes (field : ℕ) (boxes : List ℕ) (n : ℕ) : Type 0 where
 abbrev pub emptyRect : Rect → Bool
 emptyRect r = leb (r .high) (r .low) || leb (r .to) (r .from)
 
+-- how many cells it has
+abbrev pub sizeOf : Rect → ℕ
+sizeOf r = (r .high - r .low) * (r .to - r .from)
+
 -- four numbers as one, sixteen bits each
 abbrev pub fourOf : ℕ → ℕ → ℕ → ℕ → ℕ
 fourOf a b c d = ((d * 65536 + c) * 65536 + b) * 65536 + a
