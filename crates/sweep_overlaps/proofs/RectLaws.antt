@@ -121,7 +121,7 @@ has-meets t x r y z h past k =
 -- ---- the cells that two rectangles share
 
 module _ (r s : Rect) (y z : ℕ) where
-  pub shared-has : Has (sharedRect r s) y z → Has r y z × Has s y z
+  shared-has : Has (sharedRect r s) y z → Has r y z × Has s y z
   shared-has h =
       let low : max (r .low) (s .low) < y = h .low in
       let high : y ≤ min (r .high) (s .high) = h .high in
@@ -131,7 +131,7 @@ module _ (r s : Rect) (y z : ℕ) where
         record { low = omega (arith, low); high = omega (arith, high); from = omega (arith, from); to = omega (arith, to) },
       )
 
-  pub has-shared : Has r y z → Has s y z → Has (sharedRect r s) y z
+  has-shared : Has r y z → Has s y z → Has (sharedRect r s) y z
   has-shared h k =
       record {
         low = omega (arith, h .low, k .low);
