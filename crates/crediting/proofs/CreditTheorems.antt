@@ -32,10 +32,9 @@ use Rattle.ground.proofs.Bits.{bit-none}
 use Rattle.grid_cover.specs.Cover.{isSome, names, lowestCovering}
 use Rattle.grid_cover.proofs.CoverRuns.{lowest-covers}
 use Rattle.grid_cover.proofs.LowestLaws.{lowest-shot, lowest-covering, lowest-least}
-use Rattle.measure_intake.specs.Intake.{solid, workAfter, MeasureAccepts}
+use Rattle.measure_intake.specs.Intake.{solid, MeasureAccepts}
 use Rattle.measure_intake.specs.declared.Measured.the-variants.{Quote}
-use Rattle.measure_intake.proofs.Refused.{measure-decides}
-use Rattle.crediting.proofs.Refused.{credit-decides}
+use Rattle.crediting.proofs.Refused.{credit-decides, credit-work-done}
 use Rattle.crediting.proofs.FieldLaws.{credits-long}
 use Rattle.measure.specs.Answers.{ListCall}
 use Rattle.measure.specs.Agreement.{SameCells, Among}
@@ -89,12 +88,7 @@ module _ {job : Job} {work credits work' credits' : List ℕ} (call : CreditCall
 
   -- the list is valid, and the work slice holds the index
   pub credit-holds : Holds job work'
-  unfolding workAfter
-  credit-holds = record {
-    valid = passed .0;
-    rest = drop (length (indexOf job)) work;
-    is = call .index ∙ ap (λ c. ifAccepted c (λ r. work) (inFront (indexOf job) work)) (measure-decides job (length work) .accepted .1 passed);
-  }
+  credit-holds = record { valid = passed .0; rest = drop (length (indexOf job)) work; is = credit-work-done call passed }
 
   pub credits-are : credits' ≡ inFront (creditsOf F E coords) credits
   unfolding creditsAfter
