@@ -1,5 +1,5 @@
 -- Condition 1 of each call, from what the call promises. Assumes nothing.
-use mathlib.Core.Path.{_≡_, sym, _∙_, ap}
+use mathlib.Core.Path.{_∙_, ap}
 use mathlib.Core.List.{List}
 use Prim.Native.Nat.{ℕ}
 use lib.ListN.{length}
@@ -15,7 +15,7 @@ use Rattle.measure.specs.Answers.{listingAfter, ListCall}
 use Rattle.measure.proofs.Refused.{list-decides, list-accepts, list-refuses, list-refused-keeps, list-work-kept, list-work-done}
 use Rattle.crediting.specs.Credits.{creditsOf, creditsAfter, CreditCall}
 use Rattle.crediting.proofs.Refused.{credit-decides, credit-accepts, credit-refuses, credit-refused-keeps, credit-work-kept, credit-work-done}
-use Rattle.shotfile_reader.specs.Files.{File, file, refused, fileIn}
+use Rattle.shotfile_reader.specs.Files.{File, file, refused}
 use Rattle.shotfile_reader.specs.Calls.{readCoords, ReadCall}
 use Rattle.shotfile_reader.specs.declared.ReadAnswer.{ReadAnswer}
 use Rattle.shotfile_reader.proofs.Accepted.{refused-file}
@@ -27,6 +27,7 @@ use Rattle.shotfile_writer.proofs.Conditions.{write-accepts, write-refuses}
 use Rattle.shotfile_writer.proofs.Writing.{write-decides}
 use Rattle.vox.specs.Vox.{voxJob, voxIn, VoxCall}
 use Rattle.vox.proofs.Conditions.{vox-decides, vox-accepts, vox-refuses}
+use Rattle.vox.proofs.FileOrder.{vox-first}
 use Rattle.acceptance.specs.Condition1.{MeasureAnswered, ListAnswered, CreditAnswered, WriteAnswered, ReadAnswered, VoxAnswered}
 
 -- ---- lists
@@ -91,8 +92,8 @@ vox-answered {bytes} {coords} call =
     let left : Checked → List ℕ = λ c. readCoords (ifAccepted c refused (file (voxJob bytes))) coords in
     record {
       accepts = vox-accepts call;
-      refuses = vox-refuses call;
+      refuses = vox-first call;
       numbers = call .numbers;
       stores = λ h. call .coordinates ∙ ap left (vox-decides (shotCount coords) bytes .accepted .1 h);
-      keeps = λ q h. call .coordinates ∙ ap left (vox-decides (shotCount coords) bytes .refused q .1 h);
+      keeps = λ q h. call .coordinates ∙ ap left (vox-decides (shotCount coords) bytes .refused q .1 (vox-refuses call q .0 (vox-first call q .1 h)));
     }

@@ -23,7 +23,7 @@ use Rattle.measure.proofs.Refused.{listing-fits, list-accepts, list-refuses}
 use Rattle.acceptance.specs.Condition3.{TotalsAgree, CornersListed, CellsCompared}
 use Rattle.acceptance.specs.Comparing.{Fits, compareBytes, comparison}
 use Rattle.acceptance.specs.declared.condition_3.Compared.{Compared}
-use Rattle.acceptance.specs.declared.condition_3.Compared.the-variants.{Same, Different, Refused}
+use Rattle.acceptance.specs.declared.condition_3.Compared.the-variants.{Same, Refused}
 
 -- ---- one list
 pub totals-agree : {job : Job} {work work' : List ℕ} {r : Measured} → MeasureCall job work r work' → TotalsAgree job r

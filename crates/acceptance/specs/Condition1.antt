@@ -8,7 +8,6 @@ use lib.ListN.{length}
 use Rattle.buffer.specs.Wrote.{inFront}
 use Rattle.refusals.specs.Refusals.{checkedNumbers}
 use Rattle.refusals.specs.Tests.{firstNumbers}
-use Rattle.refusals.specs.Deciding.{First}
 use Rattle.refusals.specs.declared.Refusal.{Refusal}
 use Rattle.refusals.specs.declared.Checked.{Checked}
 use Rattle.refusals.specs.declared.Checked.the-variants.{Accepted, Refused}
@@ -16,7 +15,7 @@ use Rattle.job.specs.Job.{Job, shotCount}
 use Rattle.grid.specs.Grid.{indexOf}
 use Rattle.lattice.specs.Listing.{listing}
 use Rattle.lattice_sums.specs.declared.sums.Totals.{Totals}
-use Rattle.measure_intake.specs.Intake.{solid, measuredNumbers, measureTests, measureNumbers, MeasureAccepts, MeasureRefuses}
+use Rattle.measure_intake.specs.Intake.{solid, measuredNumbers, measureNumbers, MeasureAccepts, MeasureRefuses}
 use Rattle.measure_intake.specs.declared.Measured.{Measured}
 use Rattle.measure_intake.specs.declared.Measured.the-variants.{Quote, Refused as Unmeasured}
 use Rattle.measure.specs.Answers.{listNumbers, ListAccepts, ListRefuses}
@@ -32,8 +31,9 @@ use Rattle.shotfile_writer.specs.Conditions.{WriteAccepts, WriteRefuses}
 use Rattle.shotfile_writer.specs.declared.WriteAnswer.{WriteAnswer}
 use Rattle.shotfile_writer.specs.declared.WriteAnswer.the-variants.{Written, Refused as Unwritten}
 use Rattle.vox_voxels.specs.Voxels.{largestSide}
-use Rattle.vox.specs.Vox.{voxelCount, voxTests, voxels, voxIn}
+use Rattle.vox.specs.Vox.{voxelCount, voxels, voxIn}
 use Rattle.vox.specs.Conditions.{VoxCondition}
+use Rattle.vox.specs.FileOrder.{FirstInFile}
 
 -- ---- lists
 -- measuring, and counting again
@@ -88,12 +88,12 @@ pub record ReadAnswered (bytes coords : List ℕ) (r : ReadAnswer) (coords' : Li
   pub stores : (job : Job) → fileIn (shotCount coords) bytes ≡ file job → coords' ≡ inFront job.coords coords
   pub keeps : (q : Refusal) → FirstFault (shotCount coords) bytes q → coords' ≡ coords
 
--- reading a VOX file: no condition holds, or one that no test before it has, in file order
+-- reading a VOX file: no condition holds, or the first in file order
 abbrev pub VoxAccepts : ℕ → List ℕ → Type 0
 VoxAccepts places bytes = (q : Refusal) → ¬ VoxCondition places bytes q
 
 abbrev pub VoxRefuses : ℕ → List ℕ → Refusal → Type 0
-VoxRefuses places bytes = First (VoxCondition places bytes) (voxTests places bytes)
+VoxRefuses places bytes = FirstInFile (VoxCondition places bytes)
 
 pub record VoxAnswered (bytes coords : List ℕ) (r : ReadAnswer) (coords' : List ℕ) : Type 0 where
   pub accepts : (r ≡ Read (largestSide bytes) 1 1 (voxelCount bytes)) ↔ VoxAccepts (shotCount coords) bytes

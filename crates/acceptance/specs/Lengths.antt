@@ -1,7 +1,7 @@
 -- Request (v): edge length counts unit edges with one covered cell, and twice those with two that touch only there; inner length counts those
 -- with three; each is the sum of its own point weights too. docs/SCOPE.md, 'Cells and totals' and 'Corner points'.
 use mathlib.Core.Path.{_≡_}
-use Prim.Native.Nat.{ℕ, _+_}
+use Prim.Native.Nat.{_+_}
 use Rattle.lattice.specs.Cells.{edgeLength, innerLength, lengthBy, eitherEdge}
 use Rattle.lattice.specs.Figures.{EdgeLength, InnerLength, term}
 use Rattle.lattice.specs.Listing.{corners, cornerSum}

@@ -1,4 +1,5 @@
-// Requests (iii) and (iv), of the cover test: in the run of an index it names the lowest covering shot of the list, or says none.
+// Requests (iii) and (iv), of the cover test: it names the first covering shot of the run that it is given, in that of an index the lowest of
+// the list, or says none.
 ghost use mathlib.Core.Bool.{_||_};
 ghost use Prim.Native.Nat.{_+_, _*_, _/_, _≤_};
 ghost use lib.Dec.{leb};
@@ -7,10 +8,17 @@ ghost use lib.ListN.{length};
 ghost use Rattle.job.specs.Job.{jobOf};
 ghost use Rattle.grid.specs.Grid.{Holds, holding};
 ghost use Rattle.grid_cover.specs.Cover.{lowestCovering, coveringOf};
-ghost use Rattle.acceptance.specs.CoverTest.{InField, Covered};
+ghost use Rattle.acceptance.specs.CoverTest.{FirstNamed, InField, Covered};
 use grid::intervals::cells_of;
 use grid_cover::Covering;
 use refusals::Checked;
+
+// Asks about the cell (i, j, k) with any run.
+pub fn first_covering(coords: &[u16], edge: u16, run: &[u32], i: u16, j: u16, k: u16) -> Covering
+    ensures { λ r. ⌜ FirstNamed edge (now (coords .entry)) (now (run .entry)) i j k r ⌝ }
+{
+    grid_cover::first_covering(coords, edge, run, i, j, k)
+}
 
 // The number of a grid cell, from that of its row or slab and the interval of width `width` that holds a cell of the next axis.
 fn numbered(high: usize, grid: u16, cell: u16, width: u16) -> usize

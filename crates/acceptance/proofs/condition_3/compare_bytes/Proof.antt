@@ -1,5 +1,5 @@
 -- The answer of the byte comparison.
-use mathlib.Core.Path.{sym, ap, _∙_}
+use mathlib.Core.Path.{sym, _∙_}
 use Rattle.acceptance.proofs.Condition3.{bytes-compared}
 use borrow.Author.Needs.{needs}
 use Rattle.acceptance.proofs.condition_3.compare_bytes.Statement.{statement}

@@ -2,7 +2,7 @@
 use mathlib.Core.Path.{_∙_, ap}
 use Rattle.grid_cover.specs.Cover.{coveringOf}
 use Rattle.grid.proofs.ShotLaws.{width-least}
-use Rattle.acceptance.proofs.Requests.{run-there, run-names-lowest}
+use Rattle.acceptance.proofs.CoverTest.{run-there, run-names-lowest}
 use borrow.Author.Needs.{needs}
 use Rattle.acceptance.proofs.cover_test.covering.Statement.{statement}
 use Rattle.acceptance.proofs.cover_test.covering.Tie as tie

@@ -1,6 +1,6 @@
 -- A refused list and a cell outside are not asked about.
 use mathlib.Core.Path.{sym, _∙_}
-use Rattle.acceptance.proofs.Requests.{unasked, outside-unasked, inside-field, covered-lowest}
+use Rattle.acceptance.proofs.CoverTest.{unasked, outside-unasked, inside-field, covered-lowest}
 use Rattle.measure_intake.proofs.IntakeLaws.{accepted-holds}
 use borrow.Author.Needs.{needs}
 use Rattle.acceptance.proofs.cover_test.lowest_covering.Statement.{statement}

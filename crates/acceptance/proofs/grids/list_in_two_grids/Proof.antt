@@ -1,5 +1,5 @@
 -- One list, two grids.
-use Rattle.acceptance.proofs.Requests.{listed-alike}
+use Rattle.acceptance.proofs.GridLaws.{listed-alike}
 use borrow.Author.Needs.{needs}
 use Rattle.acceptance.proofs.grids.list_in_two_grids.Statement.{statement}
 use Rattle.acceptance.proofs.grids.list_in_two_grids.Tie as tie
