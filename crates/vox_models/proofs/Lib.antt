@@ -1,0 +1,1 @@
+pub mod Walk  -- chunk after chunk, up to a model
