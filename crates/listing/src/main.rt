@@ -15,7 +15,7 @@ fn print_listing(bytes: &[u8], buffer: &mut [u8]) {
             let n = 7 * corners;
             output::write_text(b"listing", &buffer[..n]);
         }
-        Measured::Refused(refusal) => output::say_refusal(refusal),
+        Measured::Refused(refusal) => output::say_refusal(b"listing", refusal),
     }
 }
 

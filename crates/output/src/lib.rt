@@ -1,6 +1,6 @@
-// What a program writes: its text on standard output, and on standard error one line where something is in the way. Nothing comes back and
-// nothing is lent, and no contract can say what a system call writes. Stands on `text_wording`, which has the refusals in words, and on the
-// kit's `libc` and `io`.
+// What a program writes: its text on standard output, and on standard error a line, which begins with the program's name, where something is in
+// the way. Nothing is lent that they fill, and no contract can say what a system call writes. Stands on `text_wording`, which
+// has the refusals in words, and on the kit's `libc` and `io`.
 use libc::STDERR_FILENO;
 use libc::STDOUT_FILENO;
 use refusals::Refusal;
@@ -16,7 +16,7 @@ pub fn say_unreadable(program: &[u8]) {
     say(b": standard input cannot be read\n");
 }
 
-// Writes the text of a program, or says that it cannot be written.
+// Writes the text of a program, or says that it cannot be written, or not all of it.
 pub fn write_text(program: &[u8], text: &[u8]) {
     if io::write_all(STDOUT_FILENO, text) {
         return;
@@ -26,9 +26,10 @@ pub fn write_text(program: &[u8], text: &[u8]) {
 }
 
 // Says the number and the detail of a refusal, and its sentence.
-pub fn say_refusal(refusal: Refusal) {
+pub fn say_refusal(program: &[u8], refusal: Refusal) {
     let told = refusals::notice_of(refusal);
-    say(b"refused ");
+    say(program);
+    say(b": refused ");
     io::print_decimal(STDERR_FILENO, told.number as u64);
     say(b" ");
     io::print_decimal(STDERR_FILENO, told.detail as u64);
