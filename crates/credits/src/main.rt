@@ -23,6 +23,9 @@ fn print_credits(bytes: &[u8]) {
 }
 
 fn main() {
+    if output::declines_arguments(b"credits") {
+        return;
+    }
     let mut bytes = [0u8; 28680];
     let filled = input::fill(&mut bytes);
     match filled {

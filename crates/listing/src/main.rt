@@ -26,6 +26,9 @@ fn print_with_room(bytes: &[u8]) {
 }
 
 fn main() {
+    if output::declines_arguments(b"listing") {
+        return;
+    }
     let mut bytes = [0u8; 28680];
     let filled = input::fill(&mut bytes);
     match filled {

@@ -12,6 +12,9 @@ fn print_quote(bytes: &[u8]) {
 }
 
 fn main() {
+    if output::declines_arguments(b"quote") {
+        return;
+    }
     let mut bytes = [0u8; 28680];
     let filled = input::fill(&mut bytes);
     match filled {

@@ -27,6 +27,9 @@ fn quote_input(buffer: &mut [u8]) {
 }
 
 fn main() {
+    if output::declines_arguments(b"quote_vox") {
+        return;
+    }
     let mut buffer = [0u8; 1048576];
     quote_input(&mut buffer);
 }

@@ -13,6 +13,9 @@ fn print_recount(bytes: &[u8]) {
 }
 
 fn main() {
+    if output::declines_arguments(b"recount") {
+        return;
+    }
     let mut bytes = [0u8; 28680];
     let filled = input::fill(&mut bytes);
     match filled {

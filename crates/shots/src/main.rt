@@ -20,6 +20,9 @@ fn print_text(bytes: &[u8]) {
 }
 
 fn main() {
+    if output::declines_arguments(b"shots") {
+        return;
+    }
     let mut bytes = [0u8; 28680];
     let filled = input::fill(&mut bytes);
     match filled {

@@ -63,6 +63,9 @@ fn write_text(text: &[u8]) {
 }
 
 fn main() {
+    if output::declines_arguments(b"write_shots") {
+        return;
+    }
     let mut text = [0u8; 262144];
     let filled = input::fill(&mut text);
     match filled {
