@@ -1,5 +1,5 @@
 // What a program writes: its text on standard output, and on standard error a line, which begins with the program's name, where something is in
-// the way. Nothing is lent that they fill, and no contract can say what a system call writes. Stands on `text_wording`, which
+// the way or to be noted. Nothing is lent that they fill, and no contract can say what a system call writes. Stands on `text_wording`, which
 // has the refusals in words, and on the kit's `libc`, `io` and `os`.
 use libc::STDERR_FILENO;
 use libc::STDOUT_FILENO;
@@ -33,6 +33,12 @@ pub fn write_text(program: &[u8], text: &[u8]) {
     }
     say(program);
     say(b": standard output cannot be written\n");
+}
+
+// Notes that a VOX file has further models, which are passed; the answer stands.
+pub fn note_first_model(program: &[u8]) {
+    say(program);
+    say(b": note: the file has further models; only the first is read\n");
 }
 
 // Says the number and the detail of a refusal, and its sentence.
