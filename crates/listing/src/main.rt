@@ -26,13 +26,9 @@ fn print_with_room(bytes: &[u8]) {
 }
 
 fn main() {
-    if output::declines_arguments(b"listing") {
-        return;
-    }
     let mut bytes = [0u8; 28680];
-    let filled = input::fill(&mut bytes);
-    match filled {
-        Filled::Bytes(n) => print_with_room(&bytes[..n]),
-        Filled::Failed => output::say_unreadable(b"listing"),
+    let filled = input::take(b"listing", &mut bytes);
+    if let Filled::Bytes(n) = filled {
+        print_with_room(&bytes[..n]);
     }
 }

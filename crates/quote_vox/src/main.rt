@@ -24,23 +24,17 @@ fn print_quote(bytes: &[u8]) {
 
 // Fills the buffer from standard input. A full one may lack bytes of the file, so it is not quoted.
 fn quote_input(buffer: &mut [u8]) {
-    let filled = input::fill(buffer);
-    match filled {
-        Filled::Bytes(n) => {
-            if n == buffer.len() {
-                output::say(b"quote_vox: the input has more than 1,048,575 bytes\n");
-            } else {
-                print_quote(&buffer[..n]);
-            }
-        }
-        Filled::Failed => output::say_unreadable(b"quote_vox"),
+    let filled = input::take_whole(
+        b"quote_vox",
+        buffer,
+        b": the input has more than 1,048,575 bytes\n",
+    );
+    if let Filled::Bytes(n) = filled {
+        print_quote(&buffer[..n]);
     }
 }
 
 fn main() {
-    if output::declines_arguments(b"quote_vox") {
-        return;
-    }
     let mut buffer = [0u8; 1048576];
     quote_input(&mut buffer);
 }

@@ -22,23 +22,17 @@ fn write_file(bytes: &[u8]) {
 
 // Fills the buffer from standard input. A full one may lack bytes of the file, so it is not written.
 fn write_input(buffer: &mut [u8]) {
-    let filled = input::fill(buffer);
-    match filled {
-        Filled::Bytes(n) => {
-            if n == buffer.len() {
-                output::say(b"vox_shots: the input has more than 1,048,575 bytes\n");
-            } else {
-                write_file(&buffer[..n]);
-            }
-        }
-        Filled::Failed => output::say_unreadable(b"vox_shots"),
+    let filled = input::take_whole(
+        b"vox_shots",
+        buffer,
+        b": the input has more than 1,048,575 bytes\n",
+    );
+    if let Filled::Bytes(n) = filled {
+        write_file(&buffer[..n]);
     }
 }
 
 fn main() {
-    if output::declines_arguments(b"vox_shots") {
-        return;
-    }
     let mut buffer = [0u8; 1048576];
     write_input(&mut buffer);
 }

@@ -63,19 +63,13 @@ fn write_text(text: &[u8]) {
 }
 
 fn main() {
-    if output::declines_arguments(b"write_shots") {
-        return;
-    }
     let mut text = [0u8; 262144];
-    let filled = input::fill(&mut text);
-    match filled {
-        Filled::Bytes(n) => {
-            if n == 262144 {
-                say(b"write_shots: the text is longer than 262,143 bytes\n");
-            } else {
-                write_text(&text[..n]);
-            }
-        }
-        Filled::Failed => output::say_unreadable(b"write_shots"),
+    let filled = input::take_whole(
+        b"write_shots",
+        &mut text,
+        b": the text is longer than 262,143 bytes\n",
+    );
+    if let Filled::Bytes(n) = filled {
+        write_text(&text[..n]);
     }
 }

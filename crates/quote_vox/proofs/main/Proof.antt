@@ -6,29 +6,14 @@ use borrow.Author.Needs.{needs}
 use Rattle.quote_vox.proofs.main.Statement.{statement}
 use Rattle.quote_vox.proofs.main.Tie as tie
 
-slice-aggregate-declines-arguments : tie.Need-slice-aggregate-declines-arguments
-slice-aggregate-declines-arguments c = search needs
-
-declines-arguments-requires : tie.Need-declines-arguments-requires
-declines-arguments-requires c κs = search needs
-
-returns : tie.Need-returns
-returns c = search needs
-
 slice-aggregate-quote-input : tie.Need-slice-aggregate-quote-input
 slice-aggregate-quote-input c = sym (length-replicate {0} {A = ℕ} 1048576 0)
 
 quote-input-requires : tie.Need-quote-input-requires
 quote-input-requires c κs = search needs
 
-returns-2 : tie.Need-returns-2
-returns-2 c = search needs
+returns : tie.Need-returns
+returns c = search needs
 
 pub main-spec : {M : Type 1} → statement M
-main-spec =
-    tie.close
-    (tie.spec
-    slice-aggregate-declines-arguments
-    declines-arguments-requires
-    returns
-    slice-aggregate-quote-input quote-input-requires returns-2)
+main-spec = tie.close (tie.spec slice-aggregate-quote-input quote-input-requires returns)
