@@ -16,6 +16,6 @@ modelWithin (suc most) s at = not (overruns s at) && (stands s at (text "XYZI") 
 abbrev pub modelFrom : List ℕ → ℕ → Bool
 modelFrom s at = modelWithin (length s) s at
 
--- after the first XYZI, which does not lie in a file that ends before it does
+-- the first XYZI is whole, and some chunk after it is XYZI too
 abbrev pub furtherModel : List ℕ → Bool
 furtherModel s = not (overruns s 44) && modelFrom s (afterChunk s 44)
