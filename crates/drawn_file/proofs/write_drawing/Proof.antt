@@ -30,7 +30,7 @@ returns c =
     let at-read-vox = c .before .before .before .before .before .before .before .before .before .before .before in
     let given = c .before .before .before .before .before .before .before .read .given in
     file-drawn (at-read-vox .read-vox .ensures) (given .0 .0) (given .0 .1 .0) (given .0 .1 .1 .0) (given .0 .1 .1 .1 .0)
-    (given .1) (c .before .before .before .before .first .ensures) (at-read-vox .before .before .before .before .before .pre) (c .before .before .write .ensures)
+    (given .1) (c .before .before .before .before .first .ensures) (c .before .before .write .ensures)
 
 same-length-3 : tie.Need-same-length-3
 same-length-3 c = search needs
