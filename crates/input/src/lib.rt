@@ -1,6 +1,6 @@
 // Standard input into a lent slice, until the slice is full or the input ends. A pipe may deliver in pieces.
-// The only crate of a program that reads; it stands on `output`, by which it says what is in the way, and on the kit's `libc` and `io`, whose
-// contracts on system calls are assumed.
+// The only crate of a program that reads; it stands on `output`, by which it says what is in the way, and on the kit's `libc`, `io` and `os`,
+// whose contracts on calls of C are assumed.
 ghost use lib.ListN.{length};
 ghost use Prim.Native.Nat.{_-_, _≤_};
 ghost use Rattle.input.specs.Filled.{Between};
@@ -43,11 +43,17 @@ pub fn fill(buffer: &mut [u8]) -> Filled
     Filled::Bytes(n)
 }
 
+// Whether the program was started with more words than its name.
+fn has_arguments() -> bool {
+    1 < os::arg_count()
+}
+
 // What a program works on, which is standard input alone. Where it is given arguments, or a read failed, it has said so and works on nothing.
 pub fn take(program: &[u8], buffer: &mut [u8]) -> Filled
     ensures { λ r. ⌜ Between 0 (length (now (buffer .entry))) r ⌝ }
 {
-    if output::declines_arguments(program) {
+    if has_arguments() {
+        output::say_takes_none(program);
         return Filled::Failed;
     }
     let filled = fill(buffer);

@@ -1,6 +1,6 @@
 // What a program writes: its text on standard output, and on standard error a line, which begins with the program's name, where something is in
-// the way or to be noted. Nothing is lent that they fill, and no contract can say what a system call writes. Stands on `text_wording`, which
-// has the refusals in words, and on the kit's `libc`, `io` and `os`.
+// the way or to be noted. Nothing comes back, nothing is lent that they fill, and no contract can say what a system call writes. Stands on
+// `text_wording`, which has the refusals in words, and on the kit's `libc` and `io`.
 use libc::STDERR_FILENO;
 use libc::STDOUT_FILENO;
 use refusals::Refusal;
@@ -16,14 +16,10 @@ pub fn say_unreadable(program: &[u8]) {
     say(b": standard input cannot be read\n");
 }
 
-// Whether a program was given arguments; it takes none, and this is said.
-pub fn declines_arguments(program: &[u8]) -> bool {
-    if os::arg_count() <= 1 {
-        return false;
-    }
+// Says that a program was given arguments.
+pub fn say_takes_none(program: &[u8]) {
     say(program);
     say(b": takes no arguments: it reads standard input\n");
-    true
 }
 
 // Writes the text of a program, or says that it cannot be written, or not all of it.

@@ -6,8 +6,11 @@ use borrow.Author.Needs.{needs}
 use Rattle.input.proofs.take.Statement.{statement}
 use Rattle.input.proofs.take.Tie as tie
 
-declines-arguments-requires : tie.Need-declines-arguments-requires
-declines-arguments-requires c κs = search needs
+has-arguments-requires : tie.Need-has-arguments-requires
+has-arguments-requires c κs = search needs
+
+say-takes-none-requires : tie.Need-say-takes-none-requires
+say-takes-none-requires c κs = search needs
 
 returns : tie.Need-returns
 returns c = search needs
@@ -40,7 +43,8 @@ pub take-spec : {M : Type 1} → statement M
 take-spec =
     tie.close
     (tie.spec
-    declines-arguments-requires
+    has-arguments-requires
+    say-takes-none-requires
     returns
     fill-requires
     enum-known-filled
