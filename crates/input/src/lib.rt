@@ -6,7 +6,7 @@ ghost use Prim.Native.Nat.{_-_, _≤_};
 ghost use Rattle.input.specs.Filled.{Between};
 use libc::STDIN_FILENO;
 
-// How many bytes are there, or that a read failed.
+// How many bytes are there; or that a read failed, or that something else was in the way, which is said.
 pub enum Filled {
     Bytes(usize),
     Failed,

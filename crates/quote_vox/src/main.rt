@@ -10,7 +10,7 @@ fn note(bytes: &[u8]) {
 }
 
 // Prints what is to be printed for a file; the coordinates have places for 4,096 shots. Of an accepted file that is its quote, which begins
-// with the volume.
+// with the volume; a refused one has no note.
 fn print_quote(bytes: &[u8]) {
     let mut coords = [0u16; 12288];
     let mut work = [0u32; 16384];
