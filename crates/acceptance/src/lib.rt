@@ -8,7 +8,7 @@
 // every lent place: `IndexCall` and `MeasureCall` (measure_intake/specs/Intake.antt) of `indexed`, `measure` and `recount`, `ListCall`
 // (measure/specs/Answers.antt) of `list`, `CreditCall` (crediting/specs/Credits.antt) of `credit`, `WriteCall`
 // (shotfile_writer/specs/Calls.antt) of `write`, `ReadCall` (shotfile_reader/specs/Calls.antt) of `read`, `VoxCall` (vox/specs/Vox.antt) of
-// `read_vox`. condition_1 says what they come to. Stands on the calls, and on nothing that is not called.
+// `read_vox`. condition_1 says what they come to. Stands on the calls.
 pub mod condition_1;
 pub mod condition_2;
 pub mod condition_3;
