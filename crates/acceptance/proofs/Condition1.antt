@@ -4,13 +4,16 @@ use mathlib.Core.List.{List}
 use Prim.Native.Nat.{ℕ}
 use lib.ListN.{length}
 use Rattle.buffer.specs.Wrote.{inFront}
-use Rattle.refusals.specs.Tests.{ifAccepted}
+use Rattle.refusals.specs.Tests.{Checks, ifAccepted}
+use Rattle.refusals.proofs.Deciding.{call-accepts, call-refuses}
+use Rattle.job.specs.Checking.{tests}
+use Rattle.job.proofs.Conditions.{job-decides}
 use Rattle.refusals.specs.declared.Checked.{Checked}
 use Rattle.job.specs.Job.{Job, shotCount}
 use Rattle.lattice.specs.Listing.{listing}
-use Rattle.measure_intake.specs.Intake.{solid, MeasureCall}
+use Rattle.measure_intake.specs.Intake.{solid, IndexCall, MeasureCall}
 use Rattle.measure_intake.specs.declared.Measured.{Measured}
-use Rattle.measure_intake.proofs.Refused.{measure-accepts, measure-refuses, work-stored, work-kept}
+use Rattle.measure_intake.proofs.Refused.{index-accepts, index-refuses, measure-accepts, measure-refuses, work-stored, work-kept}
 use Rattle.measure.specs.Answers.{listingAfter, ListCall}
 use Rattle.measure.proofs.Refused.{list-decides, list-accepts, list-refuses, list-refused-keeps, list-work-kept, list-work-done}
 use Rattle.crediting.specs.Credits.{creditsOf, creditsAfter, CreditCall}
@@ -28,9 +31,21 @@ use Rattle.shotfile_writer.proofs.Writing.{write-decides}
 use Rattle.vox.specs.Vox.{voxJob, voxIn, VoxCall}
 use Rattle.vox.proofs.Conditions.{vox-decides, vox-accepts, vox-refuses}
 use Rattle.vox.proofs.FileOrder.{vox-first}
-use Rattle.acceptance.specs.Condition1.{MeasureAnswered, ListAnswered, CreditAnswered, WriteAnswered, ReadAnswered, VoxAnswered}
+use Rattle.acceptance.specs.Condition1.{CheckAnswered, IndexAnswered, MeasureAnswered, ListAnswered, CreditAnswered, WriteAnswered, ReadAnswered, VoxAnswered}
 
 -- ---- lists
+pub check-answered : {job : Job} {r : Checked} → Checks (tests job) r → CheckAnswered job r
+check-answered {job} call = record { accepts = call-accepts (job-decides job) (call .answer); refuses = call-refuses (job-decides job) (call .answer); numbers = call .numbers }
+
+pub index-answered : {job : Job} {work work' : List ℕ} {r : Checked} → IndexCall job work r work' → IndexAnswered job work r work'
+index-answered {job} {work} call = record {
+  accepts = index-accepts call;
+  refuses = index-refuses call;
+  numbers = call .numbers;
+  stores = λ h. call .index ∙ work-stored job work h;
+  keeps = λ q h. call .index ∙ work-kept job work q h;
+}
+
 pub measure-answered : {job : Job} {work work' : List ℕ} {r : Measured} → MeasureCall job work r work' → MeasureAnswered job work r work'
 measure-answered {job} {work} call = record {
   accepts = measure-accepts call;

@@ -8,14 +8,17 @@ use lib.ListN.{length}
 use Rattle.buffer.specs.Wrote.{inFront}
 use Rattle.refusals.specs.Refusals.{checkedNumbers}
 use Rattle.refusals.specs.Tests.{firstNumbers}
+use Rattle.refusals.specs.Deciding.{First}
 use Rattle.refusals.specs.declared.Refusal.{Refusal}
 use Rattle.refusals.specs.declared.Checked.{Checked}
 use Rattle.refusals.specs.declared.Checked.the-variants.{Accepted, Refused}
-use Rattle.job.specs.Job.{Job, shotCount}
+use Rattle.job.specs.Job.{Job, shotCount, Valid}
+use Rattle.job.specs.Checking.{tests}
+use Rattle.job.specs.Conditions.{Condition}
 use Rattle.grid.specs.Grid.{indexOf}
 use Rattle.lattice.specs.Listing.{listing}
 use Rattle.lattice_sums.specs.declared.sums.Totals.{Totals}
-use Rattle.measure_intake.specs.Intake.{solid, measuredNumbers, measureNumbers, MeasureAccepts, MeasureRefuses}
+use Rattle.measure_intake.specs.Intake.{solid, measuredNumbers, measureTests, measureNumbers, MeasureAccepts, MeasureRefuses}
 use Rattle.measure_intake.specs.declared.Measured.{Measured}
 use Rattle.measure_intake.specs.declared.Measured.the-variants.{Quote, Refused as Unmeasured}
 use Rattle.measure.specs.Answers.{listNumbers, ListAccepts, ListRefuses}
@@ -36,14 +39,30 @@ use Rattle.vox.specs.Conditions.{VoxCondition}
 use Rattle.vox.specs.FileOrder.{FirstInFile}
 
 -- ---- lists
+-- checking a list
+pub record CheckAnswered (job : Job) (r : Checked) : Type 0 where
+  -- it is accepted exactly if it is valid; a refusal is given exactly if it is the first that holds
+  pub accepts : (r ≡ Accepted) ↔ Valid job
+  pub refuses : (q : Refusal) → (r ≡ Refused q) ↔ First (Condition job) (tests job) q
+  -- its number and its detail, or zeros
+  pub numbers : checkedNumbers r ≡ firstNumbers (tests job)
+
+-- making the index
+pub record IndexAnswered (job : Job) (work : List ℕ) (r : Checked) (work' : List ℕ) : Type 0 where
+  pub accepts : (r ≡ Accepted) ↔ MeasureAccepts job (length work)
+  pub refuses : (q : Refusal) → (r ≡ Refused q) ↔ MeasureRefuses job (length work) q
+  pub numbers : checkedNumbers r ≡ firstNumbers (measureTests job (length work))
+  -- the work slice: the index in front, or as it was
+  pub stores : MeasureAccepts job (length work) → work' ≡ inFront (indexOf job) work
+  pub keeps : (q : Refusal) → MeasureRefuses job (length work) q → work' ≡ work
+
 -- measuring, and counting again
 pub record MeasureAnswered (job : Job) (work : List ℕ) (r : Measured) (work' : List ℕ) : Type 0 where
-  -- totals are given exactly if the list is valid and the work slice has what is needed; a refusal exactly if it is the first that holds
+  -- totals are given exactly if the list is valid and the work slice has what is needed
   pub accepts : ((t : Totals) × (r ≡ Quote t)) ↔ MeasureAccepts job (length work)
   pub refuses : (q : Refusal) → (r ≡ Unmeasured q) ↔ MeasureRefuses job (length work) q
-  -- its number and its detail with zeros, or zeros with the totals
+  -- the refusal's number and detail with zeros, or zeros with the totals
   pub numbers : measuredNumbers r ≡ measureNumbers job (length work)
-  -- the work slice: the index in front, or as it was
   pub stores : MeasureAccepts job (length work) → work' ≡ inFront (indexOf job) work
   pub keeps : (q : Refusal) → MeasureRefuses job (length work) q → work' ≡ work
 

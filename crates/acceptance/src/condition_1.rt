@@ -1,13 +1,27 @@
 // Condition 1: handed any numbers, bytes and slices, a call accepts or names its refusal from the published list, exactly where that
 // refusal's condition is the first to hold, and leaves each lent buffer in the stated state.
 ghost use Rattle.job.specs.Job.{jobOf};
-ghost use Rattle.acceptance.specs.Condition1.{MeasureAnswered, ListAnswered, CreditAnswered, WriteAnswered, ReadAnswered, VoxAnswered};
+ghost use Rattle.acceptance.specs.Condition1.{CheckAnswered, IndexAnswered, MeasureAnswered, ListAnswered, CreditAnswered, WriteAnswered, ReadAnswered, VoxAnswered};
 use measure_intake::Measured;
 use refusals::Checked;
 use shotfile_reader::ReadAnswer;
 use shotfile_writer::WriteAnswer;
 
-// Measuring: refusals 1, 2 and 6 to 10.
+// Checking a list: refusals 1, 2 and 6 to 9.
+pub fn check(field: u16, edge: u16, grid: u16, coords: &[u16]) -> Checked
+    ensures { λ r. ⌜ CheckAnswered (jobOf field edge grid (now (coords .entry))) r ⌝ }
+{
+    job::check(field, edge, grid, coords)
+}
+
+// Making the index: also 10.
+pub fn index(field: u16, edge: u16, grid: u16, coords: &[u16], work: &mut [u32]) -> Checked
+    ensures { λ r. ⌜ IndexAnswered (jobOf field edge grid (now (coords .entry))) (now (work .entry)) r (now (work .exit)) ⌝ }
+{
+    measure_intake::indexed(field, edge, grid, coords, work)
+}
+
+// Measuring: as making the index.
 pub fn measure(field: u16, edge: u16, grid: u16, coords: &[u16], work: &mut [u32]) -> Measured
     ensures { λ r. ⌜ MeasureAnswered (jobOf field edge grid (now (coords .entry))) (now (work .entry)) r (now (work .exit)) ⌝ }
 {

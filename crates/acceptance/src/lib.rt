@@ -5,10 +5,10 @@
 // (iv), lengths for (v).
 //
 // Condition 1, which is of every call, stands in the promises of the calls themselves, a record each, of the answer, of its numbers and of
-// every lent place: `IndexCall` and `MeasureCall` (measure_intake/specs/Intake.antt) of `indexed`, `measure` and `recount`, `ListCall`
-// (measure/specs/Answers.antt) of `list`, `CreditCall` (crediting/specs/Credits.antt) of `credit`, `WriteCall`
-// (shotfile_writer/specs/Calls.antt) of `write`, `ReadCall` (shotfile_reader/specs/Calls.antt) of `read`, `VoxCall` (vox/specs/Vox.antt) of
-// `read_vox`. condition_1 says what they come to. Stands on the calls.
+// every lent place: `Checks` (refusals/specs/Tests.antt) of `check`, `IndexCall` and `MeasureCall` (measure_intake/specs/Intake.antt) of
+// `indexed`, `measure` and `recount`, `ListCall` (measure/specs/Answers.antt) of `list`, `CreditCall` (crediting/specs/Credits.antt) of
+// `credit`, `WriteCall` (shotfile_writer/specs/Calls.antt) of `write`, `ReadCall` (shotfile_reader/specs/Calls.antt) of `read`, `VoxCall`
+// (vox/specs/Vox.antt) of `read_vox`. condition_1 says what they come to. Stands on the calls.
 pub mod condition_1;
 pub mod condition_2;
 pub mod condition_3;
