@@ -1,7 +1,7 @@
 -- Condition 2, from what the calls promise. Assumes nothing.
 use mathlib.Core.Path.{_≡_, sym, _∙_, ap, subst}
 use mathlib.Core.List.{List}
-use Prim.Native.Nat.{ℕ, _/_, _≤_}
+use Prim.Native.Nat.{ℕ, _≤_}
 use native.Mathlib.Omega.{arith}
 use lib.Dec.{T}
 use lib.ListN.{length, take, drop, length-append}
@@ -57,7 +57,7 @@ same-job e = cc
 module _ {bytes coords coords' : List ℕ} {r : ReadAnswer} (read : ReadCall bytes coords r coords') where
   -- the list stands in the coordinate slice
   pub list-there : {F E G n : ℕ} → r ≡ Read F E G n → n ≤ shotCount coords'
-  list-there e = let a = accepted-file read e in omega (arith, a .room, ap (λ l. l / 3) (a .same-length))
+  list-there e = let a = accepted-file read e in omega (arith, a .room, a .same-length)
 
   pub write-back : {F E G n : ℕ} {list out out' : List ℕ} {w : WriteAnswer} → r ≡ Read F E G n → list ≡ firstShots n coords' → WriteCall (jobOf F E G list) out w out' → ReadAndWritten bytes coords out w out'
   write-back {F} {E} {G} {n} {list} {out} {out'} {w} e is wrote job valid s room =
