@@ -2,7 +2,7 @@
 -- exactly if no condition holds. The statements are of the call, by what it promises. Assumes nothing.
 use mathlib.Core.Path.{_≡_, refl, sym, ap, subst, _∙_}
 use mathlib.Core.Bool.{Bool, true, false, not, _||_}
-use mathlib.Core.List.{List}
+use mathlib.Core.List.{List, [], _∷_, _++_}
 use mathlib.Core.Logic.{_↔_, _⊎_}
 use Prim.Native.Nat.{ℕ, _+_, _≤_, _<_}
 use native.Mathlib.Omega.{arith}
@@ -30,7 +30,7 @@ use Rattle.vox_voxels.specs.Voxels.{sideOn, wrongSide, largestSide, voxelAt}
 use Rattle.vox.specs.Vox.{unmarked, unfilled, voxelCount, overrunFrom, openingTests, voxelTests, voxTests, voxIn, VoxCall}
 use Rattle.vox.specs.Conditions.{Named, NoChunk, Required, main, size, xyzi, no-mark, no-chunk, Misfits, Sized, size-content, xyzi-content, BrokenAt, main-broken, misfit, later-broken, WrongSide, wrong-side, wrong-voxel, VoxCondition, not-vox, broken-chunk, voxel-range, too-many-shots, no-place}
 use Rattle.vox.proofs.Passed.{voxels-count, given}
-use Rattle.vox.proofs.Faults.{firstFault, right-before, fault-is, afterVoxels, later-past, later-inside, walk-past, stops-broken, later-stops}
+use Rattle.vox.proofs.Faults.{firstFault, fault-is, fault-one, afterVoxels, later-past, later-inside, walk-past, stops-broken, later-stops}
 
 -- ---- the tests in words of numbers
 module _ (s : List ℕ) where
@@ -72,6 +72,19 @@ sized-range xyzi-content = (omega arith, omega arith)
 sized-one : {s : List ℕ} {at a b : ℕ} → Sized s at a → Sized s at b → a ≡ b
 sized-one size-content size-content = refl
 sized-one xyzi-content xyzi-content = refl
+
+-- ---- some test of a list gives this refusal
+pub data Among (q : Refusal) : List Test → Type 0 where
+  here : {t : Test} {ts : List Test} → t .gives ≡ q → Among q (t ∷ ts)
+  there : {t : Test} {ts : List Test} → Among q ts → Among q (t ∷ ts)
+
+among-behind : {q : Refusal} (ts : List Test) {us : List Test} → Among q us → Among q (ts ++ us)
+among-behind [] a = a
+among-behind (t ∷ ts) a = there (among-behind ts a)
+
+none-among : (condition : Refusal → Type 0) {q : Refusal} (ts : List Test) → Each (λ t. ¬ condition (t .gives)) ts → Among q ts → ¬ condition q
+none-among condition (t ∷ ts) n (here e) c = n .0 (subst condition (sym e) c)
+none-among condition (t ∷ ts) n (there a) c = none-among condition ts (n .1) a c
 
 -- ---- each test says the condition of its refusal
 module _ (places : ℕ) (s : List ℕ) where
@@ -181,31 +194,27 @@ module _ (places : ℕ) (s : List ℕ) where
     ),
   )
 
-  -- no condition holds where no test's does
-  none-holds : Each (λ t. ¬ VoxCondition places s (t .gives)) (voxTests places s) → (q : Refusal) → ¬ VoxCondition places s q
+  -- what holds is the condition of a test
+  pub listed : (q : Refusal) → VoxCondition places s q → Among q (voxTests places s)
   unfolding openingTests voxelTests
-  none-holds n q (not-vox (no-mark e p)) = n .0 (not-vox (no-mark refl p))
-  none-holds n q (not-vox (no-chunk main p)) = n .1 .0 (not-vox (no-chunk main p))
-  none-holds n q (broken-chunk (main-broken e p)) = n .1 .1 .0 (broken-chunk (main-broken refl p))
-  none-holds n q (not-vox (no-chunk size p)) = n .1 .1 .1 .0 (not-vox (no-chunk size p))
-  none-holds n q (broken-chunk (misfit size-content p)) = n .1 .1 .1 .1 .0 (broken-chunk (misfit size-content p))
-  none-holds n q (voxel-range (wrong-side e p)) = n .1 .1 .1 .1 .1 .0 (voxel-range (wrong-side refl p))
-  none-holds n q (not-vox (no-chunk xyzi p)) = n .1 .1 .1 .1 .1 .1 .0 (not-vox (no-chunk xyzi p))
-  none-holds n q (broken-chunk (misfit xyzi-content p)) = n .1 .1 .1 .1 .1 .1 .1 .0 (broken-chunk (misfit xyzi-content p))
-  none-holds n q (too-many-shots h) = n .1 .1 .1 .1 .1 .1 .1 .1 .0 (too-many-shots h)
-  none-holds n q (no-place h) = n .1 .1 .1 .1 .1 .1 .1 .1 .1 .0 (no-place h)
-  none-holds n q (voxel-range (wrong-voxel {n = m} e f)) = go (ltb m (firstFault s)) refl
-    where
-      go : (b : Bool) → ltb m (firstFault s) ≡ b → ⊥
-      go true h = right-before s m (ltb-true m (firstFault s) h) (f .is-wrong)
-      go false h = n .1 .1 .1 .1 .1 .1 .1 .1 .1 .1 .0 (voxel-range (wrong-voxel refl (fault-is s (omega (arith, ltb-false m (firstFault s) h, f .is-voxel)))))
-  none-holds n q (broken-chunk (later-broken l p)) = n .1 .1 .1 .1 .1 .1 .1 .1 .1 .1 .1 .0 (broken-chunk (subst (BrokenAt s) (later-stops s l p) (later-broken l p)))
+  listed q (not-vox (no-mark e p)) = here (ap NotVox (sym e))
+  listed q (not-vox (no-chunk main p)) = there (here refl)
+  listed q (broken-chunk (main-broken e p)) = there (there (here (ap BrokenChunk (sym e))))
+  listed q (not-vox (no-chunk size p)) = there (there (there (here refl)))
+  listed q (broken-chunk (misfit size-content p)) = there (there (there (there (here refl))))
+  listed q (voxel-range (wrong-side e p)) = there (there (there (there (there (here (ap VoxelRange (sym e)))))))
+  listed q (not-vox (no-chunk xyzi p)) = among-behind (openingTests s) (here refl)
+  listed q (broken-chunk (misfit xyzi-content p)) = among-behind (openingTests s) (there (here refl))
+  listed q (too-many-shots h) = among-behind (openingTests s) (there (there (here refl)))
+  listed q (no-place h) = among-behind (openingTests s) (there (there (there (here refl))))
+  listed q (voxel-range (wrong-voxel e f)) = among-behind (openingTests s) (there (there (there (there (here (ap (λ n. VoxelRange (voxelAt n)) (sym (fault-one s f)) ∙ ap VoxelRange (sym e)))))))
+  listed q (broken-chunk (later-broken l p)) = among-behind (openingTests s) (there (there (there (there (there (here (ap BrokenChunk (sym (later-stops s l p)))))))))
 
   -- the tests accept exactly if no condition holds, and refuse by the first that does
   pub vox-decides : Decides (voxTests places s) ((q : Refusal) → ¬ VoxCondition places s q) (First (VoxCondition places s) (voxTests places s))
   vox-decides =
       decides-as (decides-by (VoxCondition places s) (voxTests places s) tests-say)
-      (none-holds, λ n. none-each (VoxCondition places s) n (voxTests places s))
+      (λ n q c. none-among (VoxCondition places s) (voxTests places s) n (listed q c) c, λ n. none-each (VoxCondition places s) n (voxTests places s))
       (λ r. (λ f. f, λ f. f))
 
   -- ---- what the file says

@@ -8,7 +8,7 @@ use Prim.Native.Nat.{ℕ, zero, suc, _+_, _≤_, _<_}
 use native.Mathlib.Omega.{arith}
 use lib.Dec.{ltb, eqb}
 use lib.ListN.{length}
-use borrow.Author.Tests.{ltb-true, lt-ltb, le-ltb}
+use borrow.Author.Tests.{ltb-true, ltb-false, lt-ltb, le-ltb}
 use Rattle.ground.proofs.Tests.{leb-says, eqb-says, or-says}
 use Rattle.vox_chunks.specs.Chunks.{afterChunk, overruns}
 use Rattle.vox_voxels.specs.Voxels.{sideOn, voxelAt, byteOf, beyond, wrongVoxel, firstWrong}
@@ -29,11 +29,19 @@ module _ (s : List ℕ) where
   abbrev pub firstFault : ℕ
   firstFault = firstWrong s 0 (voxelCount s)
 
-  pub right-before : (n : ℕ) → n < firstFault → ¬ WrongVoxel s n
+  right-before : (n : ℕ) → n < firstFault → ¬ WrongVoxel s n
   right-before n h w = true≢false (sym (wrong-says n .1 w) ∙ wrong-first s 0 (voxelCount s) (voxelCount s) (omega arith) .earlier n (omega arith) h)
 
   pub fault-is : firstFault < voxelCount s → FirstWrong s firstFault
   fault-is h = record { is-voxel = h; is-wrong = wrong-says firstFault .0 (wrong-first s 0 (voxelCount s) (voxelCount s) (omega arith) .passes h); earlier-right = right-before }
+
+  pub fault-one : {n : ℕ} → FirstWrong s n → n ≡ firstFault
+  fault-one {n} f = go (ltb n firstFault) refl (ltb firstFault n) refl
+    where
+      go : (a : Bool) → ltb n firstFault ≡ a → (b : Bool) → ltb firstFault n ≡ b → n ≡ firstFault
+      go true h b k = absurd (right-before n (ltb-true n firstFault h) (f .is-wrong))
+      go false h true k = absurd (f .earlier-right firstFault (ltb-true firstFault n k) (fault-is (omega (arith, ltb-true firstFault n k, f .is-voxel)) .is-wrong))
+      go false h false k = omega (arith, ltb-false n firstFault h, ltb-false firstFault n k)
 
   -- ---- the chunks after XYZI
   abbrev pub afterVoxels : ℕ

@@ -1,4 +1,5 @@
 pub mod Conditions  -- each refusal is given exactly where it should be
+pub mod FileOrder  -- the tests stand in file order
 pub mod Voxels  -- the cells of an accepted file are its voxels
 pub mod Fits  -- the list has its places
 pub mod Faults  -- what the searches find

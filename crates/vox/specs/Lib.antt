@@ -1,2 +1,3 @@
 pub mod Vox
 pub mod Conditions
+pub mod FileOrder

@@ -51,7 +51,8 @@ firstOverrun (suc most) s at = cond (ltb at (length s) && not (overruns s at)) (
 abbrev pub overrunFrom : List ℕ → ℕ → ℕ
 overrunFrom s at = firstOverrun (length s) s at
 
--- ---- the refusals, in file order; 13 before 14 before 15 on one chunk, and 2 and 3 after 14 on XYZI
+-- ---- the refusals, in file order; 13 before 14 before 15 on one chunk, and 2 and 3 after 14 on XYZI: along the tests the offsets never fall,
+-- a voxel belonging to XYZI, and on one offset the numbers stand in the order 13, 14, 2, 3, 15 (`InFileOrder`, specs/FileOrder.antt)
 unfoldable pub openingTests : List ℕ → List Test
 openingTests s =
     record { holds = unmarked s; gives = NotVox 0 }

@@ -1,8 +1,9 @@
 // Files of the voxel editor MagicaVoxel: `read_vox` takes the bytes of a VOX file to a list of shots of edge 1, a shot a voxel, in file
-// order. docs/SCOPE.md, 'VOX file'. specs/Vox.antt says what a file means and specs/Conditions.antt when it is refused;
-// proofs/Conditions.antt that each refusal is given exactly where it should be, proofs/Voxels.antt that the cells of the list are the
-// voxels, that the list is valid and how long its index is. Stands on `vox_chunks` for the chunks of a file and `vox_voxels` for its sides
-// and voxels, and on `refusals`, `job` and `shotfile_reader`, whose refusals, door to a shot and answer it uses.
+// order. docs/SCOPE.md, 'VOX file'. specs/Vox.antt says what a file means, specs/Conditions.antt when it is refused and specs/FileOrder.antt
+// in which order refusals apply; proofs/Conditions.antt that each refusal is given exactly where it should be, proofs/FileOrder.antt that it
+// is the first in the file, proofs/Voxels.antt that the cells of the list are the voxels, that the list is valid and how long its index is.
+// Stands on `vox_chunks` for the chunks of a file and `vox_voxels` for its sides and voxels, and on `refusals`, `job` and
+// `shotfile_reader`, whose refusals, door to a shot and answer it uses.
 use refusals::Checked;
 use refusals::Refusal;
 use shotfile_reader::ReadAnswer;
