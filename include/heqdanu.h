@@ -7,6 +7,8 @@
  *
  *     cc program.c -Iinclude target/staticlib/libcapi.a -o program
  *
+ * scripts/install puts header and archive, as libheqdanu.a, under a prefix, and heqdanu.pc for pkg-config.
+ *
  * A LIST is five arguments: field side, shot edge, grid size, and the shots' lower corners x, y, z one after another
  * in `coords`, `ncoords` numbers in all. It is accepted where
  *
@@ -24,7 +26,8 @@
  *
  * STACK: heqdanu_measure and heqdanu_list take less than 577 KiB. 337 KiB of it they take in every field; the rest is
  * 480 bytes for each step of edge, or of field - edge where that is less, since they nest. heqdanu_credit takes what
- * stands there, and every other call less than 82 KiB. A thread that calls them needs a stack of that size.
+ * stands there, and every other call less than 82 KiB. A thread that calls them needs a stack of that size: a call
+ * overruns a shorter one, and the process ends by a fault. bench/stack measures these sizes; they are not proved.
  *
  * ANSWERS go to `answer`, so many places of 64 bits as the call needs; HEQDANU_ANSWER are enough for every call:
  *
@@ -41,6 +44,9 @@
 
 #include <stddef.h>
 #include <stdint.h>
+
+/* The version that a contract cites, as the command `heqdanu --version` says it. */
+#define HEQDANU_VERSION "0.5.0"
 
 #ifdef __cplusplus
 extern "C" {
@@ -225,7 +231,11 @@ uint8_t heqdanu_covers(uint16_t edge, const uint16_t *coords, size_t ncoords, co
 uint8_t heqdanu_read(const uint8_t *bytes, size_t nbytes, uint16_t *coords, size_t ncoords, uint64_t *answer,
                      size_t nanswer);
 
-/* Reads a VOX file of the voxel editor MagicaVoxel: each voxel is a shot of edge 1, in file order.
+/* Reads a VOX file, the format of the voxel editor MagicaVoxel: each voxel is a shot of edge 1, in file order.
+ *
+ * What is read is the first model of a file of version 150, of at most 4,096 voxels: further models are skipped, and so
+ * is the scene that places, turns and hides models, so the model is read as it was drawn, also from a hidden layer. A
+ * newer editor's file has another version, and refusal 13 with detail 0 then says no more than that.
  *
  * answer: number, detail, field (the largest side of SIZE), edge 1, grid 1, number of voxels (HEQDANU_READ_ANSWER
  * places). Every such list is accepted by the calls that take one, and its index needs the number of voxels and 2 more

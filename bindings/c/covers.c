@@ -29,6 +29,24 @@ static int usage(void)
     return 2;
 }
 
+/* A place on an axis: a word of decimal digits, below 65,536. Gives 0 for any other word. */
+static int take_place(const char *word, uint16_t *place)
+{
+    uint32_t number = 0;
+
+    if (*word == '\0')
+        return 0;
+    for (; *word != '\0'; word++) {
+        if (*word < '0' || *word > '9')
+            return 0;
+        number = 10 * number + (uint32_t)(*word - '0');
+        if (number > UINT16_MAX)
+            return 0;
+    }
+    *place = (uint16_t)number;
+    return 1;
+}
+
 int main(int argc, char **argv)
 {
     uint64_t answer[HEQDANU_ANSWER];
@@ -36,6 +54,9 @@ int main(int argc, char **argv)
 
     if (argc != 4)
         return usage();
+    for (int axis = 0; axis < 3; axis++)
+        if (!take_place(argv[axis + 1], &cell[axis]))
+            return usage();
     heqdanu_read(file, fread(file, 1, sizeof file, stdin), coords, 12288, answer, HEQDANU_ANSWER);
     expect(HEQDANU_ACCEPTED, answer);
     uint16_t field = (uint16_t)answer[HEQDANU_READ_FIELD];
@@ -54,12 +75,8 @@ int main(int argc, char **argv)
     heqdanu_index(field, edge, grid, coords, ncoords, work, nwork, answer, HEQDANU_ANSWER);
     expect(HEQDANU_ACCEPTED, answer);
 
-    for (int axis = 0; axis < 3; axis++) {
-        long place = strtol(argv[axis + 1], NULL, 10);
-        if (place < 0 || place >= field)
-            return usage();
-        cell[axis] = (uint16_t)place;
-    }
+    if (cell[0] >= field || cell[1] >= field || cell[2] >= field)
+        return usage();
 
     /* The runs stand behind the starting places; a run ends where the next one starts. */
     size_t width = field / grid;

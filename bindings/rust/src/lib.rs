@@ -7,6 +7,10 @@
 //! that the caller lends and allocate nothing; [`quote`], [`corners`], [`credits`], [`from_file`], [`from_vox`] and
 //! [`to_file`] allocate what they need.
 //!
+//! **Stack.** Measuring, listing and crediting nest, and take less than 577 KiB of the calling thread's stack; every
+//! other call takes less than 82 KiB. `include/heqdanu.h` says how much by the list. The standard library's threads
+//! have 2 MiB; in a thread that was made with less than a call takes, the process aborts, though the call is safe.
+//!
 //! ```
 //! use heqdanu::{quote, List, Totals};
 //!
@@ -96,7 +100,8 @@ pub fn list(list: &List, work: &mut [u32], listing: &mut [u8]) -> Result<Totals,
     totals(written, answer)
 }
 
-/// Measures a list once more, cell by cell: slow, for fields up to a few hundred. The same promises as [`measure`].
+/// Measures a list once more, cell by cell: the slow second opinion for a disputed quote, some seconds in the largest
+/// field. The same promises as [`measure`].
 pub fn recount(list: &List, work: &mut [u32]) -> Result<Totals, Refusal> {
     measure_by(raw::heqdanu_recount, list, work)
 }
@@ -212,9 +217,10 @@ pub fn read(bytes: &[u8], coords: &mut [u16]) -> Result<Header, Refusal> {
     read_by(raw::heqdanu_read, bytes, coords)
 }
 
-/// Reads a VOX file of the voxel editor MagicaVoxel. Success stores each voxel as a shot, in file order, in the first
-/// places of `coords`; nothing else changes. The header has the largest side as field, edge 1 and grid 1; every such
-/// list is accepted, and its index needs two work entries more than there are shots.
+/// Reads a VOX file, the format of the voxel editor MagicaVoxel: version 150, and of it the first model, which is not
+/// placed by the scene. Success stores each voxel as a shot, in file order, in the first places of `coords`; nothing
+/// else changes. The header has the largest side as field, edge 1 and grid 1; every such list is accepted, and its
+/// index needs two work entries more than there are shots.
 pub fn read_vox(bytes: &[u8], coords: &mut [u16]) -> Result<Header, Refusal> {
     read_by(raw::heqdanu_read_vox, bytes, coords)
 }

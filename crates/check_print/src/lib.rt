@@ -1,5 +1,6 @@
 // What the check programs print on standard output, in one form: a number after a space, the places of a slice after a semicolon, a
-// refusal. Nothing comes back and nothing is lent, and no contract can say what a system call writes: the programs' stored output does.
+// refusal. Nothing comes back, nothing is lent that they fill, and no contract can say what a system call writes: the programs' stored output
+// does.
 // Stands on `refusals`.
 use refusals::Refusal;
 

@@ -7,7 +7,7 @@ use mathlib.Core.Path.{_≡_, refl, sym, ap, _∙_, subst, fun-ext}
 use mathlib.Core.Bool.{true, false, true≢false}
 use mathlib.Core.Option.{Option, none, some}
 use mathlib.Core.List.{List}
-use Prim.Native.Nat.{ℕ, _*_, _%_, _≤_, _<_}
+use Prim.Native.Nat.{ℕ, _*_, _≤_, _<_}
 use native.Mathlib.Omega.{arith}
 use lib.Dec.{T}
 use lib.ListN.{length, getD, take, drop, List·getD-append}
@@ -21,7 +21,7 @@ use Rattle.lattice.specs.Listing.{listing}
 use Rattle.lattice_sums.specs.CornerSums.{totalsOf}
 use Rattle.lattice_sums.specs.declared.sums.Totals.{Totals}
 use Rattle.ground.proofs.Bools.{bool-ext, is-true, truth}
-use Rattle.job.specs.Job.{withGrid, Job, jobOf, shot, shotCount, Valid}
+use Rattle.job.specs.Job.{withGrid, Job, jobOf, shot, shotCount, placeOf, Valid}
 use Rattle.refusals.specs.declared.Checked.the-variants.{Accepted}
 use Rattle.job.proofs.Conditions.{valid-within}
 use Rattle.job.proofs.Shots.{any-at, at-any, stay-at, stay-all}
@@ -32,10 +32,9 @@ use Rattle.ground.proofs.Bits.{bit-none}
 use Rattle.grid_cover.specs.Cover.{isSome, names, lowestCovering}
 use Rattle.grid_cover.proofs.CoverRuns.{lowest-covers}
 use Rattle.grid_cover.proofs.LowestLaws.{lowest-shot, lowest-covering, lowest-least}
-use Rattle.measure_intake.specs.Intake.{solid, workAfter, MeasureAccepts}
+use Rattle.measure_intake.specs.Intake.{solid, MeasureAccepts}
 use Rattle.measure_intake.specs.declared.Measured.the-variants.{Quote}
-use Rattle.measure_intake.proofs.Refused.{measure-decides}
-use Rattle.crediting.proofs.Refused.{credit-decides}
+use Rattle.crediting.proofs.Refused.{credit-decides, credit-work-done}
 use Rattle.crediting.proofs.FieldLaws.{credits-long}
 use Rattle.measure.specs.Answers.{ListCall}
 use Rattle.measure.specs.Agreement.{SameCells, Among}
@@ -89,12 +88,7 @@ module _ {job : Job} {work credits work' credits' : List ℕ} (call : CreditCall
 
   -- the list is valid, and the work slice holds the index
   pub credit-holds : Holds job work'
-  unfolding workAfter
-  credit-holds = record {
-    valid = passed .0;
-    rest = drop (length (indexOf job)) work;
-    is = call .index ∙ ap (λ c. ifAccepted c (λ r. work) (inFront (indexOf job) work)) (measure-decides job (length work) .accepted .1 passed);
-  }
+  credit-holds = record { valid = passed .0; rest = drop (length (indexOf job)) work; is = credit-work-done call passed }
 
   pub credits-are : credits' ≡ inFront (creditsOf F E coords) credits
   unfolding creditsAfter
@@ -168,11 +162,11 @@ module _ {job : Job} {work credits work' credits' : List ℕ} (call : CreditCall
     kept-cells i j k = bool-ext (solid job i j k) (solid kept i j k) (kept-covers i j k) (covers-kept i j k)
 
     -- and is valid, if its numbers are whole shots and not too many
-    pub kept-valid : length others % 3 ≡ 0 → shotCount others ≤ 4096 → Valid kept
+    pub kept-valid : length others ≡ placeOf (shotCount others) → shotCount others ≤ 4096 → Valid kept
     kept-valid whole few =
         let v = credit-holds .valid in
         record {
-          threes = whole;
+          threes = omega (arith, whole);
           few = few;
           field-least = v .field-least;
           field-most = v .field-most;

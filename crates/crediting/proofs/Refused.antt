@@ -13,8 +13,8 @@ use Rattle.refusals.specs.declared.Checked.the-variants.{Accepted, Refused}
 use Rattle.refusals.specs.Deciding.{Decides}
 use Rattle.refusals.proofs.Deciding.{decides-more, call-accepts, call-refuses}
 use Rattle.grid.specs.Grid.{indexOf}
-use Rattle.measure_intake.specs.Intake.{measureChecked, workAfter}
-use Rattle.measure_intake.proofs.Refused.{measure-decides}
+use Rattle.measure_intake.specs.Intake.{MeasureAccepts, MeasureRefuses}
+use Rattle.measure_intake.proofs.Refused.{measure-decides, work-stored, work-kept}
 use Rattle.crediting.specs.Credits.{creditsOf, creditTests, creditsAfter, CreditCall, CreditAccepts, CreditRefuses}
 use Rattle.buffer.specs.Wrote.{inFront}
 use Rattle.refusals.specs.Tests.{ifAccepted}
@@ -45,10 +45,8 @@ module _ {job : Job} {work credits work' credits' : List ℕ} {c : Checked} (cal
   credit-refused-keeps r e = call .credited ∙ ap (λ c. ifAccepted c (λ r. credits) (inFront (creditsOf job.field job.edge job.coords) credits)) (sym (call .answer) ∙ e)
 
   -- one of measuring leaves the work slice as it was, and 16 leaves the finished index in it
-  pub refused-index-kept : (r : Refusal) → measureChecked job (length work) ≡ Refused r → work' ≡ work
-  unfolding workAfter
-  refused-index-kept r e = call .index ∙ ap (λ c. ifAccepted c (λ r. work) (inFront (indexOf job) work)) e
+  pub credit-work-kept : (r : Refusal) → MeasureRefuses job (length work) r → work' ≡ work
+  credit-work-kept r h = call .index ∙ work-kept job work r h
 
-  pub refused-index-stands : measureChecked job (length work) ≡ Accepted → work' ≡ inFront (indexOf job) work
-  unfolding workAfter
-  refused-index-stands e = call .index ∙ ap (λ c. ifAccepted c (λ r. work) (inFront (indexOf job) work)) e
+  pub credit-work-done : MeasureAccepts job (length work) → work' ≡ inFront (indexOf job) work
+  credit-work-done h = call .index ∙ work-stored job work h

@@ -24,9 +24,8 @@ fn print_credits(bytes: &[u8]) {
 
 fn main() {
     let mut bytes = [0u8; 28680];
-    let filled = input::fill(&mut bytes);
-    match filled {
-        Filled::Bytes(n) => print_credits(&bytes[..n]),
-        Filled::Failed => output::say_unreadable(b"credits"),
+    let filled = input::take(b"credits", &mut bytes);
+    if let Filled::Bytes(n) = filled {
+        print_credits(&bytes[..n]);
     }
 }

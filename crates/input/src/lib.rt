@@ -1,11 +1,12 @@
 // Standard input into a lent slice, until the slice is full or the input ends. A pipe may deliver in pieces.
-// The only crate of a program that reads; it stands on the kit's `libc` and `io`, whose contracts on system calls are assumed.
+// The only crate of a program that reads; it stands on `output`, by which it says what is in the way, and on the kit's `libc`, `io` and `os`,
+// whose contracts on calls of C are assumed.
 ghost use lib.ListN.{length};
-ghost use Prim.Native.Nat.{_≤_};
+ghost use Prim.Native.Nat.{_-_, _≤_};
 ghost use Rattle.input.specs.Filled.{Between};
 use libc::STDIN_FILENO;
 
-// How many bytes are there, or that a read failed.
+// How many bytes are there; or that a read failed, or that something else was in the way, which is said.
 pub enum Filled {
     Bytes(usize),
     Failed,
@@ -38,6 +39,43 @@ pub fn fill(buffer: &mut [u8]) -> Filled
             return Filled::Bytes(n);
         }
         n = m;
+    }
+    Filled::Bytes(n)
+}
+
+// Whether the program was started with more words than its name.
+fn has_arguments() -> bool {
+    1 < os::arg_count()
+}
+
+// What a program works on, which is standard input alone. Where it is given arguments, or a read failed, it has said so and works on nothing.
+pub fn take(program: &[u8], buffer: &mut [u8]) -> Filled
+    ensures { λ r. ⌜ Between 0 (length (now (buffer .entry))) r ⌝ }
+{
+    if has_arguments() {
+        output::say_takes_none(program);
+        return Filled::Failed;
+    }
+    let filled = fill(buffer);
+    let Filled::Bytes(n) = filled else {
+        output::say_unreadable(program);
+        return Filled::Failed;
+    };
+    Filled::Bytes(n)
+}
+
+// The same where a full slice may lack bytes of the input: these words are said of it then.
+pub fn take_whole(program: &[u8], buffer: &mut [u8], too_long: &[u8]) -> Filled
+    ensures { λ r. ⌜ Between 0 (length (now (buffer .entry)) - 1) r ⌝ }
+{
+    let filled = take(program, buffer);
+    let Filled::Bytes(n) = filled else {
+        return Filled::Failed;
+    };
+    if n == buffer.len() {
+        output::say(program);
+        output::say(too_long);
+        return Filled::Failed;
     }
     Filled::Bytes(n)
 }

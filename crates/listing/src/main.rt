@@ -15,7 +15,7 @@ fn print_listing(bytes: &[u8], buffer: &mut [u8]) {
             let n = 7 * corners;
             output::write_text(b"listing", &buffer[..n]);
         }
-        Measured::Refused(refusal) => output::say_refusal(refusal),
+        Measured::Refused(refusal) => output::say_refusal(b"listing", refusal),
     }
 }
 
@@ -27,9 +27,8 @@ fn print_with_room(bytes: &[u8]) {
 
 fn main() {
     let mut bytes = [0u8; 28680];
-    let filled = input::fill(&mut bytes);
-    match filled {
-        Filled::Bytes(n) => print_with_room(&bytes[..n]),
-        Filled::Failed => output::say_unreadable(b"listing"),
+    let filled = input::take(b"listing", &mut bytes);
+    if let Filled::Bytes(n) = filled {
+        print_with_room(&bytes[..n]);
     }
 }

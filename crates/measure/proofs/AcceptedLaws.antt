@@ -12,9 +12,9 @@ use Rattle.job.specs.Job.{Job}
 use Rattle.refusals.specs.declared.Checked.{Checked}
 use Rattle.refusals.specs.declared.Checked.the-variants.{Accepted as Passed}
 use Rattle.grid.specs.Grid.{indexOf, Holds}
-use Rattle.measure_intake.specs.Intake.{solid, measureChecked, measureAnswer, measuredNumbers, numbersAfter, measureNumbers, workAfter, MeasureCall}
+use Rattle.measure_intake.specs.Intake.{solid, measureChecked, measureAnswer, measuredNumbers, numbersAfter, measureNumbers, workAfter, MeasureAccepts, MeasureCall}
 use Rattle.measure_intake.specs.declared.Measured.the-variants.{Quote}
-use Rattle.measure_intake.proofs.Refused.{answer-accepted, measure-decides}
+use Rattle.measure_intake.proofs.Refused.{answer-accepted, measure-decides, work-stored}
 use Rattle.measure.proofs.Refused.{list-decides}
 use Rattle.measure.specs.Answers.{listChecked, listAnswer, listNumbers, listingAfter, ListCall}
 use Rattle.buffer.specs.Wrote.{inFront}
@@ -32,13 +32,8 @@ unfolding measuredNumbers
 passed-totals n s e k = ap (λ m. m .totals) (e ∙ ap (λ c. numbersAfter c n s) k)
 
 -- the work slice that they leave holds the index
-passed-holds : (job : Job) (work : List ℕ) {work' : List ℕ} → work' ≡ workAfter job work → measureChecked job (length work) ≡ Passed → Holds job work'
-unfolding workAfter
-passed-holds job work e k = record {
-  valid = measure-decides job (length work) .accepted .0 k .0;
-  rest = drop (length (indexOf job)) work;
-  is = e ∙ ap (λ c. ifAccepted c (λ r. work) (inFront (indexOf job) work)) k;
-}
+passed-holds : (job : Job) (work : List ℕ) {work' : List ℕ} → work' ≡ workAfter job work → MeasureAccepts job (length work) → Holds job work'
+passed-holds job work e a = record { valid = a .0; rest = drop (length (indexOf job)) work; is = e ∙ work-stored job work a }
 
 pub measure-accepted : {job : Job} {work work' : List ℕ} {t : Totals} → MeasureCall job work (Quote t) work' → Accepted job t work'
 unfolding measureAnswer measureNumbers
@@ -46,7 +41,7 @@ measure-accepted {job} {work} {work'} {t} call =
     let k = answer-accepted (measureChecked job (length work)) job.field (solid job) .0 (t, sym (call .answer)) in
     record {
       totals-are = passed-totals job.field (solid job) (call .numbers) k;
-      holds-index = passed-holds job work (call .index) k;
+      holds-index = passed-holds job work (call .index) (measure-decides job (length work) .accepted .0 k);
     }
 
 module _ {job : Job} {work buffer work' buffer' : List ℕ} {t : Totals} (call : ListCall job work buffer (Quote t) work' buffer') where
@@ -62,7 +57,7 @@ module _ {job : Job} {work buffer work' buffer' : List ℕ} {t : Totals} (call :
       let a = list-decides job (length work) (length buffer) .accepted .0 passed .0 in
       record {
         totals-are = passed-totals F (solid job) (call .numbers) passed;
-        holds-index = passed-holds job work (call .index) (measure-decides job (length work) .accepted .1 a);
+        holds-index = passed-holds job work (call .index) a;
       }
 
   -- what the buffer holds then

@@ -12,12 +12,12 @@ use Rattle.lattice_sums.specs.declared.sums.Totals.{Totals}
 use Rattle.refusals.specs.declared.Refusal.{Refusal}
 use Rattle.refusals.specs.declared.Refusal.the-variants.{ShortListing}
 use Rattle.grid.specs.Grid.{indexOf}
-use Rattle.measure_intake.specs.Intake.{solid, answerOf, workAfter, MeasureAccepts, MeasureRefuses}
+use Rattle.measure_intake.specs.Intake.{solid, answerOf, MeasureAccepts, MeasureRefuses}
 use Rattle.measure_intake.specs.declared.Measured.{Measured}
 use Rattle.measure_intake.specs.declared.Measured.the-variants.{Quote, Refused as Unmeasured}
 use Rattle.refusals.specs.Deciding.{Decides}
 use Rattle.refusals.proofs.Deciding.{decides-more}
-use Rattle.measure_intake.proofs.Refused.{answer-refused, answer-accepted, measure-decides}
+use Rattle.measure_intake.proofs.Refused.{answer-refused, answer-accepted, measure-decides, work-stored, work-kept}
 use Rattle.measure.specs.Answers.{listTests, listChecked, listAnswer, listingAfter, ListCall, ListAccepts, ListRefuses}
 use Rattle.buffer.specs.Wrote.{inFront}
 use Rattle.refusals.specs.Tests.{ifAccepted}
@@ -68,11 +68,7 @@ module _ {job : Job} {work buffer work' buffer' : List ℕ} {m : Measured} (call
 
   -- and the work slice too, but where measuring accepts, as at 11: then it holds the finished index
   pub list-work-kept : (r : Refusal) → MeasureRefuses job (length work) r → work' ≡ work
-  unfolding workAfter
-  list-work-kept r h =
-      call .index ∙ ap (λ c. ifAccepted c (λ r. work) (inFront (indexOf job) work)) (measure-decides job (length work) .refused r .1 h)
+  list-work-kept r h = call .index ∙ work-kept job work r h
 
   pub list-work-done : MeasureAccepts job (length work) → work' ≡ inFront (indexOf job) work
-  unfolding workAfter
-  list-work-done h =
-      call .index ∙ ap (λ c. ifAccepted c (λ r. work) (inFront (indexOf job) work)) (measure-decides job (length work) .accepted .1 h)
+  list-work-done h = call .index ∙ work-stored job work h

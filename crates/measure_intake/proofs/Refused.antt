@@ -44,6 +44,16 @@ pub measure-decides : (job : Job) (entries : ℕ) → Decides (measureTests job 
 unfolding measureTests
 measure-decides job entries = decides-more (job-decides job) entries (need job) (ShortWork (need job))
 
+-- ---- the work slice after the checks: the index in front where they pass, as it was where they refuse
+module _ (job : Job) (work : List ℕ) where
+  pub work-stored : MeasureAccepts job (length work) → workAfter job work ≡ inFront (indexOf job) work
+  unfolding workAfter
+  work-stored h = ap (λ c. ifAccepted c (λ r. work) (inFront (indexOf job) work)) (measure-decides job (length work) .accepted .1 h)
+
+  pub work-kept : (r : Refusal) → MeasureRefuses job (length work) r → workAfter job work ≡ work
+  unfolding workAfter
+  work-kept r h = ap (λ c. ifAccepted c (λ r. work) (inFront (indexOf job) work)) (measure-decides job (length work) .refused r .1 h)
+
 -- ---- the intake
 module _ {job : Job} {work work' : List ℕ} {c : Checked} (call : IndexCall job work c work') where
   pub index-accepts : (c ≡ Accepted) ↔ MeasureAccepts job (length work)
@@ -74,7 +84,4 @@ module _ {job : Job} {work work' : List ℕ} {m : Measured} (call : MeasureCall 
 
   -- a refusal changes nothing
   pub measure-refused-keeps : (r : Refusal) → m ≡ Unmeasured r → work' ≡ work
-  unfolding measureAnswer workAfter
-  measure-refused-keeps r e =
-      let k = answer-refused (measureChecked job (length work)) F (solid job) r .0 (sym (call .answer) ∙ e) in
-      call .index ∙ ap (λ c. ifAccepted c (λ r. work) (inFront (indexOf job) work)) k
+  measure-refused-keeps r e = call .index ∙ work-kept job work r (measure-refuses r .0 e)

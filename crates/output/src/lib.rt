@@ -1,6 +1,6 @@
-// What a program writes: its text on standard output, and on standard error one line where something is in the way. Nothing comes back and
-// nothing is lent, and no contract can say what a system call writes. Stands on `text_wording`, which has the refusals in words, and on the
-// kit's `libc` and `io`.
+// What a program writes: its text on standard output, and on standard error a line, which begins with the program's name, where something is in
+// the way or to be noted. Nothing comes back, nothing is lent that they fill, and no contract can say what a system call writes. Stands on
+// `text_wording`, which has the refusals in words, and on the kit's `libc` and `io`.
 use libc::STDERR_FILENO;
 use libc::STDOUT_FILENO;
 use refusals::Refusal;
@@ -16,7 +16,13 @@ pub fn say_unreadable(program: &[u8]) {
     say(b": standard input cannot be read\n");
 }
 
-// Writes the text of a program, or says that it cannot be written.
+// Says that a program was given arguments.
+pub fn say_takes_none(program: &[u8]) {
+    say(program);
+    say(b": takes no arguments: it reads standard input\n");
+}
+
+// Writes the text of a program, or says that it cannot be written, or not all of it.
 pub fn write_text(program: &[u8], text: &[u8]) {
     if io::write_all(STDOUT_FILENO, text) {
         return;
@@ -25,10 +31,17 @@ pub fn write_text(program: &[u8], text: &[u8]) {
     say(b": standard output cannot be written\n");
 }
 
+// Notes that a VOX file has further models, which are passed; the answer stands.
+pub fn note_first_model(program: &[u8]) {
+    say(program);
+    say(b": note: the file has further models; only the first is read\n");
+}
+
 // Says the number and the detail of a refusal, and its sentence.
-pub fn say_refusal(refusal: Refusal) {
+pub fn say_refusal(program: &[u8], refusal: Refusal) {
     let told = refusals::notice_of(refusal);
-    say(b"refused ");
+    say(program);
+    say(b": refused ");
     io::print_decimal(STDERR_FILENO, told.number as u64);
     say(b" ");
     io::print_decimal(STDERR_FILENO, told.detail as u64);

@@ -13,9 +13,8 @@ fn print_quote(bytes: &[u8]) {
 
 fn main() {
     let mut bytes = [0u8; 28680];
-    let filled = input::fill(&mut bytes);
-    match filled {
-        Filled::Bytes(n) => print_quote(&bytes[..n]),
-        Filled::Failed => output::say_unreadable(b"quote"),
+    let filled = input::take(b"quote", &mut bytes);
+    if let Filled::Bytes(n) = filled {
+        print_quote(&bytes[..n]);
     }
 }

@@ -2,7 +2,8 @@
 -- a call has read (`FileRead`), and taken for shot files at the end.
 use mathlib.Core.Path.{_≡_, refl, sym, _∙_, ap, subst}
 use mathlib.Core.List.{List}
-use Prim.Native.Nat.{ℕ, _/_, _≤_}
+use Prim.Native.Nat.{ℕ, _≤_}
+use native.Mathlib.Omega.{arith}
 use Rattle.buffer.specs.Wrote.{Wrote}
 use Rattle.buffer.proofs.WroteLaws.{wrote-as}
 use Rattle.job.specs.Job.{jobOf, shotCount, firstShots}
@@ -36,7 +37,7 @@ module _ (coords : List ℕ) {a : ReadAnswer} where
 module _ {k : File} {coords coords' : List ℕ} where
   -- its list stands in the coordinate slice
   pub shots-there : (a : ReadAnswer) → FileRead k coords a coords' → ShotsThere a coords'
-  shots-there (Read F E G n) read = let f = stored-list k read refl in subst (λ (m : ℕ). n ≤ m / 3) (sym (f .same-length)) (f .room)
+  shots-there (Read F E G n) read = let f = stored-list k read refl in omega (arith, f .same-length, f .room)
   shots-there (Refused r) read = tt
 
   -- so that the answer and the slice say what the file says

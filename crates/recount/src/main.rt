@@ -14,9 +14,8 @@ fn print_recount(bytes: &[u8]) {
 
 fn main() {
     let mut bytes = [0u8; 28680];
-    let filled = input::fill(&mut bytes);
-    match filled {
-        Filled::Bytes(n) => print_recount(&bytes[..n]),
-        Filled::Failed => output::say_unreadable(b"recount"),
+    let filled = input::take(b"recount", &mut bytes);
+    if let Filled::Bytes(n) = filled {
+        print_recount(&bytes[..n]);
     }
 }

@@ -21,9 +21,8 @@ fn print_text(bytes: &[u8]) {
 
 fn main() {
     let mut bytes = [0u8; 28680];
-    let filled = input::fill(&mut bytes);
-    match filled {
-        Filled::Bytes(n) => print_text(&bytes[..n]),
-        Filled::Failed => output::say_unreadable(b"shots"),
+    let filled = input::take(b"shots", &mut bytes);
+    if let Filled::Bytes(n) = filled {
+        print_text(&bytes[..n]);
     }
 }

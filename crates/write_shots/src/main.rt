@@ -4,7 +4,6 @@
 use input::Filled;
 use libc::STDERR_FILENO;
 use output::say;
-use refusals::Refusal;
 use shotfile_writer::WriteAnswer;
 use typed_line::Mistake;
 use typed_list::Typed;
@@ -34,11 +33,6 @@ fn tell_mistake(line: usize, mistake: Mistake) {
     say_mistake(mistake);
 }
 
-fn tell_refusal(refusal: Refusal) {
-    say(b"write_shots: ");
-    output::say_refusal(refusal);
-}
-
 // Writes the file of a list; 28,679 bytes are the longest file.
 fn write_list(field: u16, edge: u16, grid: u16, coords: &[u16]) {
     let mut bytes = [0u8; 28679];
@@ -47,7 +41,7 @@ fn write_list(field: u16, edge: u16, grid: u16, coords: &[u16]) {
         WriteAnswer::Written { bytes: n } => {
             output::write_text(b"write_shots", &bytes[..n]);
         }
-        WriteAnswer::Refused(refusal) => tell_refusal(refusal),
+        WriteAnswer::Refused(refusal) => output::say_refusal(b"write_shots", refusal),
     }
 }
 
@@ -70,15 +64,12 @@ fn write_text(text: &[u8]) {
 
 fn main() {
     let mut text = [0u8; 262144];
-    let filled = input::fill(&mut text);
-    match filled {
-        Filled::Bytes(n) => {
-            if n == 262144 {
-                say(b"write_shots: the text is longer than 262,143 bytes\n");
-            } else {
-                write_text(&text[..n]);
-            }
-        }
-        Filled::Failed => output::say_unreadable(b"write_shots"),
+    let filled = input::take_whole(
+        b"write_shots",
+        &mut text,
+        b": the text is longer than 262,143 bytes\n",
+    );
+    if let Filled::Bytes(n) = filled {
+        write_text(&text[..n]);
     }
 }

@@ -41,6 +41,9 @@ write-text-requires c κs = search needs
 enum-known-measured-2 : tie.Need-enum-known-measured-2
 enum-known-measured-2 c = search needs
 
+slice-aggregate-say-refusal : tie.Need-slice-aggregate-say-refusal
+slice-aggregate-say-refusal c = search needs
+
 say-refusal-requires : tie.Need-say-refusal-requires
 say-refusal-requires c κs = search needs
 
@@ -70,6 +73,7 @@ print-listing-spec =
     slice-aggregate-write-text-2
     write-text-requires
     enum-known-measured-2
+    slice-aggregate-say-refusal
     say-refusal-requires
     same-length
     returns

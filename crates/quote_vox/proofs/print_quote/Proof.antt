@@ -30,8 +30,17 @@ slice-aggregate-write-text-2 c = let q = c .before .before .before .before .befo
 write-text-requires : tie.Need-write-text-requires
 write-text-requires c κs = search needs
 
+array-read-if1 : tie.Need-array-read-if1
+array-read-if1 c = search needs
+
+note-requires : tie.Need-note-requires
+note-requires c κs = search needs
+
 returns : tie.Need-returns
 returns c = search needs
+
+returns-2 : tie.Need-returns-2
+returns-2 c = search needs
 
 pub print-quote-spec : {M : Type 1} → statement M
 print-quote-spec =
@@ -45,4 +54,7 @@ print-quote-spec =
     array-share-prefix-out
     slice-aggregate-write-text-2
     write-text-requires
-    returns)
+    array-read-if1
+    note-requires
+    returns
+    returns-2)

@@ -2,31 +2,31 @@
 use mathlib.Core.Path.{sym}
 use native.Mathlib.Omega.{arith}
 use lib.Seq.{length-take-le}
-use borrow.Author.Needs.{needs}
 use Rattle.input.proofs.FilledLaws.{filled-within}
+use borrow.Author.Needs.{needs}
 use Rattle.write_shots.proofs.main.Statement.{statement}
 use Rattle.write_shots.proofs.main.Tie as tie
 
-slice-aggregate-fill : tie.Need-slice-aggregate-fill
-slice-aggregate-fill c = search needs
+slice-aggregate-take-whole : tie.Need-slice-aggregate-take-whole
+slice-aggregate-take-whole c = search needs
 
-fill-requires : tie.Need-fill-requires
-fill-requires c κs = search needs
+slice-aggregate-take-whole-2 : tie.Need-slice-aggregate-take-whole-2
+slice-aggregate-take-whole-2 c = search needs
+
+slice-aggregate-take-whole-3 : tie.Need-slice-aggregate-take-whole-3
+slice-aggregate-take-whole-3 c = search needs
+
+take-whole-requires : tie.Need-take-whole-requires
+take-whole-requires c κs = search needs
 
 enum-known-filled : tie.Need-enum-known-filled
 enum-known-filled c = search needs
 
-slice-aggregate-say : tie.Need-slice-aggregate-say
-slice-aggregate-say c = search needs
-
-say-requires : tie.Need-say-requires
-say-requires c κs = search needs
-
 array-share-prefix-text : tie.Need-array-share-prefix-text
-array-share-prefix-text c = omega (arith, filled-within (c .before .before .filled .given .1) (c .before .before .before .before .before .fill .ensures), c .before .before .before .before .before .fill .kept .0)
+array-share-prefix-text c = let f = c .before .before .before .before .take-whole in omega (arith, filled-within (c .before .filled .given .1) (f .ensures), f .kept .1 .0)
 
 slice-aggregate-write-text : tie.Need-slice-aggregate-write-text
-slice-aggregate-write-text c = sym (length-take-le (c .before .before .before .filled .given .0 .0) (c .before .before .before .before .before .before .fill .last .0) (omega (arith, filled-within (c .before .before .before .filled .given .1) (c .before .before .before .before .before .before .fill .ensures), c .before .before .before .before .before .before .fill .kept .0)))
+slice-aggregate-write-text c = let f = c .before .before .before .before .before .take-whole in let g = c .before .before .filled .given in sym (length-take-le (g .0 .0) (f .last .1 .0) (omega (arith, filled-within (g .1) (f .ensures), f .kept .1 .0)))
 
 write-text-requires : tie.Need-write-text-requires
 write-text-requires c κs = search needs
@@ -34,36 +34,24 @@ write-text-requires c κs = search needs
 enum-told : tie.Need-enum-told
 enum-told c = search needs
 
-slice-aggregate-say-unreadable : tie.Need-slice-aggregate-say-unreadable
-slice-aggregate-say-unreadable c = search needs
-
-say-unreadable-requires : tie.Need-say-unreadable-requires
-say-unreadable-requires c κs = search needs
-
 returns : tie.Need-returns
 returns c = search needs
 
 returns-2 : tie.Need-returns-2
 returns-2 c = search needs
 
-returns-3 : tie.Need-returns-3
-returns-3 c = search needs
-
 pub main-spec : {M : Type 1} → statement M
 main-spec =
     tie.close
     (tie.spec
-    slice-aggregate-fill
-    fill-requires
+    slice-aggregate-take-whole
+    slice-aggregate-take-whole-2
+    slice-aggregate-take-whole-3
+    take-whole-requires
     enum-known-filled
-    slice-aggregate-say
-    say-requires
     array-share-prefix-text
     slice-aggregate-write-text
     write-text-requires
     enum-told
-    slice-aggregate-say-unreadable
-    say-unreadable-requires
     returns
-    returns-2
-    returns-3)
+    returns-2)

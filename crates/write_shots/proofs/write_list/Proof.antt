@@ -34,8 +34,11 @@ write-text-requires c κs = search needs
 enum-known-answer-2 : tie.Need-enum-known-answer-2
 enum-known-answer-2 c = search needs
 
-tell-refusal-requires : tie.Need-tell-refusal-requires
-tell-refusal-requires c κs = search needs
+slice-aggregate-say-refusal : tie.Need-slice-aggregate-say-refusal
+slice-aggregate-say-refusal c = search needs
+
+say-refusal-requires : tie.Need-say-refusal-requires
+say-refusal-requires c κs = search needs
 
 returns : tie.Need-returns
 returns c = search needs
@@ -55,6 +58,7 @@ write-list-spec =
     slice-aggregate-write-text-2
     write-text-requires
     enum-known-answer-2
-    tell-refusal-requires
+    slice-aggregate-say-refusal
+    say-refusal-requires
     returns
     returns-2)

@@ -1,0 +1,9 @@
+pub mod Condition1
+pub mod Condition2
+pub mod Condition3
+pub mod Voxels
+pub mod Grids
+pub mod CoverTest
+pub mod Credits
+pub mod Lengths
+pub mod Comparing
