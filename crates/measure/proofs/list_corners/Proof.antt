@@ -14,7 +14,7 @@ returns : tie.Need-returns
 returns c =
     let s = c .before .before .before .before .before in
     short-listing (s .args .field) (solid (jobOf (s .args .field) (s .args .edge) (s .args .grid) (s .args .coords .now))) (s .args .buffer .now) (totals-corners (s .args .field) (solid (jobOf (s .args .field) (s .args .edge) (s .args .grid) (s .args .coords .now))) (c .before .count .ensures))
-    (c .if1 .taken)
+    (omega arith)
 
 store-requires : tie.Need-store-requires
 store-requires c κs = let s = c .before .before .before .before .before .before in (s .pre, omega (arith, totals-corners (s .args .field) (solid (jobOf (s .args .field) (s .args .edge) (s .args .grid) (s .args .coords .now))) (c .before .before .count .ensures), c .before .if1 .left))

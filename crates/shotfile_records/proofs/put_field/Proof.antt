@@ -8,7 +8,7 @@ use Rattle.shotfile_records.proofs.put_field.Statement.{statement}
 use Rattle.shotfile_records.proofs.put_field.Tie as tie
 
 returns : tie.Need-returns
-returns c = put-absent _ _ _ _ (c .if1 .taken) (c .before .pre)
+returns c = let given = c .before .args in put-absent (given .bytes .now) (given .at) (given .absent) (given .number) (omega arith) (c .before .pre)
 
 cast-bytes : tie.Need-cast-bytes
 cast-bytes c = search needs

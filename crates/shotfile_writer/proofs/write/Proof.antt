@@ -1,6 +1,7 @@
 -- `write` answers and leaves what the checks say: each way out is one law of `Writing`. Assumes nothing.
 use mathlib.Core.Path.{sym, _∙_}
 use native.Mathlib.Omega.{arith}
+use Rattle.job.specs.Job.{jobOf}
 use Rattle.shotfile_writer.proofs.Writing.{few-shots, write-refused, write-short, write-done}
 use borrow.Author.Needs.{needs}
 use Rattle.shotfile_writer.proofs.write.Statement.{statement}
@@ -19,7 +20,10 @@ file-length-requires : tie.Need-file-length-requires
 file-length-requires c κs = few-shots _ (sym (c .enum-told .given .1) ∙ (c .before .before .check .ensures .answer))
 
 returns : tie.Need-returns
-returns c = write-short _ _ (sym (c .before .before .enum-told .given .1) ∙ c .before .before .before .before .check .ensures .answer) (c .before .file-length .ensures) (c .if1 .taken)
+returns c =
+    let given = c .before .before .before .before .before .before .before .args in
+    write-short (jobOf (given .field) (given .edge) (given .grid) (given .coords .now)) (given .bytes .now)
+    (sym (c .before .before .enum-told .given .1) ∙ c .before .before .before .before .check .ensures .answer) (c .before .file-length .ensures) (omega arith)
 
 put-file-requires : tie.Need-put-file-requires
 put-file-requires c κs = omega (arith, c .before .before .file-length .ensures, c .before .if1 .left)
