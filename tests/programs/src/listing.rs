@@ -16,7 +16,7 @@ pub fn listing(input: &[u8]) -> Told {
     match listed(input) {
         Ok(output) => Told { output, complaint: String::new() },
         Err(Refusal { number, detail }) => {
-            Told { output: Vec::new(), complaint: format!("refused {number} {detail}: {}\n", sentence(number)) }
+            Told { output: Vec::new(), complaint: format!("listing: refused {number} {detail}: {}\n", sentence(number)) }
         }
     }
 }

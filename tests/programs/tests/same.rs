@@ -14,7 +14,7 @@ fn file(field: u16, edge: u16, grid: u16, shots: &[[u16; 3]]) -> Vec<u8> {
 fn the_examples() {
     let tree = Tree::built();
     let examples = concat!(env!("CARGO_MANIFEST_DIR"), "/../../examples");
-    let line = |names: &str| format!("cd '{examples}' && \"$TREE/same\" {names}");
+    let line = |names: &str| format!("cd '{examples}' && heqdanu same {names}");
     tree.shell(&line("overlap.shots overlap_again.shots"), &[]).is(
         "overlap.shots and overlap_again.shots cure the same cells\n",
         "",
@@ -52,9 +52,9 @@ fn standard_input_on_either_side() {
     let tree = Tree::built();
     let cube = file(8, 2, 2, &[[1, 1, 1]]);
     tree.file("a part", &cube);
-    tree.shell("\"$TREE/same\" 'a part' -", &cube).is("a part and standard input cure the same cells\n", "", 0);
-    tree.shell("\"$TREE/same\" - 'a part'", &cube).is("standard input and a part cure the same cells\n", "", 0);
-    tree.shell("\"$TREE/same\" - 'a part' <&-", &[]).is(
+    tree.shell("heqdanu same 'a part' -", &cube).is("a part and standard input cure the same cells\n", "", 0);
+    tree.shell("heqdanu same - 'a part'", &cube).is("standard input and a part cure the same cells\n", "", 0);
+    tree.shell("heqdanu same - 'a part' <&-", &[]).is(
         "",
         "same: standard input: listing: standard input cannot be read\n",
         2,
