@@ -122,6 +122,13 @@ impl Tree {
         tree
     }
 
+    /// Puts a stand-in in a program's place.
+    pub fn replace_program(&self, name: &str, shell: &str) {
+        let path = self.root().join("target/bin").join(name);
+        fs::remove_file(&path).expect("the program is there");
+        write_program(&path, &format!("#!/bin/sh\n{shell}\n"));
+    }
+
     /// Puts a program with its stamp, as rt leaves them.
     fn put_program(&self, name: &str, put: impl FnOnce(&Path)) {
         for folder in ["bin", "stamp"] {
@@ -184,9 +191,14 @@ impl Tree {
         self.shell(&format!("heqdanu {command} {}", words.join(" ")), &[])
     }
 
+    /// The folder for temporary files.
+    pub fn scratch(&self) -> PathBuf {
+        self.folder.join("scratch")
+    }
+
     /// How many temporary files there are.
     pub fn left_over(&self) -> usize {
-        fs::read_dir(self.folder.join("scratch")).expect("the folder is there").count()
+        fs::read_dir(self.scratch()).expect("the folder is there").count()
     }
 }
 

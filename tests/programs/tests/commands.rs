@@ -4,6 +4,7 @@
 use programs::run;
 use programs::tree::{Ended, Tree, COMMANDS, NEVER, PROGRAMS};
 use std::os::unix::fs::symlink;
+use std::os::unix::net::UnixListener;
 
 const OVERLAP: [u8; 15] = [7, 8, 0, 2, 0, 2, 0, 0, 7, 1, 0, 1, 0, 1, 0];
 const OVERLAP_QUOTE: &str = "volume 15\narea 42\nedge 42\ninner 6\ncorners 20\n";
@@ -334,4 +335,66 @@ fn no_output_where_there_is_trouble() {
     let complaint = "quote: standard input: the program quote ended with status 137, so there is no answer\n";
     tree.shell("heqdanu quote", &[]).is("", complaint, 2);
     tree.shell("heqdanu quote -t", &[]).is("", complaint, 2);
+}
+
+#[test]
+fn programs_that_are_killed() {
+    let tree = Tree::standing_in("kill -11 $$");
+    tree.file("part", &CUBE);
+    for command in COMMANDS {
+        let files = if command == "same" { "part part" } else { "part" };
+        let program = if ["same", "drop"].contains(&command) { "listing" } else { command };
+        let complaint = format!("{command}: part: the program {program} ended with status 139, so there is no answer\n");
+        tree.shell(&format!("heqdanu {command} {files}"), &[]).is("", &complaint, 2);
+    }
+    let complaint = "listing: part: the program listing ended with status 139, so there is no answer\n";
+    tree.shell("heqdanu listing --text part", &[]).is("", complaint, 2);
+}
+
+/// A socket can be asked for, and not be opened.
+#[test]
+fn a_file_that_does_not_open() {
+    let tree = Tree::built();
+    let _socket = UnixListener::bind(tree.root().join("../elsewhere/socket")).expect("a socket is made");
+    tree.file("part", &CUBE);
+    for command in PROGRAMS.into_iter().chain(["drop", "quote -t", "listing --text"]) {
+        let name = command.split(' ').next().expect("a name");
+        tree.shell(&format!("heqdanu {command} socket"), &[]).is("", &format!("{name}: socket: cannot be opened\n"), 2);
+    }
+    tree.run("same", &["part", "socket"]).is("", "same: socket: cannot be opened\n", 2);
+    let ended = tree.run("quote", &["socket", "part"]);
+    assert_eq!((ended.status, ended.text()), (2, format!("==> part <==\n{CUBE_QUOTE}")));
+}
+
+#[test]
+fn bytes_do_not_go_to_a_terminal() {
+    let tree = Tree::built();
+    tree.file("part", &CUBE);
+    tree.file("text", b"shot 1 2 3\n");
+    for (command, file) in [("listing", "part"), ("write_shots", "text"), ("vox_shots", "part"), ("drop", "part")] {
+        let ended = tree.shell(&format!("script -qec 'heqdanu {command} {file}' /dev/null"), &[]);
+        let words = format!(
+            "{command}: its output is bytes, not text: give it a file or a pipe, as in 'heqdanu {command} FILE >OUT'\r\n"
+        );
+        assert_eq!((ended.text(), ended.status), (words, 2), "{command}");
+    }
+    let ended = tree.shell("script -qec 'heqdanu listing --text part' /dev/null", &[]);
+    assert_eq!((ended.text().lines().count(), ended.status), (8, 0));
+}
+
+#[test]
+fn listings_as_text() {
+    let tree = Tree::built();
+    tree.file("part", &CUBE);
+    tree.file("cut", &OVERLAP[..14]);
+    let text = "0 0 0 128\n0 0 2 64\n0 2 0 32\n0 2 2 16\n2 0 0 8\n2 0 2 4\n2 2 0 2\n2 2 2 1\n";
+    tree.run("listing", &["--text", "part"]).is(text, "", 0);
+    tree.shell("heqdanu listing --text", &CUBE).is(text, "", 0);
+    tree.shell("heqdanu listing --text", &OVERLAP[..7]).is("", "", 0);
+    let complaint = "listing: cut: refused 5 8: the file ends before a field of this map, or is empty\n";
+    tree.run("listing", &["--text", "cut"]).is("", complaint, 1);
+    // Numbers have two bytes.
+    let far = [0, 7, 0, 1, 88, 2, 240, 3];
+    let ended = tree.shell("heqdanu listing --text | head -n 1", &far);
+    assert_eq!(ended.text(), "256 600 1008 128\n");
 }
