@@ -72,7 +72,8 @@ fn crates_of(program: &str) -> usize {
 /// The same, with the crate in work taken out too.
 fn nameless(ended: Ended) -> Ended {
     let mut ended = timeless(ended);
-    let cut = |line: &str| line.split_once("in work: ").map_or(line.into(), |(front, _)| format!("{front}in work: CRATE"));
+    let cut =
+        |line: &str| line.split_once("in work: ").map_or(line.into(), |(front, _)| format!("{front}in work: CRATE"));
     ended.complaint = ended.complaint.lines().map(|line| cut(line) + "\n").collect();
     ended
 }
@@ -192,8 +193,10 @@ fn a_checkout_that_cannot_be_written() {
     let root = tree.root();
     // The superuser may write everywhere, so another user asks.
     let nobody = "setpriv --reuid=65534 --regid=65534 --clear-groups";
-    let line = format!("user=; [ $(id -u) != 0 ] || user='{nobody}'; chmod a-w \"$TREE\"; $user heqdanu quote; \
-                        ended=$?; chmod u+w \"$TREE\"; exit $ended");
+    let line = format!(
+        "user=; [ $(id -u) != 0 ] || user='{nobody}'; chmod a-w \"$TREE\"; $user heqdanu quote; \
+                        ended=$?; chmod u+w \"$TREE\"; exit $ended"
+    );
     let complaint = format!("quote: quote has to be built, and {} cannot be written\n", root.display());
     tree.shell(&line, &[]).is("", &complaint, 2);
 }
@@ -244,7 +247,8 @@ fn a_signal_ends_what_it_started_and_frees_the_lock() {
         let (mut child, numbers) = proving(&tree);
         assert!(numbers.iter().all(|number| runs(*number)));
         // The child does not hold the lock.
-        let held = tree.shell("for file in /proc/[0-9]*/fd/9; do [ \"$file\" -ef \"$TREE/.building\" ] && echo; done", &[]);
+        let held =
+            tree.shell("for file in /proc/[0-9]*/fd/9; do [ \"$file\" -ef \"$TREE/.building\" ] && echo; done", &[]);
         assert_eq!(held.text(), "\n", "who holds the lock");
         let kill = Command::new("kill").arg(format!("-{signal}")).arg(child.id().to_string()).status();
         assert!(kill.is_ok_and(|status| status.success()));

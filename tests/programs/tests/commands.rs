@@ -20,7 +20,11 @@ fn misused(ended: &Ended, script: &str) {
     assert_eq!((ended.text().as_str(), ended.status), ("", 2), "{script}");
     let mut lines = ended.complaint.lines();
     assert!(lines.next().is_some_and(|line| line.starts_with(&format!("{script}: "))), "{}", ended.complaint);
-    assert!(lines.next().is_some_and(|line| line.starts_with(&format!("usage: heqdanu {script} "))), "{}", ended.complaint);
+    assert!(
+        lines.next().is_some_and(|line| line.starts_with(&format!("usage: heqdanu {script} "))),
+        "{}",
+        ended.complaint
+    );
 }
 
 #[test]

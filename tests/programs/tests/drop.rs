@@ -18,7 +18,8 @@ fn dropped(file: &[u8]) -> Vec<u8> {
     let mut list = shotfile::read(file, 12_288).expect("the list is accepted");
     let credits = credits(file);
     let kept = credits.lines().map(|line| !line.ends_with(" 0"));
-    list.coords = list.coords.chunks(3).zip(kept).filter(|(_, keep)| *keep).flat_map(|(shot, _)| shot.to_vec()).collect();
+    list.coords =
+        list.coords.chunks(3).zip(kept).filter(|(_, keep)| *keep).flat_map(|(shot, _)| shot.to_vec()).collect();
     shortest(&list)
 }
 
@@ -37,7 +38,10 @@ fn repeats_and_shots_within_others() {
         let ended = tree.run("drop", &["a part"]);
         assert_eq!((ended.output, ended.complaint.as_str(), ended.status), (left.clone(), "", 0));
         assert_eq!(tree.shell("heqdanu drop", &file(shots)).output, left);
-        assert_eq!(tree.shell("heqdanu drop 'a part' >out; heqdanu same out 'a part' && heqdanu drop out", &[]).status, 0);
+        assert_eq!(
+            tree.shell("heqdanu drop 'a part' >out; heqdanu same out 'a part' && heqdanu drop out", &[]).status,
+            0
+        );
     }
     // Written in the shortest form, also where nothing is dropped.
     let longer = [7, 8, 0, 2, 0, 2, 0, 7, 0, 0, 0, 0, 0, 0, 7, 1, 0, 1, 0, 1, 0];

@@ -33,7 +33,10 @@ fn a_command_to_come() {
     let text = "group=Prices\nbrief='what a part costs'\ntakes='[FILE]...'\nform=lines\nabout='Prices a part.'\n";
     fs::write(tree.root().join("scripts/commands/price"), text).expect("the command is written");
     assert!(tree.shell("heqdanu", &[]).text().contains("\n\nPrices\n  price        what a part costs\n"));
-    assert!(tree.shell("heqdanu help price", &[]).text().starts_with("usage: heqdanu price [FILE]...\n\nPrices a part.\n"));
+    assert!(tree
+        .shell("heqdanu help price", &[])
+        .text()
+        .starts_with("usage: heqdanu price [FILE]...\n\nPrices a part.\n"));
     tree.shell("cp \"$TREE/target/bin/quote\" \"$TREE/target/bin/price\"; touch \"$TREE/target/stamp/price\"", &[]);
     tree.shell("heqdanu price", &[]).is("volume 8\n", "", 0);
 }

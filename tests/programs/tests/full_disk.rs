@@ -33,12 +33,32 @@ fn commands_that_keep_nothing_answer_as_ever() {
     let tree = tree();
     let mut refused = 0;
     for words in [
-        "quote part", "quote cut", "quote many", "quote part cut many", "quote -t part cut many",
-        "quote_vox arch", "quote_vox cut", "recount part", "recount cut",
-        "credits part", "credits cut", "credits many", "shots part", "shots cut", "shots many",
-        "listing part", "listing cut", "listing many", "listing --text many",
-        "write_shots text", "write_shots wrong", "vox_shots arch", "vox_shots cut",
-        "help", "quote --help", "--version",
+        "quote part",
+        "quote cut",
+        "quote many",
+        "quote part cut many",
+        "quote -t part cut many",
+        "quote_vox arch",
+        "quote_vox cut",
+        "recount part",
+        "recount cut",
+        "credits part",
+        "credits cut",
+        "credits many",
+        "shots part",
+        "shots cut",
+        "shots many",
+        "listing part",
+        "listing cut",
+        "listing many",
+        "listing --text many",
+        "write_shots text",
+        "write_shots wrong",
+        "vox_shots arch",
+        "vox_shots cut",
+        "help",
+        "quote --help",
+        "--version",
     ] {
         let ever = tree.shell(&format!("heqdanu {words}"), &[]);
         assert_eq!(on_a_full_disk(&tree, words), ever, "{words}");
@@ -78,7 +98,8 @@ fn no_temporary_folder() {
 #[test]
 fn a_full_output() {
     let tree = tree();
-    for words in ["quote part", "credits many", "shots many", "listing many", "write_shots text", "listing --text many"] {
+    for words in ["quote part", "credits many", "shots many", "listing many", "write_shots text", "listing --text many"]
+    {
         let name = words.split(' ').next().expect("a name");
         let line = format!("bash -c \"trap '' XFSZ; ulimit -f 1; exec heqdanu {words} >out\"; echo $?; rm out");
         let ended = tree.shell(&line, &[]);

@@ -61,7 +61,11 @@ fn no_output_where_there_is_trouble() {
     tree.shell("heqdanu quote", &[]).is("", "quote: standard input: there is no answer\n", 2);
     tree.shell("heqdanu shots", &[]).is("", "shots: standard input: there is no answer\n", 2);
     tree.shell("heqdanu credits", &[]).is("", "", 0);
-    Tree::standing_in("echo volume").shell("heqdanu quote", &[]).is("", "quote: standard input: there is no answer\n", 2);
+    Tree::standing_in("echo volume").shell("heqdanu quote", &[]).is(
+        "",
+        "quote: standard input: there is no answer\n",
+        2,
+    );
     for (program, complaint) in [
         ("echo trouble >&2", "trouble"),
         ("echo volume 8; exit 3", "the program credits ended with status 3, so there is no answer"),
@@ -83,7 +87,8 @@ fn programs_that_are_killed() {
     for command in COMMANDS {
         let files = if command == "same" { "part part" } else { "part" };
         let program = if ["same", "drop"].contains(&command) { "listing" } else { command };
-        let complaint = format!("{command}: part: the program {program} ended with status 139, so there is no answer\n");
+        let complaint =
+            format!("{command}: part: the program {program} ended with status 139, so there is no answer\n");
         tree.shell(&format!("heqdanu {command} {files}"), &[]).is("", &complaint, 2);
     }
     let complaint = "listing: part: the program listing ended with status 139, so there is no answer\n";

@@ -98,7 +98,9 @@ fn a_drawing_given_to_the_others() {
         tree.run(command, &["arch"]).is("refused 4 0\n", &complaint, 1);
     }
     let line = "refused 4 0: this map has a bit that has no meaning";
-    for (command, files, status) in [("listing", &["arch"][..], 1), ("drop", &["arch"], 1), ("same", &["arch", "arch"], 2)] {
+    for (command, files, status) in
+        [("listing", &["arch"][..], 1), ("drop", &["arch"], 1), ("same", &["arch", "arch"], 2)]
+    {
         tree.run(command, files).is("", &format!("{command}: arch: {line}\n{command}: arch: {made}\n"), status);
     }
     let ended = tree.run("shots", &["arch"]);
@@ -128,7 +130,9 @@ fn another_file_given_as_a_drawing() {
             complaint += &format!("quote_vox: {name}: {hint}\n");
         }
         tree.run("quote_vox", &[name]).is("refused 13 0\n", &complaint, 1);
-        let complaint = complaint.replace("quote_vox: ", "vox_shots: ").replace(refused, &refused.replace("at byte 0", "refused 13 0"));
+        let complaint = complaint
+            .replace("quote_vox: ", "vox_shots: ")
+            .replace(refused, &refused.replace("at byte 0", "refused 13 0"));
         tree.run("vox_shots", &[name]).is("", &complaint, 1);
     }
 }

@@ -62,17 +62,14 @@ fn standard_input_on_either_side() {
 #[test]
 fn trouble_with_comparing() {
     let parts = [file(8, 2, 2, &[[1, 1, 1]]), file(8, 2, 2, &[[1, 1, 1], [5, 5, 5]])];
-    for (tool, ended) in [
-        ("exit 2", 2),
-        ("exit 127", 127),
-        ("kill -9 $$", 137),
-    ] {
+    for (tool, ended) in [("exit 2", 2), ("exit 127", 127), ("kill -9 $$", 137)] {
         let tree = Tree::built();
         tree.file("a", &parts[0]);
         tree.file("b", &parts[1]);
         tree.put_tool("cmp", tool);
         for names in [["a", "a"], ["a", "b"]] {
-            let complaint = format!("same: the listings cannot be compared: cmp is missing, or ended with status {ended}\n");
+            let complaint =
+                format!("same: the listings cannot be compared: cmp is missing, or ended with status {ended}\n");
             tree.run("same", &names).is("", &complaint, 2);
         }
     }
