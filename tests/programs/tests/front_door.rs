@@ -80,6 +80,11 @@ fn an_unknown_command_is_answered_by_the_nearest() {
         }
         assert_eq!(tree.shell(&format!("heqdanu help {word}"), &[]), ended);
     }
+    for words in ["'quote quote_vox'", "'*'", "..", "/", "help quote same"] {
+        let ended = tree.shell(&format!("heqdanu {words}"), &[]);
+        assert_eq!((ended.text().as_str(), ended.status), ("", 2), "{words}");
+        assert!(ended.complaint.starts_with("heqdanu: "), "{}", ended.complaint);
+    }
     let long = "x".repeat(5000);
     assert_eq!(tree.run(&long, &[]).status, 2);
     assert_eq!(tree.calls(), "");

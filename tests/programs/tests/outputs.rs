@@ -68,6 +68,7 @@ fn no_output_where_there_is_trouble() {
     );
     for (program, complaint) in [
         ("echo trouble >&2", "trouble"),
+        ("printf trouble >&2; echo 0 8", "trouble"),
         ("echo volume 8; exit 3", "the program credits ended with status 3, so there is no answer"),
         ("echo half; kill -9 $$", "the program credits ended with status 137, so there is no answer"),
     ] {

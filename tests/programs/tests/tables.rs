@@ -85,7 +85,7 @@ fn one_process_a_file() {
     let tree = Tree::standing_in("echo $PPID >>\"$TREE/../starts\"; echo volume 8");
     let tools = ["basename", "cat", "cmp", "cut", "dirname", "find", "grep", "head", "mktemp", "od", "readlink", "rm"];
     for tool in tools.into_iter().chain(["sed", "sort", "stat", "tail", "tr", "wc", "awk", "env", "flock", "setsid"]) {
-        tree.put_tool(tool, &format!("echo {tool} >>\"$TREE/../tools\"; exec /usr/bin/{tool} \"$@\""));
+        tree.put_tool(tool, &format!("echo {tool} >>\"$TREE/../tools\"; PATH=/usr/bin:/bin exec {tool} \"$@\""));
     }
     let mut counts = Vec::new();
     for files in [1, 40] {
