@@ -47,7 +47,7 @@ fn every_example() {
 fn generated_lists() {
     let mut random = Random::new(97);
     for number in 0..40 {
-        let size = if number % 10 == 0 { Size { field: 1024, shots: 300 } } else { Size { field: 20, shots: 40 } };
+        let size = if number % 10 == 0 { Size { field: 1024, shots: 60 } } else { Size { field: 20, shots: 40 } };
         let mut list = accepted(&mut random, size);
         coarsen(&mut list, 10_000);
         holds(&shortest(&list));

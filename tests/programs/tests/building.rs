@@ -132,6 +132,10 @@ fn a_source_that_is_newer() {
     let line = "sleep 1.1; heqdanu quote; heqdanu quote; rm \"$TREE/target/bin/quote\"; heqdanu quote";
     assert_eq!(tree.shell(line, &[]).text(), "volume 8\n".repeat(3));
     assert_eq!(tree.calls(), "check quote\n".repeat(3));
+    // Where it cannot be found out, it is proved again.
+    tree.put_tool("find", "exit 1");
+    tree.shell("heqdanu quote", &[]);
+    assert_eq!(tree.calls(), "check quote\n".repeat(4));
 }
 
 #[test]

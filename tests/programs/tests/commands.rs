@@ -283,6 +283,9 @@ fn a_file_that_does_not_open() {
         tree.shell(&format!("heqdanu {command} socket"), &[]).is("", &format!("{name}: socket: cannot be opened\n"), 2);
     }
     tree.run("same", &["part", "socket"]).is("", "same: socket: cannot be opened\n", 2);
-    let ended = tree.run("quote", &["socket", "part"]);
-    assert_eq!((ended.status, ended.text()), (2, format!("==> part <==\n{CUBE_QUOTE}")));
+    // Where POSIX is asked of the shell too.
+    for line in ["heqdanu quote socket part", "POSIXLY_CORRECT=1 heqdanu quote socket part"] {
+        let headed = format!("==> part <==\n{CUBE_QUOTE}");
+        tree.shell(line, &[]).is(&headed, "quote: socket: cannot be opened\n", 2);
+    }
 }
