@@ -53,11 +53,35 @@ fn it_takes_its_turn() {
     let line = "exec 8>\"$TREE/.building\"; flock 8; sleep 1 & exec 8>&-; \"$TREE/test\"";
     tree.shell(line, &[]).is("called\n", "test: waiting for another script to build\n", 3);
     // And those that build wait for it, though target/ is gone.
-    let tree = Tree::bare("rm -rf target; sleep 1; echo rt: done; exit 1");
-    let line = "\"$TREE/test\" >/dev/null & sleep 0.4; heqdanu quote; wait";
+    let tree = Tree::bare("rm -rf target; sleep 2; echo rt: done; exit 1");
+    let line = "\"$TREE/test\" >/dev/null & while flock -n \"$TREE/.building\" true; do :; done; heqdanu quote; wait";
     let ended = tree.shell(line, &[]);
-    assert!(ended.complaint.starts_with("quote: waiting for another script to build\n"), "{}", ended.complaint);
+    assert!(ended.complaint.contains("quote: waiting for another script to build\n"), "{}", ended.complaint);
     assert_eq!(tree.calls(), "fmt --check\ncheck quote\n");
+}
+
+/// All steps in their order, with stand-ins for the scripts; the last line is that of `rt ci`.
+#[test]
+fn the_whole_gate() {
+    let tree = Tree::bare("[ \"$1\" != ci ] || echo '3 passed, 0 failed'");
+    let line = "mkdir -p \"$TREE/tests\"; for script in scripts/house scripts/refusals scripts/version tests/run; do \
+                printf '#!/bin/sh\\necho %s \"$@\" >>\"$TREE/../calls\"; echo a line\\n' $script >\"$TREE/$script\"; \
+                chmod +x \"$TREE/$script\"; done";
+    tree.shell(line, &[]).is("", "", 0);
+    let ended = tree.shell("\"$TREE/test\"", &[]);
+    assert_eq!((ended.complaint.as_str(), ended.status), ("", 0));
+    assert!(ended.text().ends_with("\n3 passed, 0 failed\n"), "{}", ended.text());
+    let calls = tree.calls();
+    let mut calls: Vec<&str> = calls.lines().collect();
+    // What runs beside something else has no place of its own.
+    calls.retain(|call| !["tests/run --all oracle", "staticlib capi"].contains(call));
+    let order = ["fmt --check", "scripts/house --check", "scripts/refusals --check", "scripts/version --check", "ci"];
+    assert_eq!(calls[..5], order);
+    assert_eq!(calls[5..], ["tests/run --all programs", "tests/run --all library"]);
+    // A step that fails ends it, and its status is not lost.
+    let line = "printf '#!/bin/sh\\nexit 1\\n' >\"$TREE/tests/run\"; \"$TREE/test\"";
+    let ended = tree.shell(line, &[]);
+    assert_ne!(ended.status, 0);
 }
 
 #[test]
