@@ -3,7 +3,9 @@
 use oracle::inputs::Random;
 use oracle::list::List;
 use oracle::shotfile::shortest;
-use programs::tree::{Ended, Tree};
+use programs::tree::{spawn, Ended, Tree};
+use std::process::{Command, Stdio};
+use std::time::{Duration, Instant};
 
 const ARCH: &[u8] = include_bytes!("../../../examples/arch.vox");
 const OVERLAP: [u8; 15] = [7, 8, 0, 2, 0, 2, 0, 0, 7, 1, 0, 1, 0, 1, 0];
@@ -107,6 +109,30 @@ fn a_full_output() {
             ended.is("0\n", "", 0);
         } else {
             ended.is("2\n", &format!("{name}: standard output cannot be written\n"), 0);
+        }
+    }
+}
+
+/// What is kept goes also where a signal ends the command.
+#[test]
+fn a_signal_leaves_nothing() {
+    let tree = Tree::standing_in("sleep 2");
+    tree.file("part", &OVERLAP);
+    for signal in ["TERM", "HUP"] {
+        for words in [&["same", "part", "part"][..], &["drop", "part"]] {
+            let mut command = tree.command(tree.root().join("heqdanu"));
+            command.args(words).stdin(Stdio::null()).stdout(Stdio::null()).stderr(Stdio::null());
+            let mut child = spawn(&mut command);
+            let start = Instant::now();
+            while tree.left_over() == 0 && start.elapsed() < Duration::from_secs(10) {
+                std::thread::sleep(Duration::from_millis(2));
+            }
+            assert_eq!(tree.left_over(), 1, "a temporary folder while it runs");
+            std::thread::sleep(Duration::from_millis(20));
+            let kill = Command::new("kill").arg(format!("-{signal}")).arg(child.id().to_string()).status();
+            assert!(kill.is_ok_and(|status| status.success()));
+            assert!(!child.wait().expect("the command ends").success(), "{signal} {words:?}");
+            assert_eq!(tree.left_over(), 0, "{signal} {words:?}");
         }
     }
 }
