@@ -13,14 +13,14 @@ use Rattle.ground.proofs.JoinLaws.{singles-length, singles-at}
 use Rattle.crediting_carving.specs.Blocks.{added, only, RoomFor}
 
 module _ (l : List ℕ) (f : ℕ → ℕ) where
-  pub added-length : length (added l f) ≡ length l
+  added-length : length (added l f) ≡ length l
   unfolding added
   added-length = singles-length (λ s. getD l s 0 + f s) (length l)
 
   pub added-keeps : {m : List ℕ} → m ≡ added l f → length m ≡ length l
   added-keeps e = ap length e ∙ added-length
 
-  pub added-at : (s : ℕ) → s < length l → getD (added l f) s 0 ≡ getD l s 0 + f s
+  added-at : (s : ℕ) → s < length l → getD (added l f) s 0 ≡ getD l s 0 + f s
   unfolding added
   added-at s h = singles-at (λ s. getD l s 0 + f s) (length l) s h
 

@@ -30,7 +30,7 @@ use Rattle.crediting_text.specs.Credited.{creditLine, creditLines, credi
 
 -- ---- the lines
 
-pub line-few : (s c : ℕ) → length (creditLine s c) ≤ 42
+line-few : (s c : ℕ) → length (creditLine s c) ≤ 42
 line-few s c = omega (arith, line-length (decimal s) c, digits-length 20 s)
 
 module _ (credits out : List ℕ) where

@@ -107,11 +107,11 @@ module _ (e : ℕ) (coords : List ℕ) (run : List ℕ) (i j k : ℕ) where
 
 -- ---- what the answer says
 
-pub shot-named : (o : Option ℕ) (s : ℕ) → coveringOf o ≡ Shot s → o ≡ some s
+shot-named : (o : Option ℕ) (s : ℕ) → coveringOf o ≡ Shot s → o ≡ some s
 shot-named none s h = let z : _≡_ {A = ℕ} 0 1 = cc in absurd (omega arith)
 shot-named (some t) s h = let same : t ≡ s = cc in ap some same
 
-pub nothing-named : (o : Option ℕ) → coveringOf o ≡ Nothing → o ≡ none
+nothing-named : (o : Option ℕ) → coveringOf o ≡ Nothing → o ≡ none
 nothing-named none h = refl
 nothing-named (some t) h = let z : _≡_ {A = ℕ} 0 1 = cc in absurd (omega arith)
 

@@ -73,7 +73,7 @@ module _ (job : Job) (gx gy gz : ℕ) (hy : gy < job.grid) (hz : gz < job.grid) 
   run-names = first-among _ _ covering-touches (upTo (shotCount coords))
 
   -- and so covers the unit cell exactly if the list does
-  pub run-covers : runCovers E coords (runOf job ((gx * G + gy) * G + gz)) i j k ≡ cells (shots job) i j k
+  run-covers : runCovers E coords (runOf job ((gx * G + gy) * G + gz)) i j k ≡ cells (shots job) i j k
   run-covers = ap isSome run-names ∙ lowest-covers E coords i j k
 
 -- ---- the grid cell that holds a unit cell

@@ -35,7 +35,7 @@ module _ (job : Job) where
   need-place = ap (λ (n : ℕ). gridCells job + 1 + n) pairs-runs
 
   -- the need is the length of the index
-  pub need-length : need job ≡ length (indexOf job)
+  need-length : need job ≡ length (indexOf job)
   unfolding indexOf
   need-length =
       omega (arith, need-place, length-append (starts (runOf job) (gridCells job + 1)) (join (gridCells job) (runOf job)), starts-length (runOf job) (gridCells job + 1))

@@ -15,7 +15,7 @@ each-at f t false = and-left (f false) (f true) t
 each-at f t true = and-right (f false) (f true) t
 
 -- a function of two Bools by its four values
-abbrev pub four : Bool → Bool → Bool → Bool → Bool → Bool → Bool
+abbrev four : Bool → Bool → Bool → Bool → Bool → Bool → Bool
 four q₀ q₁ q₂ q₃ false false = q₀
 four q₀ q₁ q₂ q₃ false true = q₁
 four q₀ q₁ q₂ q₃ true false = q₂

@@ -12,7 +12,7 @@ pub +ℤ-swap : (a b c : ℤ) → a +ℤ (b +ℤ c) ≡ b +ℤ (a +ℤ c)
 -- puts the terms of a sum in one order
 pub ruleset +ℤ·sort = (+ℤ-assoc, +ℤ-comm, +ℤ-swap)
 
-pub neg-*ℤ : (a b : ℤ) → negℤ a *ℤ b ≡ negℤ (a *ℤ b)
+neg-*ℤ : (a b : ℤ) → negℤ a *ℤ b ≡ negℤ (a *ℤ b)
 neg-*ℤ (pos zero) b = simp zero-*ℤ
 neg-*ℤ (pos (suc a)) (pos b) = refl
 neg-*ℤ (pos (suc a)) (negsuc b) = sym (negℤ-negℤ (pos (suc a * suc b)))
@@ -40,7 +40,7 @@ pub *ℤ-dist : (a b c : ℤ) → a *ℤ (b +ℤ c) ≡ a *ℤ b +ℤ a *ℤ c
     ∙ negℤ-+ℤ (pos (suc n) *ℤ b) (pos (suc n) *ℤ c)
     ∙ rw (neg-*ℤ (pos (suc n)) b, neg-*ℤ (pos (suc n)) c)
 
-pub dist-*ℤ : (a b c : ℤ) → (a +ℤ b) *ℤ c ≡ a *ℤ c +ℤ b *ℤ c
+dist-*ℤ : (a b c : ℤ) → (a +ℤ b) *ℤ c ≡ a *ℤ c +ℤ b *ℤ c
 dist-*ℤ a b c = rw (*ℤ-comm (a +ℤ b) c, *ℤ-comm a c, *ℤ-comm b c) (*ℤ-dist c a b)
 
 pub *ℤ-neg : (a b : ℤ) → a *ℤ negℤ b ≡ negℤ (a *ℤ b)

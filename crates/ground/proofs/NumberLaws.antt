@@ -34,7 +34,7 @@ upTo-front n m h =
 -- ---- those that pass a test
 
 module _ (f : ℕ → Bool) where
-  pub those-append : (l m : List ℕ) → those f (l ++ m) ≡ those f l ++ those f m
+  those-append : (l m : List ℕ) → those f (l ++ m) ≡ those f l ++ those f m
   unfolding those
   those-append [] m = refl
   those-append (a ∷ l) m = rw (those-append l m) (one (f a))

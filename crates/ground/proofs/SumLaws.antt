@@ -36,7 +36,7 @@ unfolding sum
 sum-scale zero c f = sym (*ℤ-zero c)
 sum-scale (suc n) c f = rw (sum-scale n c f, *ℤ-dist)
 
-pub sum-zero : (n : ℕ) {f : ℕ → ℤ} → ((i : ℕ) → f i ≡ pos 0) → sum n f ≡ pos 0
+sum-zero : (n : ℕ) {f : ℕ → ℤ} → ((i : ℕ) → f i ≡ pos 0) → sum n f ≡ pos 0
 unfolding sum
 sum-zero zero h = refl
 sum-zero (suc n) h = rw (sum-zero n h, h n)

@@ -70,7 +70,7 @@ unfolding total
 total-swap zero m f = sym (total-none m (λ j. 0) (λ j l. refl))
 total-swap (suc n) m f = rw (total-swap n m f) (sym (total-plus m (λ j. total n (λ i. f i j)) (λ j. f n j)))
 
-pub total-append : (n k : ℕ) (f : ℕ → ℕ) → total (n + k) f ≡ total n f + total k (λ j. f (n + j))
+total-append : (n k : ℕ) (f : ℕ → ℕ) → total (n + k) f ≡ total n f + total k (λ j. f (n + j))
 unfolding total
 total-append n zero f = rw (add-zero n, add-zero (total n f))
 total-append n (suc k) f = rw (add-suc n k) (omega (arith, total-append n k f))

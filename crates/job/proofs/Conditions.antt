@@ -106,7 +106,7 @@ module _ (job : Job) where
   unfolding shotTests
   shots-say = (says-outside, tt)
 
-  pub tests-say : Each (Says (Condition job)) (tests job)
+  tests-say : Each (Says (Condition job)) (tests job)
   unfolding tests settingTests shotTests
   tests-say = (says-broken, (says-many, (says-field, (says-edge, (says-grid, (says-outside, tt))))))
 
@@ -140,7 +140,7 @@ module _ (job : Job) where
       }
 
   -- no condition holds of a valid list
-  pub valid-none : Valid job → (q : Refusal) → ¬ Condition job q
+  valid-none : Valid job → (q : Refusal) → ¬ Condition job q
   valid-none v q (broken-shot h) = h (v .threes)
   valid-none v q (too-many-shots h) = omega (arith, v .few)
   valid-none v q (field-range h) = ⊎-elim (λ m. omega (arith, v .field-least)) (λ m. omega (arith, v .field-most)) h

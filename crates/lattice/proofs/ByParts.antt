@@ -55,7 +55,7 @@ keeps-zero : {A : Type 0} (op : (A → ℤ) → ℤ) → Keeps A op → (f : A �
 keeps-zero op keeps f h = ap op (fun-ext (λ t. simp h)) ∙ keeps f f ∙ +ℤ-invr (op f)
 
 -- one axis, under such an operator
-pub scaled-fall : (m : Bool) (n : ℕ) {A : Type 0} (op : (A → ℤ) → ℤ) → Keeps A op → (f : ℕ → A → ℤ) → ((t : A) → f (suc n) t ≡ pos 0)
+scaled-fall : (m : Bool) (n : ℕ) {A : Type 0} (op : (A → ℤ) → ℤ) → Keeps A op → (f : ℕ → A → ℤ) → ((t : A) → f (suc n) t ≡ pos 0)
     → scaled m n (λ x. op (λ t. fallIf m (λ i. f i t) x)) ≡ counted m n (λ x. op (f x))
 unfolding scaled
 scaled-fall true n op keeps f h =

@@ -8,7 +8,7 @@ use Rattle.lattice.specs.Pattern.{Pattern}
 use Rattle.lattice.specs.Figures.{Figure, Volume, Area, EdgeLength, InnerLength}
 
 -- two layers of four cells make a pattern
-abbrev pub layers : (Bool → Bool → Bool) → (Bool → Bool → Bool) → Pattern
+abbrev layers : (Bool → Bool → Bool) → (Bool → Bool → Bool) → Pattern
 layers l h false = l
 layers l h true = h
 

@@ -12,7 +12,7 @@ either-is : (q : Bool → Bool → Bool) → eitherEdge q ≡ edge q + innerEdge
 either-is q = eqb→eq (eitherEdge q) (edge q + innerEdge q) (eachFour-at (λ q. eqb (eitherEdge q) (edge q + innerEdge q)) tt q)
 
 -- a length keeps sums of counts
-pub length-plus : (f g : OfFour) (n : ℕ) (s : Cells) → lengthBy (λ q. f q + g q) n s ≡ lengthBy f n s + lengthBy g n s
+length-plus : (f g : OfFour) (n : ℕ) (s : Cells) → lengthBy (λ q. f q + g q) n s ≡ lengthBy f n s + lengthBy g n s
 unfolding lengthBy
 length-plus f g n s =
     omega (

@@ -17,11 +17,11 @@ all-map P Q h [] a = tt
 all-map P Q h (v ∷ vs) a = (h v (a .0), all-map P Q h vs (a .1))
 
 module _ (P : Corner → Type 0) where
-  pub all-append : (a b : List Corner) → All P a → All P b → All P (a ++ b)
+  all-append : (a b : List Corner) → All P a → All P b → All P (a ++ b)
   all-append [] b p q = q
   all-append (v ∷ a) b p q = (p .0, all-append a b (p .1) q)
 
-  pub all-at : {v : Corner} (vs : List Corner) → All P vs → List·Memᴰ v vs → P v
+  all-at : {v : Corner} (vs : List Corner) → All P vs → List·Memᴰ v vs → P v
   all-at [] a m = absurd (List·Memᴰ·not-nil m)
   all-at (u ∷ vs) a m = ⊎-elim (λ e. subst P (sym e) (a .0)) (λ t. all-at vs (a .1) t) (List·Memᴰ·cases-cons m)
 

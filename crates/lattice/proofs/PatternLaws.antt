@@ -30,9 +30,6 @@ byte-ofByte n h = eqb→eq (byte (ofByte n)) n (eachBelow-at (λ n. eqb (byte (o
 
 -- ---- the range of the weights
 -- w is within -4 and 4, the weights of area and edge length within -2 and 2, those of inner length within -1 and 1
-abbrev pub Small : ℕ → (Pattern → ℤ) → Type 0
-Small m f = (p : Pattern) → natAbs (f p) ≤ m
-
 abbrev pub largest : List ℕ
 largest = 4 ∷ 2 ∷ 2 ∷ 2 ∷ 2 ∷ 2 ∷ 2 ∷ 1 ∷ 1 ∷ 1 ∷ []
 
@@ -77,7 +74,7 @@ no-corner-zero p = none-nonzero (weights p)
 
 -- ---- the corners are the patterns that change across every axis
 -- the pattern with the axis first
-abbrev pub turned : Axis → Pattern → Pattern
+abbrev turned : Axis → Pattern → Pattern
 turned x-axis p a b c = p a b c
 turned y-axis p a b c = p b a c
 turned z-axis p a b c = p b c a

@@ -48,7 +48,7 @@ w-falls : (s : Cells) (x y z : ℕ) → w (around s x y z) ≡ fall (λ x. on-yz
 unfolding w count on-z on-yz
 w-falls s x y z = signs-three (λ a b c. pos (bit (around s x y z a b c)))
 
-pub solid-known : (s t : Cells) → ((x y z : ℕ) → w (around s x y z) ≡ w (around t x y z)) → (i j k : ℕ) → s i j k ≡ t i j k
+solid-known : (s t : Cells) → ((x y z : ℕ) → w (around s x y z) ≡ w (around t x y z)) → (i j k : ℕ) → s i j k ≡ t i j k
 unfolding count on-z on-yz
 solid-known s t h i j k = bit-known (s i j k) (t i j k) (by-z (suc i) (suc j) (suc k))
   where
@@ -104,7 +104,7 @@ module _ (x₀ y₀ z₀ : ℕ) where
       none : (x y z : ℕ) → ((x ≤ n) × (y ≤ n) × (z ≤ n) → ⊥) → at x y z ≡ pos 0
       none x y z h = no-corner-zero (around s x y z) (outside-no-corner n s within x y z h) 0
 
-pub same-solid : (n m : ℕ) (s t : Cells) → Within n s → Within m t → corners n s ≡ corners m t → (i j k : ℕ) → s i j k ≡ t i j k
+same-solid : (n m : ℕ) (s t : Cells) → Within n s → Within m t → corners n s ≡ corners m t → (i j k : ℕ) → s i j k ≡ t i j k
 same-solid n m s t hs ht e = solid-known s t λ x y z.
     sym (told x y z n s hs) ∙ ap (cornerSum (weight-there x y z)) e ∙ told x y z m t ht
 

@@ -55,7 +55,7 @@ module _ (n : ℕ) (v : ℤ) (hn : n ≤ 1073741824) (hv : natAbs v ≤ 4) where
 
 -- ---- one corner more
 -- a sum of n terms with one more
-pub sum-room : (n : ℕ) (s t : ℤ) → natAbs s ≤ n * largestTerm → natAbs t ≤ largestTerm → natAbs (s +ℤ t) ≤ (n + 1) * largestTerm
+sum-room : (n : ℕ) (s t : ℤ) → natAbs s ≤ n * largestTerm → natAbs t ≤ largestTerm → natAbs (s +ℤ t) ≤ (n + 1) * largestTerm
 sum-room n s t hs ht = omega (arith, natAbs-add s t, hs, ht)
 
 -- a sum with room for one more term, as the code takes it
@@ -123,7 +123,7 @@ sums-whole n s within = record {
 }
 
 -- totals are known by the values of their figures and their corner count
-pub totals-known : {r u : Totals} → ((f : Figure) → value f r ≡ value f u) → r .corners ≡ u .corners → r ≡ u
+totals-known : {r u : Totals} → ((f : Figure) → value f r ≡ value f u) → r .corners ≡ u .corners → r ≡ u
 totals-known h k = λ i. record {
   volume = ap natAbs (h Volume) i;
   area = ap natAbs (h Area) i;

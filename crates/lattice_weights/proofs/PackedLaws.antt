@@ -22,7 +22,7 @@ mag-le : (z : ℤ) → mag z ≤ natAbs z
 mag-le (pos n) = omega arith
 mag-le (negsuc n) = omega arith
 
-pub fits8 : (z : ℤ) → natAbs z < 128 → SFits w8 z
+fits8 : (z : ℤ) → natAbs z < 128 → SFits w8 z
 fits8 z h = record { sfits = omega (arith, mag-le z) }
 
 pub fits64 : (z : ℤ) → natAbs z < 9223372036854775808 → SFits w64 z

@@ -47,7 +47,7 @@ module _ (p : ℕ) (h : p < 256) where
 
 -- ---- no point counts much
 
-pub edge-most : (q : Bool → Bool → Bool) → edge q ≤ 2
+edge-most : (q : Bool → Bool → Bool) → edge q ≤ 2
 edge-most q = leb→le (edge q) 2 (eachFour-at (λ q. leb (edge q) 2) tt q)
 
 inner-most : (q : Bool → Bool → Bool) → innerEdge q ≤ 1

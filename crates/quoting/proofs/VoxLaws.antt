@@ -27,7 +27,7 @@ unfolding measureAnswer
 measure-quotes job entries v h = ap (λ (c : Checked). answerOf c job.field (solid job)) (measure-decides job entries .accepted .1 (v, h))
 
 -- the text of an accepted file is the quote of its cells
-pub vox-text : (places : ℕ) (bytes : List ℕ) {job : Job} → voxIn places bytes ≡ file job
+vox-text : (places : ℕ) (bytes : List ℕ) {job : Job} → voxIn places bytes ≡ file job
     → (entries : ℕ) → 4098 ≤ entries → voxText bytes places entries ≡ quoteLines (totalsOf job.field (solid job))
 unfolding voxText answerText
 vox-text places bytes {job} is entries enough =

@@ -49,7 +49,7 @@ module _ (us : List Test) where
       go false e f = f e
 
 -- ---- the numbers of an answer are those of the first test that holds
-pub first-numbers : (ts : List Test) → checkedNumbers (firstOf ts) ≡ firstNumbers ts
+first-numbers : (ts : List Test) → checkedNumbers (firstOf ts) ≡ firstNumbers ts
 unfolding firstOf firstNumbers checkedNumbers
 first-numbers [] = refl
 first-numbers (t ∷ ts) = go (t .holds) (first-numbers ts)
@@ -77,7 +77,7 @@ module _ (condition : Refusal → Type 0) where
   refutes t s h c = true≢false (sym (s .1 c) ∙ h)
 
   -- the refusal that is given has a condition that holds, and that of no test before it does
-  pub first-given : (ts : List Test) → Each (Says condition) ts → (r : Refusal) → firstOf ts ≡ Refused r → First condition ts r
+  first-given : (ts : List Test) → Each (Says condition) ts → (r : Refusal) → firstOf ts ≡ Refused r → First condition ts r
   unfolding firstOf
   first-given [] s r e = apart (sym e)
   first-given (t ∷ ts) s r e = go (t .holds) refl e (first-given ts (s .1) r)
@@ -98,7 +98,7 @@ module _ (condition : Refusal → Type 0) where
             holds = f .holds;
           }
 
-  pub given-first : (before : List Test) (here : Test) (after : List Test) → Each (Says condition) (before ++ here ∷ after) → Each (λ t. ¬ condition (t .gives)) before → condition (here .gives) → firstOf (before ++ here ∷ after) ≡ Refused (here .gives)
+  given-first : (before : List Test) (here : Test) (after : List Test) → Each (Says condition) (before ++ here ∷ after) → Each (λ t. ¬ condition (t .gives)) before → condition (here .gives) → firstOf (before ++ here ∷ after) ≡ Refused (here .gives)
   unfolding firstOf
   given-first [] here after s n c = rw (s .0 .1 c)
   given-first (t ∷ before) here after s n c = go (t .holds) refl (given-first before here after (s .1) (n .1) c)

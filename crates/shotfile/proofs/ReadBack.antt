@@ -182,7 +182,7 @@ module _ (s : List ℕ) where
       shots-on s (record { at = length pre; last = p }) left places
       ∙ ap (λ t. onStep t (shotsFrom left places s)) (one-step pre rest p f e small)
 
-  pub shots-read : (left places : ℕ) (pre : List ℕ) (p : Fields) (ts : List Shot)
+  shots-read : (left places : ℕ) (pre : List ℕ) (p : Fields) (ts : List Shot)
       → s ≡ pre ++ shotRecords p ts
       → length ts ≤ left
       → length ts ≤ places

@@ -63,10 +63,10 @@ pub written-read : (s : List ℕ) (places : ℕ) (job : Job) → Bytes s → T (
 written-read s places job b t e = file-same s places e b t
 
 -- (c)
-pub written-shortest : (job : Job) → Valid job → T (shortest (fileOf job))
+written-shortest : (job : Job) → Valid job → T (shortest (fileOf job))
 written-shortest job v = subst T (sym (file-tight job (small-settings v) (small-shots job.field (shots job) (v .field-most) (v .inside)))) tt
 
-pub shortest-least : (s : List ℕ) (places : ℕ) (job : Job) → fileIn places s ≡ file job → length (fileOf job) ≤ length s
+shortest-least : (s : List ℕ) (places : ℕ) (job : Job) → fileIn places s ≡ file job → length (fileOf job) ≤ length s
 shortest-least s places job e = file-least s places e
 
 -- (d)

@@ -39,7 +39,7 @@ module _ (s : List ℕ) (at b absent : ℕ) (bit : b ≤ 1) where
     value : (b ≡ 0 → ⊥) → fieldAt s at b absent ≡ fieldNumber s at
     value h = sym (field-there s at b absent h)
 
-    pub bit-same : b ≡ bitOf absent (fieldAt s at b absent)
+    bit-same : b ≡ bitOf absent (fieldAt s at b absent)
     bit-same = go (eqb b 0) refl
       where
         go : (t : Bool) → eqb b 0 ≡ t → b ≡ bitOf absent (fieldAt s at b absent)
@@ -49,7 +49,7 @@ module _ (s : List ℕ) (at b absent : ℕ) (bit : b ≤ 1) where
             let one : b ≡ 1 = omega arith in
             one ∙ bit-there absent (fieldAt s at b absent) (λ q. there h (sym (value h) ∙ q))
 
-    pub field-same : drop at s ≡ fieldOf absent (fieldAt s at b absent) ++ drop (at + 2 * b) s
+    field-same : drop at s ≡ fieldOf absent (fieldAt s at b absent) ++ drop (at + 2 * b) s
     field-same = go (eqb b 0) refl
       where
         go : (t : Bool) → eqb b 0 ≡ t → drop at s ≡ fieldOf absent (fieldAt s at b absent) ++ drop (at + 2 * b) s

@@ -22,7 +22,7 @@ abbrev pub Fits : ℕ → File → Type 0
 Fits places (file job) = (length job.coords ≡ placeOf (shotCount job.coords)) × (shotCount job.coords ≤ places)
 Fits places (refused r) = Unit {0}
 
-pub file-fits : (places : ℕ) (s : List ℕ) → Fits places (fileIn places s)
+file-fits : (places : ℕ) (s : List ℕ) → Fits places (fileIn places s)
 file-fits places s = go (fileIn places s) refl
   where
     go : (k : File) → fileIn places s ≡ k → Fits places k

@@ -20,7 +20,7 @@ apart e = let z : _≡_ {A = ℕ} 0 1 = cc in absurd (omega arith)
 
 module _ (places : ℕ) (s : List ℕ) where
   -- a file is refused if and only if its first faulty record is: by this refusal, whose condition is the first that holds there
-  pub file-refuses : (r : Refusal) → (fileIn places s ≡ refused r) ↔ FirstFault places s r
+  file-refuses : (r : Refusal) → (fileIn places s ≡ refused r) ↔ FirstFault places s r
   file-refuses r = (to (outcome places s), from (outcome places s))
     where
       to : Outcome places s (fileIn places s) → fileIn places s ≡ refused r → FirstFault places s r
@@ -35,7 +35,7 @@ module _ (places : ℕ) (s : List ℕ) where
       from (turned-down e h) k = e ∙ ap refused (first-fault-one h k)
 
   -- a file is read if and only if no record of it is faulty
-  pub file-reads : ((job : Job) × (fileIn places s ≡ file job)) ↔ Faultless places s
+  file-reads : ((job : Job) × (fileIn places s ≡ file job)) ↔ Faultless places s
   file-reads = (to (outcome places s), from (outcome places s))
     where
       to : Outcome places s (fileIn places s) → (job : Job) × (fileIn places s ≡ file job) → Faultless places s

@@ -25,7 +25,7 @@ use Rattle.shotfile_records.proofs.Parts.{parts}
 -- ---- the places of the records
 module _ {s : List ℕ} where
   -- a record has one place
-  pub same-place : {n at place : ℕ} {absent p : Fields} → IsRecord s n at absent → IsRecord s n place p → place ≡ at
+  same-place : {n at place : ℕ} {absent p : Fields} → IsRecord s n at absent → IsRecord s n place p → place ≡ at
   same-place header header = refl
   same-place (first-shot h) (first-shot k) = refl
   same-place (next-shot r h) (next-shot q k) = ap (endOf s) (same-place r q)
@@ -49,7 +49,7 @@ module _ {s : List ℕ} where
 -- ---- one record
 module _ (places : ℕ) (s : List ℕ) (n at : ℕ) where
   -- a fault of a record, and none with a lower number
-  pub record Broken (r : Refusal) : Type 0 where
+  record Broken (r : Refusal) : Type 0 where
     pub holds : Fault places s n at r
     pub none-before : (q : Refusal) → numberOf q < numberOf r → ¬ Fault places s n at q
 
@@ -131,7 +131,7 @@ module _ (places : ℕ) (s : List ℕ) where
           subst (λ (i : ℕ). (f : Refusal) → ¬ Fault places s i place f) (sym same) (subst (λ (i : ℕ). (f : Refusal) → ¬ Fault places s (suc k) i f) (sym (same-place r q')) here)
 
   -- the cursor is at the end of record k, where the next record begins, if there is one
-  pub record Reached (k : ℕ) (c : Cursor) : Type 0 where
+  record Reached (k : ℕ) (c : Cursor) : Type 0 where
     pub at : ℕ
     pub absent : Fields
     pub is : IsRecord s k at absent

@@ -40,11 +40,11 @@ module _ (s : List ℕ) (c : Cursor) where
   shots-end (suc left) (suc places) h = ap (λ (t : Step). onStep t (shotsFrom left places s)) (sym (step-end h))
 
   module _ (h : c .at < length s) where
-    pub shots-many : (places : ℕ) → shotsFrom 0 places s c ≡ faulty (TooManyShots (c .at))
+    shots-many : (places : ℕ) → shotsFrom 0 places s c ≡ faulty (TooManyShots (c .at))
     unfolding shotsFrom
     shots-many places = simp (lt-ltb (c .at) (length s) h)
 
-    pub shots-full : (left : ℕ) → shotsFrom (suc left) 0 s c ≡ faulty (NoPlace (c .at))
+    shots-full : (left : ℕ) → shotsFrom (suc left) 0 s c ≡ faulty (NoPlace (c .at))
     unfolding shotsFrom
     shots-full left = simp (lt-ltb (c .at) (length s) h)
 
@@ -54,7 +54,7 @@ abbrev pub more : ℕ → Counted → Counted
 more n (Shots k) = Shots (n + k)
 more n (Uncounted r) = Uncounted r
 
-pub more-none : (k : Counted) → more 0 k ≡ k
+more-none : (k : Counted) → more 0 k ≡ k
 more-none (Shots k) = ap Shots (omega arith)
 more-none (Uncounted r) = refl
 

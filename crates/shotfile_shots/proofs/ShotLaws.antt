@@ -23,11 +23,11 @@ module _ (s : List ℕ) (c : Cursor) (n : ℕ) where
   unfolding shotLines
   lines-on left = refl
 
-  pub lines-end : length s ≤ c .at → shotLines 0 n s c ≡ []
+  lines-end : length s ≤ c .at → shotLines 0 n s c ≡ []
   unfolding shotLines
   lines-end h = simp (le-ltb (c .at) (length s) h)
 
-  pub lines-many : c .at < length s → shotLines 0 n s c ≡ refusedLine (TooManyShots (c .at))
+  lines-many : c .at < length s → shotLines 0 n s c ≡ refusedLine (TooManyShots (c .at))
   unfolding shotLines
   lines-many h = simp (lt-ltb (c .at) (length s) h)
 

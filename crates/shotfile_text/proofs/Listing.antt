@@ -31,7 +31,7 @@ pub data Shows : ℕ → List ℕ → List ℕ → Type 0 where
   more : {n : ℕ} {coords lines : List ℕ} (f : Fields) (at : ℕ) → Shows (n + 1) coords lines → Shows n (shotNumbers f ++ coords) (shotLine f n at ++ lines)
 
 -- lines show some shots, and then the refusal of a record
-pub record Breaks (n : ℕ) (r : Refusal) (lines : List ℕ) : Type 0 where
+record Breaks (n : ℕ) (r : Refusal) (lines : List ℕ) : Type 0 where
   pub coords : List ℕ
   pub whole : List ℕ
   pub shown : Shows n coords whole

@@ -23,14 +23,14 @@ use Rattle.sweep_carving.specs.Carving.{replaced, joined, Carved}
 
 -- ---- an image, and what it shows cell by cell
 
-pub turned-agree : (n : ℕ) (a b : Layer → Layer) (u u' : List ℕ) → ((f : Layer) (y z : ℕ) → a f y z ≡ b f y z) → Turned n a u u'
+turned-agree : (n : ℕ) (a b : Layer → Layer) (u u' : List ℕ) → ((f : Layer) (y z : ℕ) → a f y z ≡ b f y z) → Turned n a u u'
     → Turned n b u u'
 turned-agree n a b u u' e t = record { shows = λ f s. shows-ext (e f) (t .shows f s); same-size = t .same-size }
 
-pub turned-none : (n : ℕ) (a : Layer → Layer) (u : List ℕ) → ((f : Layer) (y z : ℕ) → f y z ≡ a f y z) → Turned n a u u
+turned-none : (n : ℕ) (a : Layer → Layer) (u : List ℕ) → ((f : Layer) (y z : ℕ) → f y z ≡ a f y z) → Turned n a u u
 turned-none n a u e = record { shows = λ f s. shows-ext (e f) s; same-size = refl }
 
-pub turned-then : (n : ℕ) (a b c : Layer → Layer) (u v w : List ℕ) → ((f : Layer) (y z : ℕ) → b (a f) y z ≡ c f y z) → Turned n a u v
+turned-then : (n : ℕ) (a b c : Layer → Layer) (u v w : List ℕ) → ((f : Layer) (y z : ℕ) → b (a f) y z ≡ c f y z) → Turned n a u v
     → Turned n b v w → Turned n c u w
 turned-then n a b c u v w e s t = record { shows = λ f h. shows-ext (e f) (t .shows (a f) (s .shows f h)); same-size = t .same-size ∙ s .same-size }
 

@@ -22,6 +22,7 @@ use sweep_overlaps::fuel_left;
 use sweep_overlaps::has_no_cell;
 use sweep_overlaps::meets;
 use sweep_overlaps::part;
+use sweep_overlaps::size;
 
 // Sets what box i has of a rectangle in an image, if it ends past the plane x.
 fn fill_common(field: u16, boxes: &[u16], x: u16, i: usize, r: Rect, u: &mut [u64])
@@ -68,7 +69,7 @@ pub fn again(
 // wipes what no box covers of it. It calls itself for the parts around what the first box that meets the rectangle has of it, with the
 // boxes after that one; so the calls nest no deeper than there are boxes. The fuel bounds how many boxes are asked: where it is used up, the
 // rectangle is shown anew box by box. Gives the fuel that is left.
-pub fn carve(
+fn carve(
     field: u16,
     boxes: &[u16],
     x: u16,
@@ -118,4 +119,34 @@ pub fn carve(
         );
     }
     left
+}
+
+// The fuel for a rectangle.
+fn fuel_to_carve(r: Rect) -> usize
+    requires { ⌜ (r .high ≤ 1024) × (r .to ≤ 1024) ⌝ }
+{
+    size(r) / 8 + 64
+}
+
+// Shows a rectangle anew where the image shows all boxes before number `to`, and none before number `from` has a cell of the rectangle.
+pub fn carve_rect(
+    field: u16,
+    boxes: &[u16],
+    x: u16,
+    from: usize,
+    to: usize,
+    r: Rect,
+    l: &[u64],
+    u: &mut [u64],
+    names: &mut [u64],
+)
+    requires { ⌜ r .high ≤ field ⌝ }
+    requires { ⌜ r .to ≤ field ⌝ }
+    requires { ⌜ FirstBoxes field (now boxes) to ⌝ }
+    requires { ⌜ from ≤ to ⌝ }
+    requires { ⌜ Lent field (now l) (now u) (now names) ⌝ }
+    ensures { λ _. ⌜ Carved field (now (boxes .entry)) x from to r (now (u .entry)) (now (u .exit)) ⌝ }
+    ensures { λ _. ⌜ Tells field (now (l .entry)) (now (u .exit)) (now (names .exit)) ⌝ }
+{
+    carve(field, boxes, x, from, to, r, l, u, names, fuel_to_carve(r));
 }

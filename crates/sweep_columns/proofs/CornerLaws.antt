@@ -27,7 +27,7 @@ module _ (x y k l₀ l₁ u₀ u₁ : ℕ) where
   corner-none b e = ap (λ (t : Bool). cond t (cornerOf x y (63 * k + b) (byte (patternOf l₀ l₁ u₀ u₁ b)) ∷ []) []) e
 
   -- the corner at a place, as it is met
-  pub corner-met : (b : ℕ) {p : ℕ} (g : Found) {h : Found} → corner (patternOf l₀ l₁ u₀ u₁ b) ≡ true → p ≡ byte (patternOf l₀ l₁ u₀ u₁ b)
+  corner-met : (b : ℕ) {p : ℕ} (g : Found) {h : Found} → corner (patternOf l₀ l₁ u₀ u₁ b) ≡ true → p ≡ byte (patternOf l₀ l₁ u₀ u₁ b)
       → h ≡ meet g (cornerOf x y (63 * k + b) p) → h ≡ found g (cornerAt x y k l₀ l₁ u₀ u₁ b)
   unfolding cornerAt
   corner-met b {p} g {h} c q e =
@@ -35,7 +35,7 @@ module _ (x y k l₀ l₁ u₀ u₁ : ℕ) where
       ∙ ap (λ (t : Bool). found g (cond t (cornerOf x y (63 * k + b) (byte (patternOf l₀ l₁ u₀ u₁ b)) ∷ []) [])) (sym c)
 
   module _ (m : ℕ) (w : (b : ℕ) → bitAt m b ≡ (ltb b 63 && corner (patternOf l₀ l₁ u₀ u₁ b))) where
-    pub named-corner : (b : ℕ) → bitAt m b ≡ true → (b < 63) × (corner (patternOf l₀ l₁ u₀ u₁ b) ≡ true)
+    named-corner : (b : ℕ) → bitAt m b ≡ true → (b < 63) × (corner (patternOf l₀ l₁ u₀ u₁ b) ≡ true)
     named-corner b e = go (ltb b 63) refl (sym (w b) ∙ e)
       where
         go : (t : Bool) → ltb b 63 ≡ t → (t && corner (patternOf l₀ l₁ u₀ u₁ b)) ≡ true

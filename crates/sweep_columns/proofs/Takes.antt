@@ -16,7 +16,7 @@ use Rattle.sweep_tally.proofs.FoundLaws.{found-append, found-one, room-meet}
 pub record Takes (m : ℕ) (vs : List Corner) : Type 0 where
   pub room : (g : Found) (n : ℕ) → Room (g .sums) n → Room (found g vs .sums) (n + m)
 
-pub takes-none : Takes 0 []
+takes-none : Takes 0 []
 unfolding found
 takes-none = record { room = λ g n r. room-more (g .sums) n (n + 0) (omega arith) r }
 

@@ -3,8 +3,7 @@ use mathlib.Core.Path.{_≡_, refl, sym, _∙_, ap, ap₂, subst}
 use mathlib.Core.Logic.{_≢_}
 use mathlib.Core.Bool.{Bool, true, false, cond, _&&_, _||_, or-false}
 use mathlib.Core.List.{List}
-use Prim.Native.Nat.{ℕ, zero, suc, _+_, _*_, _<_, _≤_}
-use lib.ListN.{length}
+use Prim.Native.Nat.{ℕ, zero, suc, _+_, _<_, _≤_}
 use native.Mathlib.Omega.{arith}
 use native.Mathlib.Numerals.{add-one}
 use lib.Dec.{leb, ltb, eqb}
@@ -87,19 +86,19 @@ module _ (boxes : List ℕ) (x : ℕ) (y z : ℕ) where
   ending-none n h = any-to-none n (λ i l. ap (λ b. b && face i) (ne-eqb (boxAt boxes i .x-end) x (h i l)))
 
   -- ---- a face that ends on the plane
-  pub release-more : (old q : ℕ) → boxAt boxes q .x-end ≡ x
+  release-more : (old q : ℕ) → boxAt boxes q .x-end ≡ x
       → replaced (rectOf (boxAt boxes q)) (shade boxes x old) (released boxes x old q) y z ≡ released boxes x old (q + 1) y z
   release-more old q e =
       cond-twice (ending boxes x q y z) (face q) (shade boxes x old y z) (touching boxes x old y z)
       ∙ ap (λ b. cond b (shade boxes x old y z) (touching boxes x old y z)) (sym (ending-more q e) ∙ ap (λ n. ending boxes x n y z) (sym (add-one q)))
 
-  pub release-same : (old q : ℕ) → boxAt boxes q .x-end ≢ x → released boxes x old q y z ≡ released boxes x old (q + 1) y z
+  release-same : (old q : ℕ) → boxAt boxes q .x-end ≢ x → released boxes x old q y z ≡ released boxes x old (q + 1) y z
   release-same old q e = ap (λ b. cond b (shade boxes x old y z) (touching boxes x old y z)) (sym (ending-same q e) ∙ ap (λ n. ending boxes x n y z) (sym (add-one q)))
 
-  pub release-done : (old : ℕ) → released boxes x old old y z ≡ shade boxes x old y z
+  release-done : (old : ℕ) → released boxes x old old y z ≡ shade boxes x old y z
   release-done old = ap (λ b. cond (ending boxes x old y z) (shade boxes x old y z) b) (touching-split old) ∙ settled (ending boxes x old y z) (shade boxes x old y z)
 
-  pub release-keeps : (old q : ℕ) → shade boxes x old y z ≡ true → released boxes x old q y z ≡ true
+  release-keeps : (old q : ℕ) → shade boxes x old y z ≡ true → released boxes x old q y z ≡ true
   release-keeps old q e = go (ending boxes x q y z)
     where
       go : (b : Bool) → cond b (shade boxes x old y z) (touching boxes x old y z) ≡ true
@@ -107,12 +106,12 @@ module _ (boxes : List ℕ) (x : ℕ) (y z : ℕ) where
       go false = touching-split old ∙ ap (λ b. b || ending boxes x old y z) e
 
   -- ---- a face that begins on it
-  pub paint-more : (q : ℕ) → x < boxAt boxes q .x-end → (shade boxes x q y z || face q) ≡ shade boxes x (q + 1) y z
+  paint-more : (q : ℕ) → x < boxAt boxes q .x-end → (shade boxes x q y z || face q) ≡ shade boxes x (q + 1) y z
   paint-more q h = sym (shade-more q h) ∙ ap (λ n. shade boxes x n y z) (sym (add-one q))
 
   -- ---- boxes that end before the plane
   module _ {field from old n : ℕ} (a : About field boxes x from old n) where
-    pub none-before : shade boxes x from y z ≡ false
+    none-before : shade boxes x from y z ≡ false
     unfolding shade
     none-before = any-to-none from (λ i l. ap (λ b. b && face i) (le-ltb x (boxAt boxes i .x-end) (let h = a .passed i l in omega arith)))
 
@@ -120,19 +119,13 @@ module _ (boxes : List ℕ) (x : ℕ) (y z : ℕ) where
     unfolding ending
     none-ends = any-to-none from (λ i l. ap (λ b. b && face i) (ne-eqb (boxAt boxes i .x-end) x (λ e. let h = a .passed i l in omega arith)))
 
-    pub release-none : touching boxes x old y z ≡ released boxes x old from y z
+    release-none : touching boxes x old y z ≡ released boxes x old from y z
     release-none = sym (ap (λ b. cond b (shade boxes x old y z) (touching boxes x old y z)) none-ends)
 
 -- ---- in the words of the contracts
 module _ (field : ℕ) (boxes : List ℕ) (x from old n : ℕ) (a : About field boxes x from old n) where
   pub rect-in : (q : ℕ) (r : Rect) → q < n → r ≡ rectOf (boxAt boxes q) → (r .high ≤ field) × (r .to ≤ field)
   rect-in q r l e = (subst (λ (s : Rect). s .high ≤ field) (sym e) (a .known .inside q l .y-in), subst (λ (s : Rect). s .to ≤ field) (sym e) (a .known .inside q l .z-in))
-
-  pub rect-small : (q : ℕ) (r : Rect) → q < n → field ≤ 1024 → r ≡ rectOf (boxAt boxes q) → (r .high ≤ 1024) × (r .to ≤ 1024)
-  rect-small q r l h e = let i = rect-in q r l e in (omega (arith, i .0), omega (arith, i .1))
-
-  pub place-in : (q : ℕ) → q < n → 6 * q + 6 ≤ length boxes
-  place-in q l = omega (arith, a .known .there)
 
   pub released-face : (q : ℕ) (r : Rect) {u u' : List ℕ} → r ≡ rectOf (boxAt boxes q) → boxAt boxes q .x-end ≡ x → Carved field boxes x from old r u u'
       → Becomes field (released boxes x old q) (released boxes x old (q + 1)) u u'

@@ -27,35 +27,6 @@ pub fn rect(boxes: &[u16], i: usize) -> Rect
     }
 }
 
-// The product of two sides.
-pub fn product(a: u16, b: u16) -> usize
-    requires { ⌜ (a ≤ 1024) × (b ≤ 1024) ⌝ }
-    ensures { λ r. ⌜ r ≤ 1048576 ⌝ }
-{
-    (a as usize) * (b as usize)
-}
-
-// How many cells a rectangle has.
-pub fn size(r: Rect) -> usize
-    requires { ⌜ (r .high ≤ 1024) × (r .to ≤ 1024) ⌝ }
-    ensures { λ s. ⌜ s ≤ 1048576 ⌝ }
-{
-    if r.high < r.low {
-        return 0;
-    }
-    if r.to < r.from {
-        return 0;
-    }
-    product(r.high - r.low, r.to - r.from)
-}
-
-// The fuel for a face that ends.
-fn fuel_to_release(r: Rect) -> usize
-    requires { ⌜ (r .high ≤ 1024) × (r .to ≤ 1024) ⌝ }
-{
-    size(r) / 8 + 64
-}
-
 // Takes the face of box q away, if the box ends on the plane.
 fn release_face(
     field: u16,
@@ -76,18 +47,7 @@ fn release_face(
 {
     if boxes[6 * q + 1] == x {
         let r = rect(boxes, q);
-        sweep_carving::carve(
-            field,
-            boxes,
-            x,
-            from,
-            old,
-            r,
-            l,
-            u,
-            names,
-            fuel_to_release(r),
-        );
+        sweep_carving::carve_rect(field, boxes, x, from, old, r, l, u, names);
     }
 }
 
@@ -113,17 +73,6 @@ pub fn release(
     }
 }
 
-// The fuel for the face of a box that begins: small faces are put in whole.
-fn fuel_to_paint(r: Rect) -> usize
-    requires { ⌜ (r .high ≤ 1024) × (r .to ≤ 1024) ⌝ }
-{
-    let cells = size(r);
-    if cells < 32768 {
-        return 0;
-    }
-    cells / 128
-}
-
 // Puts the face of box q in, which begins on the plane.
 fn paint_face(
     field: u16,
@@ -143,7 +92,7 @@ fn paint_face(
     ensures { λ _. ⌜ Tells field (now (l .entry)) (now (u .exit)) (now (names .exit)) ⌝ }
 {
     let r = rect(boxes, q);
-    sweep_painting::paint_parts(field, boxes, x, from, q, r, l, u, names, fuel_to_paint(r));
+    sweep_painting::paint_rect(field, boxes, x, from, q, r, l, u, names);
 }
 
 // Puts the faces of the boxes in that begin on the plane.

@@ -16,14 +16,14 @@ use Rattle.sweep_image.proofs.WordLaws.{not-word}
 
 -- ---- the cells of a rectangle
 module _ (r : Rect) (y z : ℕ) where
-  pub in-rows : r .low < y → y ≤ r .high → inRect r y z ≡ after (r .from) (r .to) z
+  in-rows : r .low < y → y ≤ r .high → inRect r y z ≡ after (r .from) (r .to) z
   in-rows h k = ap (λ (t : Bool). (t && leb y (r .high)) && after (r .from) (r .to) z) (lt-ltb (r .low) y h)
       ∙ ap (λ (t : Bool). t && after (r .from) (r .to) z) (le-leb y (r .high) k)
 
-  pub under-rows : y ≤ r .low → inRect r y z ≡ false
+  under-rows : y ≤ r .low → inRect r y z ≡ false
   under-rows h = ap (λ (t : Bool). (t && leb y (r .high)) && after (r .from) (r .to) z) (le-ltb (r .low) y h)
 
-  pub over-rows : r .high < y → inRect r y z ≡ false
+  over-rows : r .high < y → inRect r y z ≡ false
   over-rows h =
       ap (λ (t : Bool). (ltb (r .low) y && t) && after (r .from) (r .to) z) (lt-leb y (r .high) h)
       ∙ ap (λ (t : Bool). t && after (r .from) (r .to) z) (and-false (ltb (r .low) y))

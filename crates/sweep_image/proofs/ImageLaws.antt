@@ -75,7 +75,7 @@ pub shows-ext : {n : ℕ} {f g : Layer} {img : List ℕ} → ((y z : ℕ) → f 
 shows-ext e s = record { size = s .size; at = λ k y b h m l. s .at k y b h m l ∙ e y (63 * k + b) }
 
 -- an image of zeros shows the empty layer
-pub shows-none : (n : ℕ) (img : List ℕ) → imageSize n ≤ length img → ((i : ℕ) → getD img i 0 ≡ 0) → Shows n (λ y z. false) img
+shows-none : (n : ℕ) (img : List ℕ) → imageSize n ≤ length img → ((i : ℕ) → getD img i 0 ≡ 0) → Shows n (λ y z. false) img
 shows-none n img h z = record { size = h; at = λ k y b i j l. ap (λ (w : ℕ). bitAt w b) (z (k * rows + y)) ∙ bit-zero b }
 
 -- every word of an array of zeros is 0

@@ -19,7 +19,7 @@ pub record Word (r : Rect) (j k y : ℕ) : Type 0 where
   pub high : y ≤ r .high
 
 module _ (r : Rect) (j k y : ℕ) where
-  pub in-word : wordsFrom r j k y ≡ true → Word r j k y
+  in-word : wordsFrom r j k y ≡ true → Word r j k y
   in-word e =
       let kz = and-true (leb j k && leb k (r .to / 63)) (after (r .low) (r .high) y) e in
       let on-z = and-true (leb j k) (leb k (r .to / 63)) (kz .0) in
@@ -31,7 +31,7 @@ module _ (r : Rect) (j k y : ℕ) where
         high = leb-true y (r .high) (on-y .1);
       }
 
-  pub word-in : Word r j k y → wordsFrom r j k y ≡ true
+  word-in : Word r j k y → wordsFrom r j k y ≡ true
   word-in w =
       rw (le-leb j k (w .from), le-leb k (r .to / 63) (w .to), lt-ltb (r .low) y (w .low), le-leb y (r .high) (w .high))
 

@@ -49,7 +49,7 @@ module _ (field : ℕ) (boxes : List ℕ) (x y z : ℕ) {from old n : ℕ} (a : 
   no-face : inRect (wholeRect field) y z ≡ false → (i : ℕ) → i < n → inRect (rectOf (boxAt boxes i)) y z ≡ false
   no-face e i l = is-false (inRect (rectOf (boxAt boxes i)) y z) (λ t. subst T e (face-in field boxes i y z (a .known .inside i l) t))
 
-  pub renew-all : replaced (wholeRect field) (shadeFrom boxes x from n) (touching boxes x old) y z ≡ shade boxes x n y z
+  renew-all : replaced (wholeRect field) (shadeFrom boxes x from n) (touching boxes x old) y z ≡ shade boxes x n y z
   unfolding touching shade
   renew-all = go (inRect (wholeRect field) y z) refl
     where

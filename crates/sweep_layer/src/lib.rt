@@ -1,5 +1,5 @@
 // The layer above a plane across x, from the layer below it: face by face; or, where many boxes end on the plane, all boxes are shown anew.
-// Stands on `sweep_faces` and `sweep_carving`.
+// Stands on `sweep_faces`, `sweep_carving` and `sweep_overlaps`.
 //
 // `boxes`, `x`, `r`, `l`, `u` and `names` are as in `sweep_overlaps` and `sweep_image`; `from`, `old` and `n` as in `sweep_faces`, and `ends`
 // counts the boxes that end on the plane.
@@ -8,11 +8,11 @@ ghost use Rattle.sweep_names.specs.Names.{Tells, Lent};
 ghost use Rattle.sweep_overlaps.specs.Overlaps.{shade};
 ghost use Rattle.sweep_faces.specs.Layers.{About, touching, Becomes};
 use sweep_faces::paint_faces;
-use sweep_faces::product;
 use sweep_faces::rect;
 use sweep_faces::release;
-use sweep_faces::size;
 use sweep_image::Rect;
+use sweep_overlaps::product;
+use sweep_overlaps::size;
 
 // Shows all boxes anew that reach past the plane.
 fn renew_all(

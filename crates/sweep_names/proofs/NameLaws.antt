@@ -94,7 +94,7 @@ module _ {n : ℕ} (r : Rect) (k : ℕ) (l u : List ℕ) (v : ℕ) (single : v �
 
 -- ---- the names
 -- they tell of the words that are as before
-pub tells-beside : {n : ℕ} {r : Rect} {l u v names : List ℕ} → Tells n l u names → Beside r u v → TellsBut n (inWords r) l v names
+tells-beside : {n : ℕ} {r : Rect} {l u v names : List ℕ} → Tells n l u names → Beside r u v → TellsBut n (inWords r) l v names
 tells-beside t b = record {
   size = t .size;
   same = λ k y h m out e. t .same k y h m e ∙ sym (b .kept k y m out);
@@ -112,7 +112,7 @@ tells-all r t = record {
 }
 
 -- two images that are the same, and blank names
-pub tells-blank : (n : ℕ) (l names : List ℕ) → length names ≡ nameRows → ((y : ℕ) → getD names y 0 ≡ 0) → Tells n l l names
+tells-blank : (n : ℕ) (l names : List ℕ) → length names ≡ nameRows → ((y : ℕ) → getD names y 0 ≡ 0) → Tells n l l names
 tells-blank n l names h z = record {
   size = h;
   same = λ k y i j e. refl;

@@ -1,7 +1,8 @@
 -- The cells of a rectangle, as numbers between bounds: those that it shares with another, and the four parts around these.
 use mathlib.Core.Path.{_≡_, refl, sym, _∙_}
 use mathlib.Core.Bool.{Bool, true, false, _&&_, true≢false}
-use Prim.Native.Nat.{ℕ, zero, suc, _≤_, _<_, min, max}
+use Prim.Native.Nat.{ℕ, zero, suc, _-_, _≤_, _<_, min, max}
+use native.Mathlib.Nat.{zero-mul, mul-zero}
 use native.Mathlib.Omega.{arith}
 use lib.Dec.{leb, ltb}
 use borrow.Author.Tests.{le-leb, lt-leb, lt-ltb, leb-true, leb-false, ltb-true, ltb-false}
@@ -9,7 +10,7 @@ use Rattle.ground.proofs.Bools.{and-true, or-false, not-so}
 use Rattle.lattice.specs.Boxes.{Box, BoxIn}
 use Rattle.sweep_image.specs.Images.{RectIn, after, inRect}
 use Rattle.sweep_image.specs.declared.Rect.{Rect}
-use Rattle.sweep_overlaps.specs.Overlaps.{rectOf, emptyRect, overlapsRect, meetsRect, sharedRect, partOf}
+use Rattle.sweep_overlaps.specs.Overlaps.{rectOf, emptyRect, sizeOf, overlapsRect, meetsRect, sharedRect, partOf}
 
 -- ---- a cell of a rectangle
 
@@ -46,6 +47,17 @@ module _ (r : Rect) where
 
   pub empty-by-z : r .low < r .high → leb (r .to) (r .from) ≡ emptyRect r
   empty-by-z h = rw (lt-leb (r .high) (r .low) h)
+
+  -- it has 0 of them, where it ends on an axis before it begins
+  pub size-none-y : r .high < r .low → 0 ≡ sizeOf r
+  size-none-y h =
+      let e : r .high - r .low ≡ 0 = omega arith in
+      rw e (sym (zero-mul (r .to - r .from)))
+
+  pub size-none-z : r .to < r .from → 0 ≡ sizeOf r
+  size-none-z h =
+      let e : r .to - r .from ≡ 0 = omega arith in
+      rw e (sym (mul-zero (r .high - r .low)))
 
   pub empty-bare : emptyRect r ≡ true → (y z : ℕ) → inRect r y z ≡ false
   empty-bare e y z = has-not r y z λ h. true≢false (sym e ∙ rw (lt-leb (r .high) (r .low) (omega (arith, h .low, h .high)), lt-leb (r .to) (r .from) (omega (arith, h .from, h .to))))
@@ -109,7 +121,7 @@ has-meets t x r y z h past k =
 -- ---- the cells that two rectangles share
 
 module _ (r s : Rect) (y z : ℕ) where
-  pub shared-has : Has (sharedRect r s) y z → Has r y z × Has s y z
+  shared-has : Has (sharedRect r s) y z → Has r y z × Has s y z
   shared-has h =
       let low : max (r .low) (s .low) < y = h .low in
       let high : y ≤ min (r .high) (s .high) = h .high in
@@ -119,7 +131,7 @@ module _ (r s : Rect) (y z : ℕ) where
         record { low = omega (arith, low); high = omega (arith, high); from = omega (arith, from); to = omega (arith, to) },
       )
 
-  pub has-shared : Has r y z → Has s y z → Has (sharedRect r s) y z
+  has-shared : Has r y z → Has s y z → Has (sharedRect r s) y z
   has-shared h k =
       record {
         low = omega (arith, h .low, k .low);

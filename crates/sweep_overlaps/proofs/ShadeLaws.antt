@@ -1,11 +1,11 @@
 -- The layer from the boxes: more boxes, the boxes from one on, and the first box or the last that meets a rectangle.
-use mathlib.Core.Path.{_≡_, refl, sym, _∙_}
+use mathlib.Core.Path.{_≡_, refl, sym, _∙_, subst}
 use mathlib.Core.Bool.{Bool, true, false, _&&_, _||_, true≢false}
 use mathlib.Core.List.{List}
 use Prim.Native.Nat.{ℕ, _+_, _-_, _≤_, _<_}
 use native.Mathlib.Omega.{arith}
 use lib.Dec.{leb, ltb}
-use borrow.Author.Tests.{le-leb, lt-leb, leb-true, leb-false, ltb-true}
+use borrow.Author.Tests.{le-leb, lt-leb, leb-true, leb-false, ltb-true, ltb-false}
 use Rattle.ground.specs.FirstPlace.{FirstPlace}
 use Rattle.ground.proofs.Bools.{and-true, not-so}
 use Rattle.ground.proofs.AnyLaws.{any-to-less, any-to-more, any-to-true, any-to-false, any-to-none, any-to-ext}
@@ -71,9 +71,27 @@ first-bare boxes x r {from} {to} {n} first y z h = any-to-none n λ i l. one i l
     one i l true e = missed boxes x r i (first .earlier i (leb-true from i e) l) y z h
     one i l false e = refl
 
-module _ (boxes : List ℕ) (x from to : ℕ) (r : Rect) (n : ℕ) (k : n ≤ to) where
-  pub none-down : n ≡ from → LastMeeting boxes x from to r n
-  none-down e = record { onward = omega arith; within = k; found = λ h. absurd (omega (arith, e, h)) }
+-- ---- the last box that meets it, from `to` down: no box from number n on meets it
+pub record Down (boxes : List ℕ) (x from to : ℕ) (r : Rect) (n : ℕ) : Type 0 where
+  pub onward : from ≤ n
+  pub within : n ≤ to
+  pub later : (i : ℕ) → n ≤ i → i < to → meetsRect (boxAt boxes i) x r ≡ false
 
-  pub found-down : from ≤ n → {t : Bool} → t ≡ meetsRect (boxAt boxes (n - 1)) x r → t ≡ true → LastMeeting boxes x from to r n
-  found-down l is e = record { onward = l; within = k; found = λ h. sym is ∙ e }
+pub down-none : (boxes : List ℕ) (x from to : ℕ) (r : Rect) → from ≤ to → Down boxes x from to r to
+down-none boxes x from to r h = record { onward = h; within = omega arith; later = λ i l k. absurd (omega (arith, l, k)) }
+
+module _ {boxes : List ℕ} {x from to : ℕ} {r : Rect} {n : ℕ} (d : Down boxes x from to r n) where
+  pub down-next : from < n → {t : Bool} → t ≡ meetsRect (boxAt boxes (n - 1)) x r → t ≡ false → Down boxes x from to r (n - 1)
+  down-next h is e = record { onward = omega arith; within = omega (arith, d .within); later = λ i l k. go i l k (ltb i n) refl }
+    where
+      go : (i : ℕ) → n - 1 ≤ i → i < to → (b : Bool) → ltb i n ≡ b → meetsRect (boxAt boxes i) x r ≡ false
+      go i l k true m =
+          let same : n - 1 ≡ i = omega (arith, ltb-true i n m) in
+          subst (λ j. meetsRect (boxAt boxes j) x r ≡ false) same (sym is ∙ e)
+      go i l k false m = d .later i (ltb-false i n m) k
+
+  pub none-down : n ≡ from → LastMeeting boxes x from to r n
+  none-down e = record { onward = d .onward; within = d .within; found = λ h. absurd (omega (arith, e, h)); later = d .later }
+
+  pub found-down : {t : Bool} → t ≡ meetsRect (boxAt boxes (n - 1)) x r → t ≡ true → LastMeeting boxes x from to r n
+  found-down is e = record { onward = d .onward; within = d .within; found = λ h. sym is ∙ e; later = d .later }

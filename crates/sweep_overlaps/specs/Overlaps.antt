@@ -1,7 +1,7 @@
 -- Rectangles of the layer above a plane across x, and the boxes that begin on the plane or before it: which cells they have, which of them meet
 -- a rectangle, and what is left of it around one of them.
 use mathlib.Core.Path.{_≡_}
-use mathlib.Core.Bool.{Bool, true, _&&_, _||_}
+use mathlib.Core.Bool.{Bool, true, false, _&&_, _||_}
 use mathlib.Core.List.{List}
 use Prim.Native.Nat.{ℕ, zero, suc, _+_, _*_, _≤_, _<_, min, max, _-_}
 use lib.Dec.{leb, ltb}
@@ -38,6 +38,10 @@ pub record FirstBoxes (field : ℕ) (boxes : List ℕ) (n : ℕ) : Type 0 where
 abbrev pub emptyRect : Rect → Bool
 emptyRect r = leb (r .high) (r .low) || leb (r .to) (r .from)
 
+-- how many cells it has
+abbrev pub sizeOf : Rect → ℕ
+sizeOf r = (r .high - r .low) * (r .to - r .from)
+
 -- four numbers as one, sixteen bits each
 abbrev pub fourOf : ℕ → ℕ → ℕ → ℕ → ℕ
 fourOf a b c d = ((d * 65536 + c) * 65536 + b) * 65536 + a
@@ -59,6 +63,7 @@ pub record LastMeeting (boxes : List ℕ) (x from to : ℕ) (r : Rect) (n : ℕ)
   pub onward : from ≤ n
   pub within : n ≤ to
   pub found : from < n → meetsRect (boxAt boxes (n - 1)) x r ≡ true
+  pub later : (i : ℕ) → n ≤ i → i < to → meetsRect (boxAt boxes i) x r ≡ false
 
 -- the cells that two rectangles share
 abbrev pub sharedRect : Rect → Rect → Rect

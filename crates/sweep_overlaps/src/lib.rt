@@ -11,7 +11,7 @@ ghost use lib.ListN.{length};
 ghost use Rattle.lattice.specs.Boxes.{boxAt};
 ghost use Rattle.sweep_image.specs.Images.{RectIn};
 ghost use Rattle.ground.specs.FirstPlace.{FirstPlace};
-ghost use Rattle.sweep_overlaps.specs.Overlaps.{rectOf, FirstBoxes, emptyRect, fourOf, overlapsRect, meetsRect, meetsAt, LastMeeting, sharedRect, partOf};
+ghost use Rattle.sweep_overlaps.specs.Overlaps.{rectOf, FirstBoxes, emptyRect, sizeOf, fourOf, overlapsRect, meetsRect, meetsAt, LastMeeting, sharedRect, partOf};
 use sweep_image::Rect;
 
 fn lesser(a: u16, b: u16) -> u16
@@ -40,6 +40,28 @@ pub fn has_no_cell(r: Rect) -> bool
         return true;
     }
     r.to <= r.from
+}
+
+// The product of two sides.
+pub fn product(a: u16, b: u16) -> usize
+    requires { ⌜ (a ≤ 1024) × (b ≤ 1024) ⌝ }
+    ensures { λ r. ⌜ (r ≡ a * b) × (r ≤ 1048576) ⌝ }
+{
+    (a as usize) * (b as usize)
+}
+
+// How many cells a rectangle has.
+pub fn size(r: Rect) -> usize
+    requires { ⌜ (r .high ≤ 1024) × (r .to ≤ 1024) ⌝ }
+    ensures { λ s. ⌜ (s ≡ sizeOf r) × (s ≤ 1048576) ⌝ }
+{
+    if r.high < r.low {
+        return 0;
+    }
+    if r.to < r.from {
+        return 0;
+    }
+    product(r.high - r.low, r.to - r.from)
 }
 
 // Four numbers as one, sixteen bits each.

@@ -18,11 +18,12 @@ use sweep_overlaps::fuel_left;
 use sweep_overlaps::has_no_cell;
 use sweep_overlaps::last_meeting;
 use sweep_overlaps::part;
+use sweep_overlaps::size;
 
 // Paints a rectangle where the image shows all boxes before number `to`. It calls itself for the parts around what the last box that meets
 // the rectangle has of it, down to number `from`, with the boxes before that one; what that box has is painted already. The fuel bounds how
 // many boxes are asked: where it is used up, the rectangle is painted as a whole. Gives the fuel that is left.
-pub fn paint_parts(
+fn paint_parts(
     field: u16,
     boxes: &[u16],
     x: u16,
@@ -72,4 +73,38 @@ pub fn paint_parts(
         );
     }
     left
+}
+
+// The fuel for a rectangle: small ones are painted whole.
+fn fuel_to_paint(r: Rect) -> usize
+    requires { ⌜ (r .high ≤ 1024) × (r .to ≤ 1024) ⌝ }
+{
+    let cells = size(r);
+    if cells < 32768 {
+        return 0;
+    }
+    cells / 128
+}
+
+// Paints a rectangle where the image shows all boxes before number `to`; those from number `from` on are asked what they hide of it.
+pub fn paint_rect(
+    field: u16,
+    boxes: &[u16],
+    x: u16,
+    from: usize,
+    to: usize,
+    r: Rect,
+    l: &[u64],
+    u: &mut [u64],
+    names: &mut [u64],
+)
+    requires { ⌜ r .high ≤ field ⌝ }
+    requires { ⌜ r .to ≤ field ⌝ }
+    requires { ⌜ FirstBoxes field (now boxes) to ⌝ }
+    requires { ⌜ from ≤ to ⌝ }
+    requires { ⌜ Lent field (now l) (now u) (now names) ⌝ }
+    ensures { λ _. ⌜ Painted field (now (boxes .entry)) x to (inRect r) (now (u .entry)) (now (u .exit)) ⌝ }
+    ensures { λ _. ⌜ Tells field (now (l .entry)) (now (u .exit)) (now (names .exit)) ⌝ }
+{
+    paint_parts(field, boxes, x, from, to, r, l, u, names, fuel_to_paint(r));
 }

@@ -6,6 +6,8 @@
 // a word that are still to be looked at.
 ghost use mathlib.Core.Path.{_≡_};
 ghost use Prim.Native.Nat.{_+_, _<_, _≤_};
+ghost use lib.Bits.{bitOr};
+ghost use lib.ListN.{length, getD};
 ghost use Rattle.lattice.specs.Cells.{linePoints, planePoints};
 ghost use Rattle.lattice_sums.specs.CornerSums.{RoomFor};
 ghost use Rattle.lattice_weights.specs.Packed.{Packed};
@@ -15,6 +17,14 @@ ghost use Rattle.sweep_points.specs.Points.{Layers, PlaneFound, lineAt};
 use lattice_sums::sums::CornerSums;
 use sweep_blanks::next_named;
 use sweep_columns::column;
+
+// The columns that row j or the row after it names.
+fn named(names: &[u64], j: usize) -> u64
+    requires { ⌜ j + 1 < length (now names) ⌝ }
+    ensures { λ r. ⌜ r ≡ bitOr (getD (now (names .entry)) j 0) (getD (now (names .entry)) (j + 1) 0) ⌝ }
+{
+    names[j] | names[j + 1]
+}
 
 // The corners of the line y of a field: a column that neither of its rows names is the same in both layers, so it has none.
 fn line(
@@ -33,9 +43,8 @@ fn line(
     ensures { λ r. ⌜
         state r (now (buf .exit)) ≡ found (state t (now (buf .entry))) (lineAt field x (now (l .entry)) (now (u .entry)) y) ⌝ }
 {
-    let j = y as usize;
     let mut s = t;
-    let mut m = names[j] | names[j + 1];
+    let mut m = named(names, y as usize);
     while m != 0 {
         let k = sweep_words::lowest(m);
         s = column(l, u, k, x, y, weights, s, buf);

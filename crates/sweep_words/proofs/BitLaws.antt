@@ -2,15 +2,13 @@
 -- same bits are the same.
 use mathlib.Core.Path.{_≡_, refl, sym, _∙_, ap}
 use mathlib.Core.Bool.{Bool, true, false, not, xor, _&&_, _||_, false≢true}
-use Prim.Native.Nat.{ℕ, zero, suc, _+_, _-_, _*_, _/_, _%_, _^_, _<_, _≤_}
-use native.Mathlib.Nat.{add-comm, div-eq-of-lt, zero-div, div-one, lt-of-lt-of-le}
+use Prim.Native.Nat.{ℕ, zero, suc, _+_, _-_, _*_, _/_, _%_, _^_, _<_}
+use native.Mathlib.Nat.{add-comm, zero-div, div-one}
 use native.Mathlib.Numerals.{add-one}
 use native.Mathlib.Omega.{arith}
-use lib.Arith.{lt-one}
 use lib.Bits.{bitAnd, bitOr, bitXor, or-add-and, and-le-l, and-le-r, and-shr, or-shr, xor-shr, and-mod, or-mod, xor-mod, shifted-half, shifted-even}
 use lib.Dec.{eqb, ltb, eqb·zero-suc, eqb·suc-zero, eqb·suc-suc, leb·zero, leb·suc-zero, leb·suc-suc}
-use lib.Pow.{pow-mono, shr-shr, shl-shr, field, mod-mod-pow, pow-pos}
-use borrow.Author.Tests.{eqb-true}
+use lib.Pow.{shr-shr, shl-shr, field, mod-mod-pow, pow-pos}
 use Rattle.sweep_words.specs.Words.{bitAt}
 
 -- ---- one bit after the other
@@ -29,14 +27,6 @@ bit-suc w b = sym (bit-shr w 1 b ∙ ap (bitAt w) (add-one b))
 pub bit-zero : (b : ℕ) → bitAt 0 b ≡ false
 unfolding bitAt
 bit-zero b = ap (λ (n : ℕ). eqb (n % 2) 1) (zero-div (2 ^ b))
-
--- a word has no bit past its length
-pub bit-past : (n w b : ℕ) → w < 2 ^ n → n ≤ b → bitAt w b ≡ false
-unfolding bitAt
-bit-past n w b h k = ap (λ (m : ℕ). eqb (m % 2) 1) (div-eq-of-lt (lt-of-lt-of-le h (pow-mono k)))
-
-pub bit-high : (w b : ℕ) → w < 2 ^ 64 → 64 ≤ b → bitAt w b ≡ false
-bit-high w b h k = bit-past 64 w b h k
 
 -- a number of which all is shifted
 pub bit-shl-low : (w k b : ℕ) → b < k → bitAt (w * 2 ^ k) b ≡ false
@@ -126,25 +116,6 @@ pub bit-not : (w b : ℕ) → w < 2 ^ 64 → b < 64 → bitAt ((2 ^ 64 - 1) - w)
 bit-not w b h k = bit-opposite 64 ((2 ^ 64 - 1) - w) w b (omega arith) k
 
 -- ---- words by their bits
-digit-known : (x y : ℕ) → x < 2 → y < 2 → eqb x 1 ≡ eqb y 1 → x ≡ y
-digit-known = digits (λ x y. eqb x 1 ≡ eqb y 1 → x ≡ y) (λ e. refl) (λ e. eqb-true 0 1 e) (λ e. sym (eqb-true 0 1 (sym e))) (λ e. refl)
-
-same-below : (n v w : ℕ) → v < 2 ^ n → w < 2 ^ n → ((b : ℕ) → b < n → bitAt v b ≡ bitAt w b) → v ≡ w
-same-below zero v w h k f = lt-one h ∙ sym (lt-one k)
-same-below (suc n) v w h k f =
-    let low : v % 2 ≡ w % 2 = digit-known (v % 2) (w % 2) (omega arith) (omega arith) (sym (bit-first v) ∙ f 0 (omega arith) ∙ bit-first w) in
-    let rest : v / 2 ≡ w / 2
-    = same-below n (v / 2) (w / 2) (omega arith) (omega arith) (λ b l. sym (bit-suc v b) ∙ f (suc b) (omega arith) ∙ bit-suc w b) in
-    omega arith
-
--- words with the same bits are the same
-pub bit-ext : (v w : ℕ) → v < 2 ^ 64 → w < 2 ^ 64 → ((b : ℕ) → b < 64 → bitAt v b ≡ bitAt w b) → v ≡ w
-bit-ext = same-below 64
-
--- a word that has no bit is 0
-pub bits-none : (w : ℕ) → w < 2 ^ 64 → ((b : ℕ) → b < 64 → bitAt w b ≡ false) → w ≡ 0
-bits-none w h f = bit-ext w 0 h (omega arith) (λ b l. f b l ∙ sym (bit-zero b))
-
 -- a word that has a bit is not 0
 pub bit-some : (w b : ℕ) → bitAt w b ≡ true → 0 < w
 bit-some zero b e = absurd (false≢true (sym (bit-zero b) ∙ e))

@@ -47,10 +47,6 @@ trailing-lowest m h k =
     let l : LowestBelow 64 m (trailingZeros 64 m) = trailing-below 64 m h k in
     record { within = l .within; set = l .set; under = l .under }
 
--- a word that is not 0 has a bit
-pub bits-some : (m : ℕ) → 0 < m → m < 2 ^ 64 → (k : ℕ) × Lowest m k
-bits-some m h k = (trailingZeros 64 m, trailing-lowest m h k)
-
 -- ---- taking it away
 first-odd : (m : ℕ) → bitAt m 0 ≡ true → m % 2 ≡ 1
 first-odd m e = eqb-true (m % 2) 1 (sym (bit-first m) ∙ e)

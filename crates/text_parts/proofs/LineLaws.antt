@@ -32,15 +32,15 @@ digits-length (suc n) a = omega (arith, length-append (cond (ltb a 10) [] (digit
     few true h = omega arith
     few false h = h
 
-pub digits-none : (a : ℕ) → digits 0 a ≡ []
+digits-none : (a : ℕ) → digits 0 a ≡ []
 unfolding digits
 digits-none a = refl
 
-pub digits-last : (n a : ℕ) → a < 10 → digits (n + 1) a ≡ (48 + a % 10) ∷ []
+digits-last : (n a : ℕ) → a < 10 → digits (n + 1) a ≡ (48 + a % 10) ∷ []
 unfolding digits
 digits-last n a h = rw (add-one n, lt-ltb a 10 h)
 
-pub digits-more : (n a : ℕ) → 10 ≤ a → digits (n + 1) a ≡ digits n (a / 10) ++ ((48 + a % 10) ∷ [])
+digits-more : (n a : ℕ) → 10 ≤ a → digits (n + 1) a ≡ digits n (a / 10) ++ ((48 + a % 10) ∷ [])
 unfolding digits
 digits-more n a h = rw (add-one n, le-ltb a 10 h)
 
@@ -70,7 +70,7 @@ value-append v [] b = refl
 value-append v (d ∷ a) b = value-append (v * 10 + (d - 48)) a b
 
 -- a number below 10ⁿ⁺¹, read back from its digits
-pub digits-value : (n a : ℕ) → a < 10 ^ suc n → valueFrom 0 (digits (suc n) a) ≡ a
+digits-value : (n a : ℕ) → a < 10 ^ suc n → valueFrom 0 (digits (suc n) a) ≡ a
 unfolding valueFrom
 digits-value zero a h = ap (valueFrom 0) (digits-last 0 a h) ∙ omega (arith, h)
 digits-value (suc n) a h = go (decLt a 10) (digits-value n (a / 10) (omega (arith, h, pow-suc 10 (suc n))))

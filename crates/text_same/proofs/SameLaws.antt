@@ -13,7 +13,7 @@ use borrow.Author.Tests.{eqb-true, eq-eqb, ne-eqb}
 use Rattle.text_same.specs.Same.{same}
 
 -- ---- the test says equality
-pub same-is : (a b : List ℕ) → same a b ≡ true → a ≡ b
+same-is : (a b : List ℕ) → same a b ≡ true → a ≡ b
 unfolding same
 same-is [] [] e = refl
 same-is [] (b ∷ t) e = let z : _≡_ {A = ℕ} 0 1 = cc in absurd (omega arith)
@@ -24,7 +24,7 @@ same-is (a ∷ s) (b ∷ t) e = go (eqb a b) refl e (same-is s t)
     go true h k f = ap₂ (λ x y. x ∷ y) (eqb-true a b h) (f k)
     go false h k f = let z : _≡_ {A = ℕ} 0 1 = cc in absurd (omega arith)
 
-pub same-self : (a : List ℕ) → same a a ≡ true
+same-self : (a : List ℕ) → same a a ≡ true
 unfolding same
 same-self [] = refl
 same-self (a ∷ s) = rw (eq-eqb a a refl) (same-self s)

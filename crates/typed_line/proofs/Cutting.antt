@@ -39,7 +39,7 @@ module _ (p : ℕ → Bool) where
   unfolding before
   before-none = refl
 
-  pub before-take : (s : List ℕ) → take (length (before p s)) s ≡ before p s
+  before-take : (s : List ℕ) → take (length (before p s)) s ≡ before p s
   unfolding before
   before-take [] = refl
   before-take (b ∷ s) = go (p b) (before-take s)
@@ -48,7 +48,7 @@ module _ (p : ℕ → Bool) where
       go true e = refl
       go false e = ap (λ l. b ∷ l) e
 
-  pub before-length : (s : List ℕ) → length (before p s) ≤ length s
+  before-length : (s : List ℕ) → length (before p s) ≤ length s
   unfolding before
   before-length [] = omega arith
   before-length (b ∷ s) = go (p b) (before-length s)
@@ -68,12 +68,12 @@ module _ (p : ℕ → Bool) where
     before-end h = ap (λ l. length (before p l)) (drop-of-length-le s h) ∙ ap length before-none
 
   module _ (s : List ℕ) (at : ℕ) {end : ℕ} (e : end ≡ at + length (before p (drop at s))) where
-    pub before-part : part s at end ≡ before p (drop at s)
+    before-part : part s at end ≡ before p (drop at s)
     before-part =
         let n : end - at ≡ length (before p (drop at s)) = omega arith in
         ap (λ k. take k (drop at s)) n ∙ before-take (drop at s)
 
-    pub before-drop : drop (length (before p (drop at s))) (drop at s) ≡ drop end s
+    before-drop : drop (length (before p (drop at s))) (drop at s) ≡ drop end s
     before-drop = drop-drop (length (before p (drop at s))) at s ∙ ap (λ k. drop k s) (sym e)
 
     pub before-within : at ≤ length s → end ≤ length s

@@ -87,7 +87,7 @@ digits-append : {a b : List ℕ} → Digits a → Digits b → Digits (a ++ b)
 digits-append no-digit g = g
 digits-append (one-digit l h f) g = one-digit l h (digits-append f g)
 
-pub digits-are : (n a : ℕ) → Digits (digits n a)
+digits-are : (n a : ℕ) → Digits (digits n a)
 unfolding digits
 digits-are zero a = no-digit
 digits-are (suc n) a = digits-append (go (ltb a 10) (digits-are n (a / 10))) (one-digit (omega arith) (omega arith) no-digit)
@@ -134,7 +134,7 @@ module _ (a : ℕ) where
   decimal-some = digits-some 19 a
 
   -- a number of 16 bits, read back from its digits
-  pub decimal-number : a ≤ 65535 → wordNumber (decimal a) ≡ Is a
+  decimal-number : a ≤ 65535 → wordNumber (decimal a) ≡ Is a
   decimal-number h = sym (number-is (decimal a) a (digits-only (digits-are 20 a)) (decimal-value a (omega arith)) h)
 
 -- ---- a setting and a shot

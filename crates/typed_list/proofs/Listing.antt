@@ -87,7 +87,7 @@ module _ {places : ℕ} (d : Draft) {d' : Draft} (h : d .shots ≤ places) where
       go true false u e = apart e
       go false u q e = apart e
 
-  pub then-adds : (e : Entry) → then places d e ≡ Goes d' → Adds places d d' e
+  then-adds : (e : Entry) → then places d e ≡ Goes d' → Adds places d d' e
   unfolding then
   then-adds Nothing e = let q : d ≡ d' = cc in adds-none Nothing refl (ap (λ (k : Draft). k .shots) q)
   then-adds (Settled s n) e = adds-setting s n e

@@ -1,14 +1,13 @@
 -- Each refusal of a VOX file is given if its condition holds and that of no test before it does, and never otherwise; a file is accepted
 -- exactly if no condition holds. The statements are of the call, by what it promises. Assumes nothing.
 use mathlib.Core.Path.{_≡_, refl, sym, ap, subst, _∙_}
-use mathlib.Core.Bool.{Bool, true, false, not, _||_}
+use mathlib.Core.Bool.{Bool, true, not, _||_}
 use mathlib.Core.List.{List, [], _∷_, _++_}
 use mathlib.Core.Logic.{_↔_, _⊎_}
 use Prim.Native.Nat.{ℕ, _+_, _≤_, _<_}
 use native.Mathlib.Omega.{arith}
 use lib.Dec.{ltb, leb, eqb}
 use lib.ListN.{length, take, drop}
-use borrow.Author.Tests.{ltb-true, ltb-false}
 use Rattle.refusals.specs.declared.Refusal.{Refusal}
 use Rattle.refusals.specs.declared.Refusal.the-variants.{TooManyShots, NoPlace, NotVox, BrokenChunk, VoxelRange}
 use Rattle.refusals.specs.declared.Checked.{Checked}
@@ -28,7 +27,7 @@ use Rattle.text_parts.specs.Text.{text}
 use Rattle.vox_chunks.specs.Chunks.{numberAt, stands, contentAt, childrenAt, afterChunk, missing, overruns, mismatched}
 use Rattle.vox_voxels.specs.Voxels.{sideOn, wrongSide, largestSide, voxelAt}
 use Rattle.vox.specs.Vox.{unmarked, unfilled, voxelCount, overrunFrom, openingTests, voxelTests, voxTests, voxIn, VoxCall}
-use Rattle.vox.specs.Conditions.{Named, NoChunk, Required, main, size, xyzi, no-mark, no-chunk, Misfits, Sized, size-content, xyzi-content, BrokenAt, main-broken, misfit, later-broken, WrongSide, wrong-side, wrong-voxel, VoxCondition, not-vox, broken-chunk, voxel-range, too-many-shots, no-place}
+use Rattle.vox.specs.Conditions.{Named, NoChunk, Required, main, size, xyzi, no-mark, no-chunk, Misfits, Sized, size-content, xyzi-content, main-broken, misfit, later-broken, WrongSide, wrong-side, wrong-voxel, VoxCondition, not-vox, broken-chunk, voxel-range, too-many-shots, no-place}
 use Rattle.vox.proofs.Passed.{voxels-count, given}
 use Rattle.vox.proofs.Faults.{firstFault, fault-is, fault-one, afterVoxels, later-past, later-inside, walk-past, stops-broken, later-stops}
 

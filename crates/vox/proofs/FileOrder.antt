@@ -15,7 +15,6 @@ use Rattle.refusals.specs.Deciding.{Each, First}
 use Rattle.job.specs.Job.{shotCount}
 use Rattle.shotfile_reader.specs.declared.ReadAnswer.{ReadAnswer}
 use Rattle.shotfile_reader.specs.declared.ReadAnswer.the-variants.{Refused as Unread}
-use Rattle.vox_voxels.specs.Voxels.{voxelAt}
 use Rattle.vox_voxels.proofs.VoxelLaws.{wrong-first}
 use Rattle.vox.specs.Vox.{voxelCount, overrunFrom, openingTests, voxelTests, voxTests, VoxCall}
 use Rattle.vox.specs.Conditions.{VoxCondition}

@@ -58,7 +58,7 @@ module _ (s : List ℕ) where
           z-in = omega (arith, leb-false (sideOn s 2) (byteOf s m 2) (z .0));
         }
 
-    pub voxels-valid : Valid (voxJob s)
+    voxels-valid : Valid (voxJob s)
     voxels-valid =
         let n = voxels-count s 0 (voxelCount s) in
         record {
@@ -88,7 +88,7 @@ module _ (s : List ℕ) where
   abbrev list : List ℕ
   list = voxels s 0 (voxelCount s)
 
-  pub voxels-cells : (i j k : ℕ) → (cells (shotsOf 1 (voxels s 0 (voxelCount s))) i j k ≡ true) ↔ HasVoxel s i j k
+  voxels-cells : (i j k : ℕ) → (cells (shotsOf 1 (voxels s 0 (voxelCount s))) i j k ≡ true) ↔ HasVoxel s i j k
   voxels-cells i j k = (to, from)
     where
       to : cells (shotsOf 1 list) i j k ≡ true → HasVoxel s i j k

@@ -21,7 +21,7 @@ differs a b n = rw (ne-eqb a b n)
 pub agrees : (a b : ℕ) → a ≡ b → not (eqb a b) ≡ false
 agrees a b e = rw (eq-eqb a b e)
 
-pub agreed : (a b : ℕ) → not (eqb a b) ≡ false → a ≡ b
+agreed : (a b : ℕ) → not (eqb a b) ≡ false → a ≡ b
 agreed a b h = eqb-true a b (not-false (eqb a b) h)
 
 module _ (s : List ℕ) (at : ℕ) where

@@ -28,7 +28,7 @@ need-requires : tie.Need-need-requires
 need-requires c κs = let s = c .before .before .before .before .before in valid _ (s .args .work .now) (accepted c)
 
 returns-2 : tie.Need-returns-2
-returns-2 c = let s = c .before .before .before .before .before .before .before in short-intake _ (s .args .work .now) (accepted (c .before .before)) (c .before .need .ensures) (c .if1 .taken)
+returns-2 c = let s = c .before .before .before .before .before .before .before in short-intake _ (s .args .work .now) (accepted (c .before .before)) (c .before .need .ensures) (omega arith)
 
 build-requires : tie.Need-build-requires
 build-requires c κs = let s = c .before .before .before .before .before .before .before .before in (valid _ (s .args .work .now) (accepted (c .before .before .before)), omega (arith, c .before .before .need .ensures, c .before .if1 .left))
@@ -39,7 +39,7 @@ same-length c = search needs
 returns-3 : tie.Need-returns-3
 returns-3 c =
     let s = c .before .before .before .before .before .before .before .before .before .before .before in
-    long-intake _ (s .args .work .now) (accepted (c .before .before .before .before .before .before)) (c .before .before .before .before .before .need .ensures) (c .before .before .before .before .if1 .left) (c .before .before .build .ensures)
+    long-intake _ (s .args .work .now) (accepted (c .before .before .before .before .before .before)) (c .before .before .before .before .before .need .ensures) (omega arith) (c .before .before .build .ensures)
 
 pub indexed-spec : {M : Type 1} → statement M
 indexed-spec =

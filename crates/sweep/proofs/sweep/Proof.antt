@@ -14,13 +14,13 @@ slice-aggregate-sweep-boxes : tie.Need-slice-aggregate-sweep-boxes
 slice-aggregate-sweep-boxes c = search needs
 
 sweep-boxes-requires : tie.Need-sweep-boxes-requires
-sweep-boxes-requires c κs = slots-given (c .before .before .before .before .before .before .before .before .pre .valid) (c .before .before .before .fill-slots .ensures)
+sweep-boxes-requires c κs = slots-given (c .before .before .before .before .before .before .before .before .pre .valid) (c .before .before .before .fill-slots .ensures .0)
 
 same-length : tie.Need-same-length
 same-length c = search needs
 
 returns : tie.Need-returns
-returns c = same-found _ _ _ (c .before .before .before .before .before .before .fill-slots .ensures .same-cells) _ (c .before .before .sweep-boxes .ensures)
+returns c = same-found _ _ _ (c .before .before .before .before .before .before .fill-slots .ensures .0 .same-cells) _ (c .before .before .sweep-boxes .ensures)
 
 pub sweep-spec : {M : Type 1} → statement M
 sweep-spec =

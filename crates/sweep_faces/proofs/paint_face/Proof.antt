@@ -1,7 +1,7 @@
 -- A face that begins on the plane is put in beside the boxes before it.
 use native.Mathlib.Omega.{arith}
 use Rattle.sweep_overlaps.proofs.PartLaws.{boxes-less}
-use Rattle.sweep_faces.proofs.FaceLaws.{rect-in, rect-small, painted-face}
+use Rattle.sweep_faces.proofs.FaceLaws.{rect-in, painted-face}
 use borrow.Author.Needs.{needs}
 use Rattle.sweep_faces.proofs.paint_face.Statement.{statement}
 use Rattle.sweep_faces.proofs.paint_face.Tie as tie
@@ -9,13 +9,10 @@ use Rattle.sweep_faces.proofs.paint_face.Tie as tie
 rect-requires : tie.Need-rect-requires
 rect-requires c κs = search needs
 
-fuel-to-paint-requires : tie.Need-fuel-to-paint-requires
-fuel-to-paint-requires c κs = let p = c .before .before .before .before .before .before .before .pre in rect-small _ _ _ _ _ _ (p .0) _ _ (p .2) (p .3 .small) (c .before .before .rect .ensures)
-
-paint-parts-requires : tie.Need-paint-parts-requires
-paint-parts-requires c κs =
-    let p = c .before .before .before .before .before .before .before .before .pre in
-    let r = rect-in _ _ _ _ _ _ (p .0) _ _ (p .2) (c .before .before .before .rect .ensures) in
+paint-rect-requires : tie.Need-paint-rect-requires
+paint-rect-requires c κs =
+    let p = c .before .before .before .before .before .before .before .pre in
+    let r = rect-in _ _ _ _ _ _ (p .0) _ _ (p .2) (c .before .before .rect .ensures) in
     (r .0, (r .1, (boxes-less _ (omega (arith, p .2)) (p .0 .known), (omega (arith, p .1, p .0 .from-old), p .3))))
 
 same-length : tie.Need-same-length
@@ -26,16 +23,15 @@ same-length-2 c = search needs
 
 returns : tie.Need-returns
 returns c =
-    let p = c .before .before .before .before .before .before .before .before .before .before .before .before .before .pre in
-    (painted-face _ _ _ _ _ _ (p .0) _ _ (c .before .before .before .before .before .before .before .before .rect .ensures) (p .1) (p .2) (c .before .before .before .before .paint-parts .ensures .0), c .before .before .before .before .paint-parts .ensures .1)
+    let p = c .before .before .before .before .before .before .before .before .before .before .before .before .pre in
+    (painted-face _ _ _ _ _ _ (p .0) _ _ (c .before .before .before .before .before .before .before .rect .ensures) (p .1) (p .2) (c .before .before .before .before .paint-rect .ensures .0), c .before .before .before .before .paint-rect .ensures .1)
 
 pub paint-face-spec : {M : Type 1} → statement M
 paint-face-spec =
     tie.close
     (tie.spec
     rect-requires
-    fuel-to-paint-requires
-    paint-parts-requires
+    paint-rect-requires
     same-length
     same-length-2
     returns)

@@ -19,7 +19,7 @@ div-result : tie.Need-div-result
 div-result c = search needs
 
 add-result-2 : tie.Need-add-result-2
-add-result-2 c = record { fits = omega (arith, div-le-self (c .product .result / 63) (c .before .before .args .boxes), c .before .size .ensures, c .product .ensures) }
+add-result-2 c = record { fits = omega (arith, div-le-self (c .product .result / 63) (c .before .before .args .boxes), c .before .size .ensures .1, c .product .ensures .1) }
 
 mul-result : tie.Need-mul-result
 mul-result c = search needs

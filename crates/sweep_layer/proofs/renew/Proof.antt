@@ -1,6 +1,6 @@
 -- Either way the layer above the plane is shown.
 use native.Mathlib.Omega.{arith}
-use Rattle.sweep_faces.proofs.FaceLaws.{rect-small}
+use Rattle.sweep_faces.proofs.FaceLaws.{rect-in}
 use borrow.Author.Needs.{needs}
 use Rattle.sweep_layer.proofs.renew.Statement.{statement}
 use Rattle.sweep_layer.proofs.renew.Tie as tie
@@ -15,7 +15,11 @@ add-pays : tie.Need-add-pays
 add-pays c = search needs
 
 pays-requires : tie.Need-pays-requires
-pays-requires c κs = let p = c .before .before .before .before .before .pre in let r = rect-small _ _ _ _ _ _ (p .0) _ _ (p .2) (p .5 .small) (c .rect .ensures) in (p .5 .small, r .0, r .1, omega arith, p .4)
+pays-requires c κs =
+    let p = c .before .before .before .before .before .pre in
+    let r = rect-in _ _ _ _ _ _ (p .0) _ _ (p .2) (c .rect .ensures) in
+    let small = p .5 .small in
+    (small, omega (arith, r .0, small), omega (arith, r .1, small), omega arith, p .4)
 
 renew-all-requires : tie.Need-renew-all-requires
 renew-all-requires c κs = search needs

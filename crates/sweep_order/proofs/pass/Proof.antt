@@ -4,6 +4,7 @@ use Prim.Native.Nat.{_-_}
 use native.Mathlib.Omega.{arith}
 use borrow.Author.Tests.{lt-leb, le-leb}
 use Rattle.ground.proofs.SearchLaws.{Searched, search-none, search-more, search-all, search-found}
+use Rattle.lattice.specs.Boxes.{boxAt}
 use Rattle.sweep_order.specs.Order.{lastsTo}
 use borrow.Author.Needs.{needs}
 use Rattle.sweep_order.proofs.pass.Statement.{statement}
@@ -37,7 +38,10 @@ loop-less : tie.Need-loop-less Inv-loop μ-loop
 loop-less c = search needs
 
 loop-again : tie.Need-loop-again Inv-loop μ-loop
-loop-again c = search-more (c .before .before .before .loop .inv) (omega arith) refl (lt-leb _ _ (c .if2 .left))
+loop-again c =
+    let at-loop = c .before .before .before in
+    let given = at-loop .before .args in
+    search-more (at-loop .loop .inv) (omega arith) refl (lt-leb (given .x) (boxAt (given .boxes .now) (at-loop .loop .i) .x-end) (omega arith))
 
 returns : tie.Need-returns Inv-loop μ-loop
 returns c = search-all (c .before .loop .inv) (omega arith)

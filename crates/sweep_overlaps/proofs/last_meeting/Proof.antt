@@ -1,6 +1,6 @@
--- The number of the loop goes down from `to`; the first that meets the rectangle on the way down, or `from`, is the answer.
-use Prim.Native.Nat.{_≤_, _-_}
-use Rattle.sweep_overlaps.proofs.ShadeLaws.{none-down, found-down}
+-- No box from the number of the loop on meets the rectangle; so the first that does on the way down, or `from`, is the answer.
+use Prim.Native.Nat.{_-_}
+use Rattle.sweep_overlaps.proofs.ShadeLaws.{Down, down-none, down-next, none-down, found-down}
 use Rattle.sweep_overlaps.proofs.PartLaws.{boxes-less}
 use native.Mathlib.Omega.{arith}
 use borrow.Author.Needs.{needs}
@@ -8,13 +8,13 @@ use Rattle.sweep_overlaps.proofs.last_meeting.Statement.{statement}
 use Rattle.sweep_overlaps.proofs.last_meeting.Tie as tie
 
 abbrev Inv-loop : tie.InvT-loop
-Inv-loop boxes x from to r n₀ n = (from ≤ n) × (n ≤ to)
+Inv-loop boxes x from to r n₀ n = Down boxes x from to r n
 
 abbrev μ-loop : tie.MeasureT-loop
 μ-loop boxes x from to r n₀ n = n - from
 
 loop-holds : tie.Need-loop-holds Inv-loop μ-loop
-loop-holds c = search needs
+loop-holds c = down-none _ _ _ _ _ (c .before .pre .1 .0)
 
 sub-meets : tie.Need-sub-meets Inv-loop μ-loop
 sub-meets c = search needs
@@ -31,15 +31,13 @@ loop-less : tie.Need-loop-less Inv-loop μ-loop
 loop-less c = search needs
 
 loop-again : tie.Need-loop-again Inv-loop μ-loop
-loop-again c = search needs
+loop-again c = down-next (c .before .before .before .loop .inv) (omega arith) (c .before .meets .ensures) (c .if2 .left)
 
 returns : tie.Need-returns Inv-loop μ-loop
-returns c = none-down _ _ _ _ _ _ (c .before .loop .inv .1) (c .if1 .taken)
+returns c = none-down (c .before .loop .inv) (c .if1 .taken)
 
 returns-2 : tie.Need-returns-2 Inv-loop μ-loop
-returns-2 c =
-    let inv = c .before .before .before .loop .inv in
-    found-down _ _ _ _ _ _ (inv .1) (inv .0) (c .before .meets .ensures) (c .if2 .taken)
+returns-2 c = found-down (c .before .before .before .loop .inv) (c .before .meets .ensures) (c .if2 .taken)
 
 pub last-meeting-spec : {M : Type 1} → statement M
 last-meeting-spec =

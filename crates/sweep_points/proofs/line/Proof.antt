@@ -1,7 +1,9 @@
 -- Column after column, by the bits that name them.
 use mathlib.Core.Path.{_≡_, refl}
 use native.Mathlib.Omega.{arith}
-use lib.ListN.{length}
+use Prim.Native.Nat.{_+_}
+use lib.Bits.{bitOr}
+use lib.ListN.{length, getD}
 use Rattle.sweep_image.specs.Images.{columns}
 use Rattle.sweep_tally.specs.Found.{state}
 use Rattle.sweep_columns.specs.Columns.{columnAt}
@@ -14,29 +16,17 @@ use Rattle.sweep_points.proofs.line.Statement.{statement}
 use Rattle.sweep_points.proofs.line.Tie as tie
 
 abbrev Inv-loop : tie.InvT-loop
-Inv-loop field x y l u names w buf₀ j s₀ m₀ buf s m =
-    Visited (columns field) m₀ (columnAt x y l u) m (state s₀ buf₀) (state s buf) × (length buf ≡ length buf₀)
+Inv-loop field x y l u names w buf₀ s₀ m₀ buf s m =
+    Visited (columns field) (bitOr (getD names y 0) (getD names (y + 1) 0)) (columnAt x y l u) m (state s₀ buf₀) (state s buf) × (length buf ≡ length buf₀)
 
 abbrev μ-loop : tie.MeasureT-loop
-μ-loop field x y l u names w buf₀ j s₀ m₀ buf s m = m
+μ-loop field x y l u names w buf₀ s₀ m₀ buf s m = m
 
-mul-m : tie.Need-mul-m Inv-loop μ-loop
-mul-m c = search needs
-
-shared-slice-read-m : tie.Need-shared-slice-read-m Inv-loop μ-loop
-shared-slice-read-m c = search needs
-
-add-m : tie.Need-add-m Inv-loop μ-loop
-add-m c = search needs
-
-mul-m-2 : tie.Need-mul-m-2 Inv-loop μ-loop
-mul-m-2 c = search needs
-
-shared-slice-read-m-2 : tie.Need-shared-slice-read-m-2 Inv-loop μ-loop
-shared-slice-read-m-2 c = search needs
+named-requires : tie.Need-named-requires Inv-loop μ-loop
+named-requires c κs = let given = c .before .before .before .before .pre in omega (arith, given .0, given .1 .1 .size)
 
 loop-holds : tie.Need-loop-holds Inv-loop μ-loop
-loop-holds c = (visit-none _ _ _ _, refl)
+loop-holds c = (rw (c .named .ensures) (visit-none _ _ _ _), refl)
 
 lowest-requires : tie.Need-lowest-requires Inv-loop μ-loop
 lowest-requires c κs = search needs
@@ -44,7 +34,7 @@ lowest-requires c κs = search needs
 column-requires : tie.Need-column-requires Inv-loop μ-loop
 column-requires c κs =
     let head = c .before .before .before in
-    let given = head .before .before .before .before .before .before .before .pre in
+    let given = head .before .before .before .before .before .before .pre in
     let turn = head .loop .inv .0 in
     let low = c .before .lowest .ensures in (
       (
@@ -71,7 +61,7 @@ loop-again c =
     let met = c .before .before .before in
     let low = met .before .before in
     let head = low .before .before in
-    let given = head .before .before .before .before .before .before .before .pre in (
+    let given = head .before .before .before .before .before .before .pre in (
       column-next _ _ _ (given .0 .0) (given .0 .2) (given .1 .0) (given .1 .1) (head .loop .inv .0) (low .lowest .ensures)
           (c .without-lowest .ensures) (met .column .ensures),
       search needs,
@@ -84,7 +74,7 @@ returns : tie.Need-returns Inv-loop μ-loop
 unfolding lineAt
 returns c =
     let head = c .before in
-    let given = head .before .before .before .before .before .before .before .pre in
+    let given = head .before .before .before .before .before .before .pre in
     visit-all (names-columns _ _ _ (given .1 .1) (omega (arith, given .0))) (head .loop .inv .0) (omega arith)
 
 pub line-spec : {M : Type 1} → statement M
@@ -93,11 +83,7 @@ line-spec =
     (tie.spec
     Inv-loop
     μ-loop
-    mul-m
-    shared-slice-read-m
-    add-m
-    mul-m-2
-    shared-slice-read-m-2
+    named-requires
     loop-holds
     lowest-requires
     column-requires

@@ -78,14 +78,14 @@ returns-6 c =
     let start = c .before .before .before .before .before .before .before .before .before .before .before .before .before in
     overrun (start .args .places) (start .args .bytes .now) (sym (c .before .before .before .before .before .before .before .before .before .before .is-missing .ensures) ∙ c .before .before .before .before .before .before .before .before .before .if1 .left)
     (sym (c .before .before .before .before .before .before .before .before .is-miscounted .ensures) ∙ c .before .before .before .before .before .before .before .if2 .left) (c .before .before .before .before .before .before .number .ensures) (c .before .before .before .before .before .if3 .left)
-    (c .before .before .before .before .if4 .left) (c .before .before .before .first-wrong .ensures) (c .before .before .if5 .left) (c .before .first-overrun .ensures) (c .if6 .taken)
+    (c .before .before .before .before .if4 .left) (c .before .before .before .first-wrong .ensures) (c .before .before .if5 .left) (c .before .first-overrun .ensures) (omega arith)
 
 returns-7 : tie.Need-returns-7
 returns-7 c =
     let start = c .before .before .before .before .before .before .before .before .before .before .before .before .before in
     whole (start .args .places) (start .args .bytes .now) (sym (c .before .before .before .before .before .before .before .before .before .before .is-missing .ensures) ∙ c .before .before .before .before .before .before .before .before .before .if1 .left)
     (sym (c .before .before .before .before .before .before .before .before .is-miscounted .ensures) ∙ c .before .before .before .before .before .before .before .if2 .left) (c .before .before .before .before .before .before .number .ensures) (c .before .before .before .before .before .if3 .left)
-    (c .before .before .before .before .if4 .left) (c .before .before .before .first-wrong .ensures) (c .before .before .if5 .left) (c .before .first-overrun .ensures) (c .if6 .left)
+    (c .before .before .before .before .if4 .left) (c .before .before .before .first-wrong .ensures) (c .before .before .if5 .left) (c .before .first-overrun .ensures) (omega arith)
 
 pub check-voxels-spec : {M : Type 1} → statement M
 check-voxels-spec =
