@@ -1,6 +1,7 @@
-//! The programs `quote`, `quote_vox`, `recount`, `shots`, `write_shots`, `listing` and `credits` as their users run them:
-//! bytes in, bytes out; and the scripts at the root that prove, build and run them.
+//! The programs behind the commands of `heqdanu` as their users run them, bytes in, bytes out; and the command, which
+//! proves, builds and runs them.
 
+pub mod drawing;
 pub mod listing;
 pub mod run;
 pub mod text;

@@ -18,6 +18,9 @@ pub fn sentence(number: u64) -> &'static str {
         9 => "a shot leaves the field",
         10 => "the work slice is too short for the grid index",
         11 => "the listing buffer is shorter than 7 bytes a corner",
+        13 => "no VOX mark of version 150, or not the chunk required here",
+        14 => "this chunk is cut short, or a size of it does not match",
+        15 => "a side is not 1 to 256, or a voxel is outside or has colour 0",
         _ => panic!("refusal {number} has no sentence here"),
     }
 }

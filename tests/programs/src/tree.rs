@@ -1,21 +1,24 @@
-//! The scripts of the root in a folder of their own, whose name has a space, with a stand-in for `rt` on the path.
+//! The command `heqdanu` in a folder of its own, whose name has a space, with a stand-in for `rt` on the path.
 
 use crate::run::program;
 use std::fs;
 use std::io::Write;
-use std::os::unix::fs::PermissionsExt;
+use std::os::unix::fs::{symlink, PermissionsExt};
 use std::path::{Path, PathBuf};
-use std::process::{Command, Stdio};
+use std::process::{Child, Command, Stdio};
 use std::sync::atomic::{AtomicUsize, Ordering};
+use std::sync::{Mutex, MutexGuard};
 
-/// The scripts that run a program of the same name.
-pub const PROGRAMS: [&str; 7] = ["quote", "quote_vox", "recount", "shots", "write_shots", "listing", "credits"];
-/// All scripts.
-pub const SCRIPTS: [&str; 8] = ["quote", "quote_vox", "recount", "shots", "write_shots", "listing", "credits", "same"];
+/// The commands that run a program of the same name.
+pub const PROGRAMS: [&str; 8] =
+    ["quote", "quote_vox", "recount", "shots", "write_shots", "vox_shots", "listing", "credits"];
+/// All commands.
+pub const COMMANDS: [&str; 10] =
+    ["quote", "quote_vox", "recount", "shots", "write_shots", "vox_shots", "listing", "credits", "drop", "same"];
 /// A stand-in for `rt` that must not be called; `Tree::built` says whether it was.
 pub const NEVER: &str = "echo 'rt: called'; exit 1";
 
-/// What a script wrote, and its status.
+/// What a command wrote, and its status.
 #[derive(Debug, PartialEq, Eq)]
 pub struct Ended {
     pub output: Vec<u8>,
@@ -26,7 +29,7 @@ pub struct Ended {
 impl Ended {
     /// The output as text.
     pub fn text(&self) -> String {
-        String::from_utf8(self.output.clone()).expect("the script prints text")
+        String::from_utf8(self.output.clone()).expect("the command prints text")
     }
 
     /// That it ended with this status and said these lines on its two streams.
@@ -35,47 +38,95 @@ impl Ended {
     }
 }
 
+/// The folder of the repository.
+pub fn repository() -> PathBuf {
+    Path::new(env!("CARGO_MANIFEST_DIR")).join("../..")
+}
+
+/// Copies a file, or a folder with all that is in it.
+fn copy(from: &Path, to: &Path) {
+    if from.is_dir() {
+        fs::create_dir_all(to).expect("a folder is made");
+        for entry in fs::read_dir(from).expect("a folder is read") {
+            let name = entry.expect("an entry").file_name();
+            copy(&from.join(&name), &to.join(&name));
+        }
+    } else {
+        fs::copy(from, to).unwrap_or_else(|error| panic!("{}: {error}", from.display()));
+    }
+}
+
+/// Held while a program is written and while a process is started: a program that a child has open for writing does
+/// not run.
+static ALONE: Mutex<()> = Mutex::new(());
+
+fn alone() -> MutexGuard<'static, ()> {
+    ALONE.lock().unwrap_or_else(|poisoned| poisoned.into_inner())
+}
+
+fn write_program(path: &Path, text: &str) {
+    let _alone = alone();
+    fs::write(path, text).expect("a program is written");
+    fs::set_permissions(path, fs::Permissions::from_mode(0o755)).expect("a program may be run");
+}
+
+/// Starts a program.
+pub fn spawn(command: &mut Command) -> Child {
+    let _alone = alone();
+    command.spawn().unwrap_or_else(|error| panic!("{command:?}: {error}"))
+}
+
 /// The folder, which goes with the value.
 pub struct Tree {
     folder: PathBuf,
 }
 
 impl Tree {
-    /// The scripts, nothing built, and a stand-in for `rt` with these lines of shell, which run in the tree.
+    /// The command, nothing built, and a stand-in for `rt` with these lines of shell, which run in the tree.
     pub fn bare(rt: &str) -> Tree {
         static NUMBER: AtomicUsize = AtomicUsize::new(0);
         let number = NUMBER.fetch_add(1, Ordering::Relaxed);
         let folder = std::env::temp_dir().join(format!("heqdanu-tree-{}-{number}", std::process::id()));
         let tree = Tree { folder };
-        for part in ["bin", "scratch", "a tree/scripts", "a tree/crates/quote/src", "elsewhere"] {
+        for part in ["bin", "scratch", "a tree/crates/quote/src", "elsewhere"] {
             fs::create_dir_all(tree.folder.join(part)).expect("the tree is made");
         }
-        let repository = Path::new(env!("CARGO_MANIFEST_DIR")).join("../..");
-        for file in SCRIPTS.into_iter().chain(["crates.txt", "scripts/building", "scripts/common", "scripts/program"]) {
-            fs::copy(repository.join(file), tree.root().join(file)).expect("a script is copied");
+        let copying = alone();
+        for part in ["heqdanu", "test", "VERSION", "crates.txt", "scripts"] {
+            copy(&repository().join(part), &tree.root().join(part));
         }
-        tree.write_program(&tree.folder.join("bin/rt"), &format!("#!/bin/sh\necho \"$@\" >>../calls\n{rt}\n"));
+        drop(copying);
+        symlink(tree.root().join("heqdanu"), tree.folder.join("bin/heqdanu")).expect("a link is made");
+        tree.put_tool("rt", &format!("echo \"$@\" >>\"$TREE/../calls\"\n{rt}"));
         tree
     }
 
-    /// The scripts with the programs built.
+    /// The command with the programs built.
     pub fn built() -> Tree {
         let tree = Tree::bare(NEVER);
         for name in PROGRAMS {
             tree.put_program(name, |path| {
-                fs::copy(program(name), path).unwrap_or_else(|error| panic!("{name}: {error}"));
+                assert!(program(name).exists(), "{name} is not built");
+                symlink(program(name), path).expect("a link is made");
             });
         }
         tree
     }
 
-    /// The scripts with stand-ins for the programs, all of these lines of shell.
+    /// The command with stand-ins for the programs, all of these lines of shell.
     pub fn standing_in(shell: &str) -> Tree {
         let tree = Tree::bare(NEVER);
         for name in PROGRAMS {
-            tree.put_program(name, |path| tree.write_program(path, &format!("#!/bin/sh\n{shell}\n")));
+            tree.put_program(name, |path| write_program(path, &format!("#!/bin/sh\n{shell}\n")));
         }
         tree
+    }
+
+    /// Puts a stand-in in a program's place.
+    pub fn replace_program(&self, name: &str, shell: &str) {
+        let path = self.root().join("target/bin").join(name);
+        fs::remove_file(&path).expect("the program is there");
+        write_program(&path, &format!("#!/bin/sh\n{shell}\n"));
     }
 
     /// Puts a program with its stamp, as rt leaves them.
@@ -87,12 +138,12 @@ impl Tree {
         fs::write(self.root().join("target/stamp").join(name), "").expect("the stamp is written");
     }
 
-    fn write_program(&self, path: &Path, text: &str) {
-        fs::write(path, text).expect("a program is written");
-        fs::set_permissions(path, fs::Permissions::from_mode(0o755)).expect("a program may be run");
+    /// Puts a stand-in for a tool on the path, before the others.
+    pub fn put_tool(&self, name: &str, shell: &str) {
+        write_program(&self.folder.join("bin").join(name), &format!("#!/bin/sh\n{shell}\n"));
     }
 
-    /// The folder that the scripts take for the repository.
+    /// The folder that the command takes for the repository.
     pub fn root(&self) -> PathBuf {
         self.folder.join("a tree")
     }
@@ -108,14 +159,12 @@ impl Tree {
         fs::read_to_string(self.folder.join("calls")).unwrap_or_default()
     }
 
-    /// Runs a line of shell in a folder that is not the tree; `$TREE` is the tree.
+    /// Runs a line of shell in a folder that is not the tree; `$TREE` is the tree, and `heqdanu` is on the path.
     pub fn shell(&self, line: &str, input: &[u8]) -> Ended {
-        let mut command = Command::new("sh");
-        command.args(["-c", line]).current_dir(self.folder.join("elsewhere"));
-        let path = format!("{}:/usr/bin:/bin", self.folder.join("bin").display());
-        command.env("PATH", path).env("TREE", self.root()).env("TMPDIR", self.folder.join("scratch"));
+        let mut command = self.command("sh");
+        command.args(["-c", line]);
         command.stdin(Stdio::piped()).stdout(Stdio::piped()).stderr(Stdio::piped());
-        let mut child = command.spawn().expect("the shell runs");
+        let mut child = spawn(&mut command);
         // A script may end before it reads.
         let _ = child.stdin.take().expect("standard input is a pipe").write_all(input);
         let output = child.wait_with_output().expect("the shell ends");
@@ -127,15 +176,29 @@ impl Tree {
         }
     }
 
-    /// Runs a script on files.
-    pub fn run(&self, script: &str, files: &[&str]) -> Ended {
+    /// A program that is to run in that folder, with that path.
+    pub fn command(&self, program: impl AsRef<std::ffi::OsStr>) -> Command {
+        let mut command = Command::new(program);
+        let path = format!("{}:/usr/bin:/bin", self.folder.join("bin").display());
+        command.current_dir(self.folder.join("elsewhere")).env("PATH", path);
+        command.env("TREE", self.root()).env("TMPDIR", self.folder.join("scratch"));
+        command
+    }
+
+    /// Runs a command of `heqdanu` on files.
+    pub fn run(&self, command: &str, files: &[&str]) -> Ended {
         let words: Vec<String> = files.iter().map(|file| format!("'{file}'")).collect();
-        self.shell(&format!("\"$TREE/{script}\" {}", words.join(" ")), &[])
+        self.shell(&format!("heqdanu {command} {}", words.join(" ")), &[])
+    }
+
+    /// The folder for temporary files.
+    pub fn scratch(&self) -> PathBuf {
+        self.folder.join("scratch")
     }
 
     /// How many temporary files there are.
     pub fn left_over(&self) -> usize {
-        fs::read_dir(self.folder.join("scratch")).expect("the folder is there").count()
+        fs::read_dir(self.scratch()).expect("the folder is there").count()
     }
 }
 

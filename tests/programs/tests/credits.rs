@@ -60,6 +60,7 @@ fn every_example() {
         ("no_grid.shots", "refused 8 0\n"),
         ("arch.vox", "refused 4 0\n"),
         ("make_arch", "refused 4 0\n"),
+        ("audit.py", "refused 4 0\n"),
     ];
     for (name, lines) in known {
         let file = fs::read(format!("{EXAMPLES}/{name}")).unwrap_or_else(|error| panic!("{name}: {error}"));

@@ -1,6 +1,6 @@
 //! The files in examples/: what each is made of, and the quote that README gives it. An accepted shot file is what
 //! `write_shots` makes of the text here, as in
-//! `printf 'field 8\nedge 2\ngrid 2\nshot 1 1 1\n' | ./write_shots >examples/one_cube.shots`; the VOX file is what the
+//! `printf 'field 8\nedge 2\ngrid 2\nshot 1 1 1\n' | ./heqdanu write_shots >examples/one_cube.shots`; the VOX file is what the
 //! script beside it writes.
 
 use programs::run::on;
@@ -81,6 +81,7 @@ fn no_other_file_is_there() {
         .map(|entry| entry.expect("an example").file_name().to_string_lossy().into_owned())
         .collect();
     let shots = ACCEPTED.iter().map(|(name, ..)| *name).chain(["shell", "cut_off", "outside", "no_grid"]);
-    let known = shots.map(|name| format!("{name}.shots")).chain(["arch.vox".into(), "make_arch".into()]);
+    let known =
+        shots.map(|name| format!("{name}.shots")).chain(["arch.vox", "make_arch", "audit.py"].map(String::from));
     assert_eq!(there, known.collect());
 }

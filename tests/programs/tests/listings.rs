@@ -41,13 +41,16 @@ fn refusals_with_their_sentences() {
         let told = on("listing", file);
         assert_eq!((&told.output[..], told.complaint.as_str()), (&[][..], complaint));
     };
-    refused(&[], "refused 5 0: the file ends before a field of this map, or is empty\n");
-    refused(&[0, 8], "refused 4 1: this map has a bit that has no meaning\n");
-    refused(&[1, 0, 0], "refused 6 0: the field side is not 1 to 1,024\n");
-    refused(&[3, 8, 0, 2, 0, 0], "refused 8 0: the grid size is not 1 to 64, or does not divide the field side\n");
-    refused(&[7, 8, 0, 2, 0, 2, 0, 0, 1, 7, 0], "refused 9 1: a shot leaves the field\n");
-    refused(&[4, 64, 0], "refused 10 262145: the work slice is too short for the grid index\n");
-    refused(&[0; 4098], "refused 2 4097: there are more than 4,096 shots\n");
+    refused(&[], "listing: refused 5 0: the file ends before a field of this map, or is empty\n");
+    refused(&[0, 8], "listing: refused 4 1: this map has a bit that has no meaning\n");
+    refused(&[1, 0, 0], "listing: refused 6 0: the field side is not 1 to 1,024\n");
+    refused(
+        &[3, 8, 0, 2, 0, 0],
+        "listing: refused 8 0: the grid size is not 1 to 64, or does not divide the field side\n",
+    );
+    refused(&[7, 8, 0, 2, 0, 2, 0, 0, 1, 7, 0], "listing: refused 9 1: a shot leaves the field\n");
+    refused(&[4, 64, 0], "listing: refused 10 262145: the work slice is too short for the grid index\n");
+    refused(&[0; 4098], "listing: refused 2 4097: there are more than 4,096 shots\n");
 }
 
 #[test]

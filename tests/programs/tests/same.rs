@@ -14,7 +14,7 @@ fn file(field: u16, edge: u16, grid: u16, shots: &[[u16; 3]]) -> Vec<u8> {
 fn the_examples() {
     let tree = Tree::built();
     let examples = concat!(env!("CARGO_MANIFEST_DIR"), "/../../examples");
-    let line = |names: &str| format!("cd '{examples}' && \"$TREE/same\" {names}");
+    let line = |names: &str| format!("cd '{examples}' && heqdanu same {names}");
     tree.shell(&line("overlap.shots overlap_again.shots"), &[]).is(
         "overlap.shots and overlap_again.shots cure the same cells\n",
         "",
@@ -52,16 +52,40 @@ fn standard_input_on_either_side() {
     let tree = Tree::built();
     let cube = file(8, 2, 2, &[[1, 1, 1]]);
     tree.file("a part", &cube);
-    tree.shell("\"$TREE/same\" 'a part' -", &cube).is("a part and standard input cure the same cells\n", "", 0);
-    tree.shell("\"$TREE/same\" - 'a part'", &cube).is("standard input and a part cure the same cells\n", "", 0);
-    tree.shell("\"$TREE/same\" - 'a part' <&-", &[]).is(
-        "",
-        "same: standard input: listing: standard input cannot be read\n",
-        2,
-    );
+    tree.shell("heqdanu same 'a part' -", &cube).is("a part and standard input cure the same cells\n", "", 0);
+    tree.shell("heqdanu same - 'a part'", &cube).is("standard input and a part cure the same cells\n", "", 0);
+    tree.shell("heqdanu same - 'a part' <&-", &[]).is("", "same: standard input cannot be read\n", 2);
+    tree.shell("heqdanu same 'a part' - </", &[]).is("", "same: standard input cannot be read\n", 2);
 }
 
-/// Holds the script to the oracle's listings.
+/// Trouble with a tool is not taken for an answer.
+#[test]
+fn trouble_with_comparing() {
+    let parts = [file(8, 2, 2, &[[1, 1, 1]]), file(8, 2, 2, &[[1, 1, 1], [5, 5, 5]])];
+    for (tool, ended) in [("exit 2", 2), ("exit 127", 127), ("kill -9 $$", 137)] {
+        let tree = Tree::built();
+        tree.file("a", &parts[0]);
+        tree.file("b", &parts[1]);
+        tree.put_tool("cmp", tool);
+        for names in [["a", "a"], ["a", "b"]] {
+            let complaint =
+                format!("same: the listings cannot be compared: cmp is missing, or ended with status {ended}\n");
+            tree.run("same", &names).is("", &complaint, 2);
+        }
+    }
+    // Where the corner cannot be named, none is.
+    for tool in ["od", "awk"] {
+        let tree = Tree::built();
+        tree.file("a", &parts[0]);
+        tree.file("b", &parts[1]);
+        tree.put_tool(tool, "exit 1");
+        let complaint = "same: the cells are not the same, and the first corner that differs cannot be named\n";
+        tree.run("same", &["a", "b"]).is("", complaint, 2);
+        tree.run("same", &["a", "a"]).is("a and a cure the same cells\n", "", 0);
+    }
+}
+
+/// Holds the command to the oracle's listings.
 fn holds(tree: &Tree, a: &[u8], b: &[u8]) -> i32 {
     tree.file("a", a);
     tree.file("b", b);

@@ -3,6 +3,7 @@
 use oracle::inputs::{self, Random, Size};
 use oracle::quote::{quote, quote_vox, VOX_BYTES};
 use oracle::vox_inputs::{any_file, chunk, crowded, main_put_right, model};
+use programs::drawing::note;
 use programs::run::{in_pieces, on, Told};
 
 const ARCH: &[u8] = include_bytes!("../../../examples/arch.vox");
@@ -12,7 +13,7 @@ const SHOTS: [u8; 15] = [7, 8, 0, 2, 0, 2, 0, 0, 7, 1, 0, 1, 0, 1, 0];
 /// That the program prints what the oracle prints, for an input in pieces of the given length.
 fn holds(file: &[u8], piece: usize) {
     let told = in_pieces("quote_vox", file, piece);
-    assert_eq!((told.text(), told.complaint.as_str()), (quote_vox(file), ""), "{file:02x?}");
+    assert_eq!((told.text(), told.complaint), (quote_vox(file), note("quote_vox", file)), "{file:02x?}");
 }
 
 /// A file of two voxels with a later chunk that has a child: 94 bytes.
