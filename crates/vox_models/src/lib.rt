@@ -4,7 +4,6 @@ use vox_chunks::after_chunk;
 use vox_chunks::is_overrun;
 use vox_chunks::is_there;
 ghost use mathlib.Core.Path.{_≡_};
-ghost use lib.ListN.{length};
 ghost use Rattle.vox_models.specs.Models.{modelFrom, furtherModel};
 
 // The name of the chunk that holds a model's voxels, and where the first one stands.
