@@ -176,9 +176,11 @@ impl Tree {
         }
     }
 
-    /// A program that is to run in that folder, with that path.
+    /// A program that is to run in that folder, with that path. Signals do to it what they do by default, also where these
+    /// tests run in the background or after `nohup`, where some are ignored.
     pub fn command(&self, program: impl AsRef<std::ffi::OsStr>) -> Command {
-        let mut command = Command::new(program);
+        let mut command = Command::new("/usr/bin/env");
+        command.arg("--default-signal=HUP,INT,TERM").arg(program);
         let path = format!("{}:/usr/bin:/bin", self.folder.join("bin").display());
         command.current_dir(self.folder.join("elsewhere")).env("PATH", path);
         command.env("TREE", self.root()).env("TMPDIR", self.folder.join("scratch"));
