@@ -6,4 +6,5 @@ pub mod Grids
 pub mod CoverTest
 pub mod Credits
 pub mod Lengths
+pub mod Sections
 pub mod Comparing
