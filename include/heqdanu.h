@@ -1,9 +1,9 @@
 /* heqdanu.h: cube-shot quotes for C and C++.
  *
  * The calls measure a union of equal axis-aligned cubes ("shots") on a whole-number lattice, list its corner points,
- * credit its cells to the shots that cure them, file the shots in a grid index, name the first of some shots that covers
- * a unit cell, read and write shot files, and read the VOX files of a voxel editor. They live in
- * target/staticlib/libcapi.a, which `rt staticlib capi` proves and writes:
+ * find the corners at one x in such a listing, credit its cells to the shots that cure them, file the shots in a grid
+ * index, name the first of some shots that covers a unit cell, read and write shot files, and read the VOX files of a
+ * voxel editor. They live in target/staticlib/libcapi.a, which `rt staticlib capi` proves and writes:
  *
  *     cc program.c -Iinclude target/staticlib/libcapi.a -o program
  *
@@ -36,8 +36,8 @@
  *     answer[2..] the call's numbers, all 0 if refused
  *
  * Places of `answer` past these keep their values. A call returns 1 when it wrote the answer. It returns 0 when
- * `answer` is too short; then it changed no place of any buffer. heqdanu_covers refuses nothing: its two numbers stand
- * in answer[0] and answer[1].
+ * `answer` is too short; then it changed no place of any buffer. heqdanu_corners_at and heqdanu_covers refuse nothing:
+ * the first answers 0 and 0 before its numbers, and the two numbers of the second stand in answer[0] and answer[1].
  */
 #ifndef HEQDANU_H
 #define HEQDANU_H
@@ -107,6 +107,10 @@ enum {
     HEQDANU_INNER_LENGTH = 5,
     HEQDANU_CORNERS = 6,
     HEQDANU_MEASURE_ANSWER = 7,
+    /* heqdanu_corners_at */
+    HEQDANU_PART_FIRST = 2,
+    HEQDANU_PART_END = 3,
+    HEQDANU_CORNERS_AT_ANSWER = 4,
     /* heqdanu_index */
     HEQDANU_INDEX_ANSWER = 2,
     /* heqdanu_credit */
@@ -164,6 +168,21 @@ uint8_t heqdanu_measure(uint16_t field, uint16_t edge, uint16_t grid, const uint
 uint8_t heqdanu_list(uint16_t field, uint16_t edge, uint16_t grid, const uint16_t *coords, size_t ncoords,
                      uint32_t *work, size_t nwork, uint8_t *listing, size_t nlisting, uint64_t *answer,
                      size_t nanswer);
+
+/* Finds the corners at one x: the part of a listing that holds the records with that x, and nothing else.
+ *
+ * answer: 0, 0, the place of the part's first byte, the place after its last (HEQDANU_CORNERS_AT_ANSWER places). The
+ * part is listing[first] up to listing[end - 1], whole records; first and end are 0 where no record has that x.
+ *
+ * Any bytes are taken for a listing. Records count in sevens from the first byte, and one to six bytes at the end are
+ * not looked at. In a listing that heqdanu_list made the records with one x stand together, so the part holds all of
+ * them. Where a listing is damaged and x falls somewhere, the part is the first unbroken run of records with that x,
+ * whatever stands around it: of five records with x = 5, 5, 2, 2, 5 the part at 2 is from 14 to 28, that at 5 from 0 to
+ * 14. A loop over the part by HEQDANU_RECORD meets each record once, in order.
+ *
+ * Refuses nothing, and writes nothing but the answer.
+ */
+uint8_t heqdanu_corners_at(const uint8_t *listing, size_t nlisting, uint16_t x, uint64_t *answer, size_t nanswer);
 
 /* Measures a list once more, cell by cell: the slow second opinion for a disputed quote, some seconds in the largest
  * field. Same arguments, answer, refusals and buffers as heqdanu_measure. */

@@ -26,8 +26,10 @@ use Rattle.shotfile_writer.specs.declared.WriteAnswer.{WriteAnswer}
 use Rattle.grid_cover.specs.Cover.{firstCovering, coveringOf}
 use Rattle.grid_cover.specs.declared.Covering.{Covering}
 use Rattle.crediting.specs.Credits.{creditsAfter, CreditCall}
-use Rattle.capi_answers.specs.Places.{indexPlaces, measurePlaces, coverPlaces, namedBy}
-use Rattle.capi.specs.Answered.{fits, Told, creditTells, coversTells, IndexTold, MeasureTold, ListTold, CreditTold, CoversTold, ReadTold, VoxTold, WriteTold}
+use Rattle.section.specs.Section.{placesOf}
+use Rattle.section.specs.declared.Places.{Places}
+use Rattle.capi_answers.specs.Places.{indexPlaces, measurePlaces, coverPlaces, namedBy, partPlaces}
+use Rattle.capi.specs.Answered.{fits, Told, cornersAtTells, creditTells, coversTells, IndexTold, MeasureTold, ListTold, CornersAtTold, CreditTold, CoversTold, ReadTold, VoxTold, WriteTold}
 
 -- ---- numbers, n of them
 module _ (numbers : List ℕ) {n : ℕ} (size : length numbers ≡ n) (answer : List ℕ) where
@@ -134,6 +136,14 @@ module _ {job : Job} {work : List ℕ} (answer : List ℕ) where
         index = done-is n refl answer h (workAfter job work) work (call .index);
         credited = done-is n refl answer h (creditsAfter job (length work) credits) credits (call .credited);
       }
+
+-- the corners at one x
+module _ (listing : List ℕ) (x : ℕ) (answer : List ℕ) where
+  pub corners-at-untold : length answer < 4 → CornersAtTold listing x answer 0 answer
+  corners-at-untold h = record { told = untold (cornersAtTells listing x) refl answer h }
+
+  pub corners-at-told : {p : Places} {answer' : List ℕ} → 4 ≤ length answer → p ≡ placesOf listing x → answer' ≡ inFront (partPlaces p) answer → CornersAtTold listing x answer 1 answer'
+  corners-at-told h is e = record { told = told (cornersAtTells listing x) refl answer h e (ap partPlaces is) }
 
 -- the cover test
 named-again : (o : Option ℕ) → namedBy (coveringOf o) ≡ o

@@ -14,7 +14,8 @@ use Rattle.measure.specs.Answers.{listNumbers, listingAfter}
 use Rattle.crediting.specs.Credits.{creditTests, creditsAfter}
 use Rattle.shotfile_reader.specs.Files.{fileIn}
 use Rattle.buffer.specs.Wrote.{inFront}
-use Rattle.capi_answers.specs.Places.{indexPlaces, measurePlaces, coverPlaces}
+use Rattle.section.specs.Section.{placesOf}
+use Rattle.capi_answers.specs.Places.{indexPlaces, measurePlaces, coverPlaces, partPlaces}
 use Rattle.shotfile_reader.specs.Calls.{readValues, readCoords}
 use Rattle.shotfile_writer.specs.Calls.{writeValues, writeBytes}
 use Rattle.vox.specs.Vox.{voxIn}
@@ -38,6 +39,9 @@ measureTells job work = measurePlaces (measureNumbers job (length work))
 
 abbrev pub listTells : Job → List ℕ → List ℕ → List ℕ
 listTells job work buffer = measurePlaces (listNumbers job (length work) (length buffer))
+
+abbrev pub cornersAtTells : List ℕ → ℕ → List ℕ
+cornersAtTells listing x = partPlaces (placesOf listing x)
 
 abbrev pub creditTells : Job → List ℕ → List ℕ → List ℕ
 creditTells job work credits = indexPlaces (firstNumbers (creditTests job (length work) (length credits)))
@@ -70,6 +74,10 @@ pub record ListTold (job : Job) (work buffer answer : List ℕ) (r : ℕ) (work'
   pub told : Told (listTells job work buffer) answer r answer'
   pub index : work' ≡ cond (fits (listTells job work buffer) answer) (workAfter job work) work
   pub listing : buffer' ≡ cond (fits (listTells job work buffer) answer) (listingAfter job (length work) buffer) buffer
+
+-- `heqdanu_corners_at`
+pub record CornersAtTold (listing : List ℕ) (x : ℕ) (answer : List ℕ) (r : ℕ) (answer' : List ℕ) : Type 0 where
+  pub told : Told (cornersAtTells listing x) answer r answer'
 
 -- `heqdanu_credit`
 pub record CreditTold (job : Job) (work credits answer : List ℕ) (r : ℕ) (work' credits' answer' : List ℕ) : Type 0 where

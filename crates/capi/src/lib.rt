@@ -1,8 +1,9 @@
 // The calls for C and Rust: numbers and slices only. include/heqdanu.h describes them for their users.
 // Each answer goes, as numbers, into a lent slice whose length is checked: specs/Answered.antt. Stands on `capi_answers`, which puts the
-// numbers, and on `measure`, `measure_cells`, `crediting`, `grid_cover`, `shotfile_reader`, `shotfile_writer` and `vox`.
+// numbers, and on `measure`, `measure_cells`, `section`, `crediting`, `grid_cover`, `shotfile_reader`, `shotfile_writer` and `vox`.
 ghost use Rattle.job.specs.Job.{jobOf};
-ghost use Rattle.capi.specs.Answered.{IndexTold, MeasureTold, ListTold, CreditTold, CoversTold, ReadTold, VoxTold, WriteTold};
+ghost use Rattle.capi.specs.Answered.{IndexTold, MeasureTold, ListTold, CornersAtTold, CreditTold, CoversTold, ReadTold, VoxTold, WriteTold};
+use capi_answers::places::CORNERS_AT_ANSWER;
 use capi_answers::places::COVERS_ANSWER;
 use capi_answers::places::CREDIT_ANSWER;
 use capi_answers::places::INDEX_ANSWER;
@@ -71,6 +72,19 @@ pub extern "C" fn heqdanu_list(
     }
     let measured = measure::list(field, edge, grid, coords, work, listing);
     capi_answers::put_measured(answer, measured);
+    1
+}
+
+// Finds the part of a listing that holds the corners of one x: see `section::places_of`.
+#[no_mangle]
+pub extern "C" fn heqdanu_corners_at(listing: &[u8], x: u16, answer: &mut [u64]) -> u8
+    ensures { λ r. ⌜ CornersAtTold (now (listing .entry)) x (now (answer .entry)) r (now (answer .exit)) ⌝ }
+{
+    if answer.len() < CORNERS_AT_ANSWER {
+        return 0;
+    }
+    let places = section::places_of(listing, x);
+    capi_answers::put_part(answer, places);
     1
 }
 

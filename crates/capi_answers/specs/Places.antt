@@ -8,6 +8,7 @@ use Rattle.grid_cover.specs.Cover.{isSome}
 use Rattle.grid_cover.specs.declared.Covering.{Covering}
 use Rattle.grid_cover.specs.declared.Covering.the-variants.{Shot, Nothing}
 use Rattle.measure_intake.specs.Intake.{MeasuredNumbers}
+use Rattle.section.specs.declared.Places.{Places}
 
 -- of the index: the refusal's number and detail, 0 and 0 where there is none
 abbrev pub indexPlaces : Numbers → List ℕ
@@ -29,3 +30,7 @@ coverPlaces o = bit (isSome o) ∷ shotOf o ∷ []
 abbrev pub namedBy : Covering → Option ℕ
 namedBy Nothing = none
 namedBy (Shot s) = some s
+
+-- of the corners at one x: 0 and 0, since nothing is refused, and where their part of the listing begins and ends
+abbrev pub partPlaces : Places → List ℕ
+partPlaces p = 0 ∷ 0 ∷ p .first ∷ p .end ∷ []

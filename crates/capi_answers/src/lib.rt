@@ -11,7 +11,7 @@ ghost use Rattle.measure_intake.specs.Intake.{measuredNumbers};
 ghost use Rattle.buffer.specs.Wrote.{inFront};
 ghost use Rattle.shotfile_reader.specs.Calls.{readNumbers};
 ghost use Rattle.shotfile_writer.specs.Calls.{writtenNumbers};
-ghost use Rattle.capi_answers.specs.Places.{indexPlaces, measurePlaces, coverPlaces, namedBy};
+ghost use Rattle.capi_answers.specs.Places.{indexPlaces, measurePlaces, coverPlaces, namedBy, partPlaces};
 use crate::places::AREA;
 use crate::places::CORNERS;
 use crate::places::COVERED;
@@ -19,6 +19,8 @@ use crate::places::DETAIL;
 use crate::places::EDGE_LENGTH;
 use crate::places::INNER_LENGTH;
 use crate::places::NUMBER;
+use crate::places::PART_END;
+use crate::places::PART_FIRST;
 use crate::places::READ_EDGE;
 use crate::places::READ_FIELD;
 use crate::places::READ_GRID;
@@ -31,6 +33,7 @@ use lattice_sums::sums::Totals;
 use measure_intake::Measured;
 use refusals::Checked;
 use refusals::notice_of;
+use section::Places;
 use shotfile_reader::ReadAnswer;
 use shotfile_writer::WriteAnswer;
 
@@ -118,6 +121,16 @@ pub fn put_covering(answer: &mut [u64], covering: Covering)
         Covering::Shot(shot) => put_named(answer, 1, shot),
         Covering::Nothing => put_named(answer, 0, 0),
     }
+}
+
+pub fn put_part(answer: &mut [u64], places: Places)
+    requires { ⌜ 4 ≤ length (now answer) ⌝ }
+    ensures { λ _. ⌜ now (answer .exit) ≡ inFront (partPlaces places) (now (answer .entry)) ⌝ }
+{
+    answer[NUMBER] = 0;
+    answer[DETAIL] = 0;
+    answer[PART_FIRST] = places.first as u64;
+    answer[PART_END] = places.end as u64;
 }
 
 pub fn put_measured(answer: &mut [u64], measured: Measured)

@@ -19,6 +19,13 @@ pub const CORNERS: usize = 6;
 
 pub const MEASURE_ANSWER: usize = 7;
 
+// The corners at one x: where their part of the listing begins and ends.
+pub const PART_FIRST: usize = 2;
+
+pub const PART_END: usize = 3;
+
+pub const CORNERS_AT_ANSWER: usize = 4;
+
 // The index alone.
 pub const INDEX_ANSWER: usize = 2;
 
