@@ -48,14 +48,10 @@ fn has_arguments() -> bool {
     1 < os::arg_count()
 }
 
-// What a program works on, which is standard input alone. Where it is given arguments, or a read failed, it has said so and works on nothing.
-pub fn take(program: &[u8], buffer: &mut [u8]) -> Filled
+// Standard input; where a read failed, that is said.
+fn read(program: &[u8], buffer: &mut [u8]) -> Filled
     ensures { λ r. ⌜ Between 0 (length (now (buffer .entry))) r ⌝ }
 {
-    if has_arguments() {
-        output::say_takes_none(program);
-        return Filled::Failed;
-    }
     let filled = fill(buffer);
     let Filled::Bytes(n) = filled else {
         output::say_unreadable(program);
@@ -64,18 +60,45 @@ pub fn take(program: &[u8], buffer: &mut [u8]) -> Filled
     Filled::Bytes(n)
 }
 
-// The same where a full slice may lack bytes of the input: these words are said of it then.
-pub fn take_whole(program: &[u8], buffer: &mut [u8], too_long: &[u8]) -> Filled
-    ensures { λ r. ⌜ Between 0 (length (now (buffer .entry)) - 1) r ⌝ }
+// What was filled, unless it fills all the room, since then bytes of the input may be missing: these words are said of it.
+fn unless_full(program: &[u8], filled: Filled, room: usize, too_long: &[u8]) -> Filled
+    requires { ⌜ Between 0 room filled ⌝ }
+    ensures { λ r. ⌜ Between 0 (room - 1) r ⌝ }
 {
-    let filled = take(program, buffer);
     let Filled::Bytes(n) = filled else {
         return Filled::Failed;
     };
-    if n == buffer.len() {
+    if n == room {
         output::say(program);
         output::say(too_long);
         return Filled::Failed;
     }
     Filled::Bytes(n)
+}
+
+// What a program works on, which is standard input alone. Where it is given arguments, or a read failed, it has said so and works on nothing.
+pub fn take(program: &[u8], buffer: &mut [u8]) -> Filled
+    ensures { λ r. ⌜ Between 0 (length (now (buffer .entry))) r ⌝ }
+{
+    if has_arguments() {
+        output::say_takes_none(program);
+        return Filled::Failed;
+    }
+    read(program, buffer)
+}
+
+// The same where a full slice may lack bytes of the input: these words are said of it then.
+pub fn take_whole(program: &[u8], buffer: &mut [u8], too_long: &[u8]) -> Filled
+    ensures { λ r. ⌜ Between 0 (length (now (buffer .entry)) - 1) r ⌝ }
+{
+    let filled = take(program, buffer);
+    unless_full(program, filled, buffer.len(), too_long)
+}
+
+// The same for a program that has arguments, which are not looked at here.
+pub fn read_whole(program: &[u8], buffer: &mut [u8], too_long: &[u8]) -> Filled
+    ensures { λ r. ⌜ Between 0 (length (now (buffer .entry)) - 1) r ⌝ }
+{
+    let filled = read(program, buffer);
+    unless_full(program, filled, buffer.len(), too_long)
 }

@@ -22,13 +22,18 @@ pub fn say_takes_none(program: &[u8]) {
     say(b": takes no arguments: it reads standard input\n");
 }
 
+// Says that a program's standard output cannot be written.
+pub fn say_unwritable(program: &[u8]) {
+    say(program);
+    say(b": standard output cannot be written\n");
+}
+
 // Writes the text of a program, or says that it cannot be written, or not all of it.
 pub fn write_text(program: &[u8], text: &[u8]) {
     if io::write_all(STDOUT_FILENO, text) {
         return;
     }
-    say(program);
-    say(b": standard output cannot be written\n");
+    say_unwritable(program);
 }
 
 // Notes that a VOX file has further models, which are passed; the answer stands.

@@ -108,7 +108,8 @@ fn number_of_digits(word: &[u8]) -> Number
     Number::Is(v as u16)
 }
 
-fn number_of(word: &[u8]) -> Number
+// What a word is as a number; no digits are 0.
+pub fn number_of(word: &[u8]) -> Number
     ensures { λ r. ⌜ r ≡ wordNumber (now (word .entry)) ⌝ }
 {
     if digits_only(word) {

@@ -7,7 +7,9 @@ pub mod word;
 
 pub use entry::Entry;
 pub use entry::Mistake;
+pub use entry::Number;
 pub use entry::Setting;
+pub use entry::number_of;
 pub use entry::read_line;
 pub use word::End;
 pub use word::until;
