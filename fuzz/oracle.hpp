@@ -264,6 +264,32 @@ inline Measured sums(const uint8_t *listing, size_t corners) {
     return result;
 }
 
+// A part of a listing's bytes: the place of its first byte and the place after its last.
+struct Part {
+    size_t first, end;
+};
+
+// The x of each whole record of a listing, which any bytes are.
+inline std::vector<uint16_t> record_xs(const uint8_t *listing, size_t nlisting) {
+    std::vector<uint16_t> xs(nlisting / 7);
+    for (size_t record = 0; record < xs.size(); record++)
+        xs[record] = uint16_t(listing[7 * record] | listing[7 * record + 1] << 8);
+    return xs;
+}
+
+// The first unbroken run of records with that x, from a record on; 0 to 0 where there is none.
+inline Part run_from(const std::vector<uint16_t> &xs, size_t from, uint16_t x) {
+    auto first = std::find(xs.begin() + long(from), xs.end(), x);
+    if (first == xs.end()) return {0, 0};
+    auto end = std::find_if(first, xs.end(), [&](uint16_t other) { return other != x; });
+    return {7 * size_t(first - xs.begin()), 7 * size_t(end - xs.begin())};
+}
+
+// The part of a listing that holds the corners at one x.
+inline Part corners_at(const uint8_t *listing, size_t nlisting, uint16_t x) {
+    return run_from(record_xs(listing, nlisting), 0, x);
+}
+
 // What an absent field of a shot file's header means: field side, shot edge, grid size.
 const uint16_t ABSENT[3] = {1024, 16, 16};
 

@@ -3,9 +3,10 @@
 // The input's first six bytes choose the buffers' lengths and how the list is made; the rest is a file. It is read as a
 // VOX file, with MAIN's size put right or a voxel repeated past 4,096 times where that is chosen, and as a shot file;
 // the list that it holds, as it is or squeezed into a small field, goes through measure, recount, index, list, credit
-// and write, and the file's bytes are the runs of the cover test. Answers and every place of every buffer must be the
-// oracle's. Lists whose cells are too many to count here are held to what the calls say of each other: a listing's sums
-// give the totals, and what is written reads back.
+// and write, and the file's bytes are the runs of the cover test and a listing, in which corners_at looks for the
+// corners at one x, as it does in the list's own. Answers and every place of every buffer must be the oracle's. Lists
+// whose cells are too many to count here are held to what the calls say of each other: a listing's sums give the
+// totals, and what is written reads back.
 //
 // The archive carries no sanitizer, so each lent buffer ends where an unmapped page begins, and the bytes before it are
 // looked at afterwards. The address and undefined-behaviour sanitizers watch this file and the oracle.
@@ -363,6 +364,41 @@ void cover(const oracle::List &list, const uint8_t *bytes, size_t nbytes, const 
     }
 }
 
+// The corners at one x, mostly that of a record, in a listing, which any bytes are; a listing that the oracle made is
+// `whole`, and its corners at one x are all that there are.
+void find_corners(const std::vector<uint8_t> &bytes, bool whole, const uint8_t *choice) {
+    Buffers &lent = buffers();
+    lent.listing.lend(bytes.size(), 0);
+    std::copy(bytes.begin(), bytes.begin() + long(lent.listing.length), lent.listing.places);
+    lent.listing.expected.assign(lent.listing.places, lent.listing.places + lent.listing.length);
+    std::vector<uint16_t> xs = oracle::record_xs(lent.listing.places, lent.listing.length);
+    for (unsigned turn = 0; turn < 3; turn++) {
+        uint16_t any = uint16_t(choice[2] | choice[3] << 8), own = xs.empty() ? 0 : xs[(any + 5 * turn) % xs.size()];
+        const int chosen[] = {own, own, own, own + 1, own - 1, own ^ 256, any, 65535};
+        uint16_t x = uint16_t(chosen[(choice[1] + turn) % 8]);
+        lent.answer.lend(answer_places(HEQDANU_CORNERS_AT_ANSWER, choice[4]), choice[5]);
+        uint8_t written = heqdanu_corners_at(lent.listing.places, lent.listing.length, x, lent.answer.places,
+                                             lent.answer.length);
+        oracle::Part part = oracle::corners_at(lent.listing.places, lent.listing.length, x);
+        bool room = expect_answer(HEQDANU_CORNERS_AT_ANSWER, {0, 0}, {part.first, part.end});
+        expect(written == room, "corners_at", "says wrongly whether it answered");
+        lent.answer.check("corners_at", "the answer differs");
+        lent.listing.check("corners_at", "the listing changed");
+        bool all = (part.end - part.first) / 7 == size_t(std::count(xs.begin(), xs.end(), x));
+        expect(all || !whole, "corners_at", "the part is not all corners at that x");
+    }
+}
+
+// The bytes as a listing: as they are, or with each x one of four, so that runs repeat and x falls.
+std::vector<uint8_t> listing_of(const uint8_t *bytes, size_t nbytes, const uint8_t *choice) {
+    std::vector<uint8_t> listing(bytes, bytes + nbytes);
+    for (size_t at = 0; choice[5] & 32 && at + 1 < nbytes; at += 7) {
+        listing[at] &= 1;
+        listing[at + 1] &= 1;
+    }
+    return listing;
+}
+
 // Squeezes a list into a small field, so that the calls accept it.
 void squeeze(uint16_t *header, std::vector<uint16_t> &coords) {
     header[0] = uint16_t(header[0] % 20 + 1);
@@ -387,7 +423,9 @@ extern "C" int LLVMFuzzerTestOneInput(const uint8_t *data, size_t size) {
     uint16_t none = 0;
     if (coords.empty()) list.coords = &none;
     cover(list, data + 6, size - 6, data);
+    find_corners(listing_of(data + 6, size - 6, data), false, data);
     Expected expected = expect_list(list);
+    find_corners(expected.measured.listing, true, data);
     // The stand-in is slow on large fields.
     static const bool quick = getenv("HEQDANU_TESTS") != nullptr && strcmp(getenv("HEQDANU_TESTS"), "quick") == 0;
     if (quick && expected.refusal.number == 0 && !expected.counted) return 0;

@@ -1,5 +1,5 @@
-/* Two overlapping cubes, measured, listed, their cells credited, written as a shot file and read back; then a VOX file
- * of two voxels, read and measured.
+/* Two overlapping cubes, measured, listed, their corners at one x found in the listing, their cells credited, written as
+ * a shot file and read back; then a VOX file of two voxels, read and measured.
  *
  *     cc example.c -I../../include ../../target/staticlib/libcapi.a -o example
  */
@@ -38,6 +38,23 @@ static void print_figures(const uint64_t *answer, const char *between)
            answer[HEQDANU_INNER_LENGTH], between, answer[HEQDANU_CORNERS]);
 }
 
+/* A number of a listing's record: 16 bits, least byte first. */
+static int number(const uint8_t *bytes)
+{
+    return bytes[0] + 256 * bytes[1];
+}
+
+/* The corners at one x: their places on y and z, and their patterns. */
+static void print_corners_at(const uint8_t *listing, size_t nlisting, uint16_t x)
+{
+    uint64_t answer[HEQDANU_CORNERS_AT_ANSWER];
+    expect("corners_at", heqdanu_corners_at(listing, nlisting, x, answer, HEQDANU_CORNERS_AT_ANSWER), answer);
+    printf("corners at x = %d:", x);
+    for (uint64_t at = answer[HEQDANU_PART_FIRST]; at < answer[HEQDANU_PART_END]; at += HEQDANU_RECORD)
+        printf(" (%d, %d) %d", number(listing + at + 2), number(listing + at + 4), listing[at + 6]);
+    printf("\n");
+}
+
 int main(void)
 {
     const uint16_t coords[] = {0, 0, 0, 1, 1, 1};
@@ -60,8 +77,9 @@ int main(void)
     expect("list",
            heqdanu_list(field, edge, grid, coords, 6, work, nwork, listing, sizeof listing, answer, HEQDANU_ANSWER),
            answer);
-    printf("first corner (%d, %d, %d), pattern %d\n", listing[0] + 256 * listing[1], listing[2] + 256 * listing[3],
-           listing[4] + 256 * listing[5], listing[6]);
+    printf("first corner (%d, %d, %d), pattern %d\n", number(listing), number(listing + 2), number(listing + 4),
+           listing[6]);
+    print_corners_at(listing, sizeof listing, 3);
 
     /* The cell that both cubes cover is credited to the first. */
     uint32_t credits[2];

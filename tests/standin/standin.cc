@@ -203,6 +203,28 @@ oracle::File held_vox(const uint8_t *bytes, size_t nbytes, size_t ncoords) {
     return held;
 }
 
+// The part of a listing at one x, by the x of its records, with faults 63 to 71.
+oracle::Part found(std::vector<uint16_t> &xs, const uint8_t *listing, size_t nlisting, uint16_t x) {
+    // An x is compared by its low byte (63), or is none above 1,024 (64).
+    for (uint16_t &own : xs) own = FAULT == 63 ? uint16_t((own & 255) | (x & ~255)) : own;
+    if (FAULT == 64 && x > 1024) return {0, 0};
+    // The search stops at a larger x (65), or takes half of the records at a time, as if x never fell (66).
+    if (FAULT == 65) xs.erase(std::find_if(xs.begin(), xs.end(), [&](uint16_t own) { return own > x; }), xs.end());
+    size_t from = FAULT == 66 ? size_t(std::lower_bound(xs.begin(), xs.end(), x) - xs.begin()) : 0;
+    oracle::Part part = oracle::run_from(xs, from, x);
+    if (part.end == 0) return FAULT == 67 ? oracle::Part{nlisting, nlisting} : part;
+    // The second run is taken (68), or all from the first record with that x to the last (69).
+    oracle::Part second = oracle::run_from(xs, part.end / 7, x);
+    if (FAULT == 68 && second.end != 0) return second;
+    auto last = std::find(xs.rbegin(), xs.rend(), x);
+    if (FAULT == 69) part.end = 7 * size_t(xs.rend() - last);
+    // The run's last record is lost (70); a record that is cut is taken with it (71).
+    if (FAULT == 70) part.end -= 7;
+    bool cut = nlisting - part.end >= 2 && nlisting - part.end < 7;
+    if (FAULT == 71 && cut && (listing[part.end] | listing[part.end + 1] << 8) == x) part.end = nlisting;
+    return part;
+}
+
 }  // namespace
 
 extern "C" uint8_t heqdanu_measure(uint16_t field, uint16_t edge, uint16_t grid, const uint16_t *coords, size_t ncoords,
@@ -296,6 +318,25 @@ extern "C" uint8_t heqdanu_list(uint16_t field, uint16_t edge, uint16_t grid, co
     // Listing takes both lengths for one.
     if (FAULT == 59) result.edge += result.inner;
     return told(answer, nanswer, result);
+}
+
+extern "C" uint8_t heqdanu_corners_at(const uint8_t *listing, size_t nlisting, uint16_t x, uint64_t *answer,
+                                      size_t nanswer) {
+    std::vector<uint16_t> xs = oracle::record_xs(listing, nlisting);
+    oracle::Part part = found(xs, listing, nlisting, x);
+    // Three places are taken for enough.
+    if (FAULT == 72 && nanswer == 3) return answered(answer, {0, 0, part.first});
+    // Too short an answer is cleared.
+    if (FAULT == 73 && nanswer < HEQDANU_CORNERS_AT_ANSWER) std::fill(answer, answer + nanswer, 0);
+    if (nanswer < HEQDANU_CORNERS_AT_ANSWER) return 0;
+    // The first two places are left as lent (74), and so are the last two where nothing is found (75).
+    if (FAULT != 74) answered(answer, {0, 0});
+    if (FAULT != 75 || part.end > 0) answered(answer + 2, {part.first, part.end});
+    // The place behind the answer is cleared.
+    if (FAULT == 76 && nanswer > HEQDANU_CORNERS_AT_ANSWER) answer[HEQDANU_CORNERS_AT_ANSWER] = 0;
+    // The byte behind the part is changed.
+    if (FAULT == 77 && part.end < nlisting) const_cast<uint8_t *>(listing)[part.end] ^= 1;
+    return 1;
 }
 
 extern "C" uint8_t heqdanu_read(const uint8_t *bytes, size_t nbytes, uint16_t *coords, size_t ncoords, uint64_t *answer,

@@ -1,11 +1,11 @@
 //! Cube-shot quotes: volume, area, edge length, inner length and corner points of a union of equal axis-aligned cubes
-//! ("shots") on a whole-number lattice, how many cells each shot cures, the shot files that hold such lists, and the VOX
-//! files of a voxel editor.
+//! ("shots") on a whole-number lattice, its corners at one x, how many cells each shot cures, the shot files that hold
+//! such lists, and the VOX files of a voxel editor.
 //!
 //! The work is done by the proved library `libcapi.a`; this crate turns its calls into safe functions. [`measure`],
-//! [`list`], [`recount`], [`index`], [`credit`], [`first_covering`], [`read`], [`read_vox`] and [`write`] use buffers
-//! that the caller lends and allocate nothing; [`quote`], [`corners`], [`credits`], [`from_file`], [`from_vox`] and
-//! [`to_file`] allocate what they need.
+//! [`list`], [`corners_at`], [`recount`], [`index`], [`credit`], [`first_covering`], [`read`], [`read_vox`] and
+//! [`write`] use buffers that the caller lends and allocate nothing; [`quote`], [`corners`], [`credits`],
+//! [`from_file`], [`from_vox`] and [`to_file`] allocate what they need.
 //!
 //! **Stack.** Measuring, listing and crediting nest, and take less than 577 KiB of the calling thread's stack; every
 //! other call takes less than 82 KiB. `include/heqdanu.h` says how much by the list. The standard library's threads
@@ -98,6 +98,33 @@ pub fn measure(list: &List, work: &mut [u32]) -> Result<Totals, Refusal> {
 pub fn list(list: &List, work: &mut [u32], listing: &mut [u8]) -> Result<Totals, Refusal> {
     let (written, answer) = answer_filling(raw::heqdanu_list, list, work, listing);
     totals(written, answer)
+}
+
+/// The corners at one x: the part of a listing's bytes that holds the records with that x, for [`records`] to step
+/// through; empty where there is none. Any bytes are a listing: a remainder shorter than a record is not looked at, and
+/// where x falls somewhere, as in a listing that is damaged, the part is the first unbroken run of records with that x.
+/// In a listing that [`list`] stored that run is all of them. Refuses nothing and changes nothing.
+///
+/// ```
+/// use heqdanu::{corners_at, list, records, Corner, List, RECORD};
+///
+/// let one = List { field: 8, edge: 2, grid: 2, coords: &[1, 1, 1] };
+/// let mut listing = [0; 8 * RECORD];
+/// list(&one, &mut [0; 10], &mut listing)?;
+/// let mut corners = records(corners_at(&listing, 3));
+/// assert_eq!(corners.next(), Some(Corner { x: 3, y: 1, z: 1, pattern: 8 }));
+/// assert_eq!(corners.count(), 3);
+/// assert!(corners_at(&listing, 2).is_empty());
+/// # Ok::<(), heqdanu::Refusal>(())
+/// ```
+pub fn corners_at(listing: &[u8], x: u16) -> &[u8] {
+    let mut answer = [0; 4];
+    // SAFETY: each pointer comes from a slice with the length beside it, and the two do not overlap.
+    let written =
+        unsafe { raw::heqdanu_corners_at(listing.as_ptr(), listing.len(), x, answer.as_mut_ptr(), answer.len()) };
+    assert_eq!(written, 1, "the library found the answer slice too short");
+    let [_, _, first, end] = answer;
+    &listing[first as usize..end as usize]
 }
 
 /// Measures a list once more, cell by cell: the slow second opinion for a disputed quote, some seconds in the largest

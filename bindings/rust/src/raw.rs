@@ -40,6 +40,8 @@ extern "C" {
         nanswer: usize,
     ) -> u8;
 
+    pub fn heqdanu_corners_at(listing: *const u8, nlisting: usize, x: u16, answer: *mut u64, nanswer: usize) -> u8;
+
     pub fn heqdanu_recount(
         field: u16,
         edge: u16,

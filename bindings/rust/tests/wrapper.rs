@@ -1,8 +1,9 @@
-//! The wrapper on the request's examples: totals, corners, credits, files, and each refusal that a caller can meet.
+//! The wrapper on the request's examples: totals, corners, those at one x, credits, files, and each refusal that a caller
+//! can meet.
 
 use heqdanu::{
-    corners, credit, credits, first_covering, from_file, from_vox, index, list, measure, quote, read, read_vox,
-    recount, to_file, work_needed, write, Corner, Header, List, Reason, Refusal, Totals,
+    corners, corners_at, credit, credits, first_covering, from_file, from_vox, index, list, measure, quote, read,
+    read_vox, records, recount, to_file, work_needed, write, Corner, Header, List, Reason, Refusal, Totals, RECORD,
 };
 
 const TWO: List = List { field: 8, edge: 2, grid: 2, coords: &[0, 0, 0, 1, 1, 1] };
@@ -32,6 +33,51 @@ fn totals_and_corners() {
     assert_eq!(corners[0], Corner { x: 0, y: 0, z: 0, pattern: 128 });
     assert_eq!(corners[19], Corner { x: 3, y: 3, z: 3, pattern: 1 });
     assert!(corners.windows(2).all(|pair| (pair[0].x, pair[0].y, pair[0].z) < (pair[1].x, pair[1].y, pair[1].z)));
+}
+
+#[test]
+fn the_corners_at_one_x() {
+    let mut listing = [0; 20 * RECORD];
+    list(&TWO, &mut [0; 11], &mut listing).unwrap();
+    let all = corners(&TWO).unwrap();
+    for x in 0..=9 {
+        let part: Vec<Corner> = records(corners_at(&listing, x)).collect();
+        assert_eq!(part, all.iter().filter(|corner| corner.x == x).copied().collect::<Vec<_>>(), "at {x}");
+    }
+    let parts: Vec<u8> = (0..=8).flat_map(|x| corners_at(&listing, x).to_vec()).collect();
+    assert_eq!(parts, listing);
+    assert_eq!([0, 1, 2, 3, 4].map(|x| corners_at(&listing, x).len() / RECORD), [4, 6, 6, 4, 0]);
+    // The part is lent bytes, and no copy of them.
+    assert!(listing.as_ptr_range().contains(&corners_at(&listing, 1).as_ptr()));
+}
+
+/// Records with these x, in order, and so many bytes after the last.
+fn damaged(xs: &[u16], remainder: usize) -> Vec<u8> {
+    let mut listing: Vec<u8> =
+        xs.iter().zip(1..).flat_map(|(x, n)| [*x as u8, (x >> 8) as u8, n, n, n, n, n]).collect();
+    listing.extend(vec![0; remainder]);
+    listing
+}
+
+#[test]
+fn the_first_unbroken_run_of_a_damaged_listing() {
+    let listing = damaged(&[5, 5, 2, 2, 5], 0);
+    assert_eq!(corners_at(&listing, 2), &listing[14..28]);
+    assert_eq!(corners_at(&listing, 5), &listing[..14]);
+    assert!([0, 1, 3, 6, 517, 65_535].iter().all(|x| corners_at(&listing, *x).is_empty()));
+    let far = damaged(&[65_535, 1_025, 1, 257, 65_535], 0);
+    assert_eq!(
+        [1, 257, 1_025, 65_535].map(|x| corners_at(&far, x)),
+        [&far[14..21], &far[21..28], &far[7..14], &far[..7]]
+    );
+    // One to six bytes behind the last record are not looked at, though they begin as a record does.
+    for remainder in 1..RECORD {
+        assert!(corners_at(&vec![0; remainder], 0).is_empty());
+        let cut = damaged(&[3, 0], remainder);
+        assert_eq!(corners_at(&cut, 0), &cut[7..14]);
+        assert!(corners_at(&damaged(&[3], remainder), 0).is_empty());
+    }
+    assert!(corners_at(&[], 0).is_empty());
 }
 
 #[test]

@@ -10,7 +10,7 @@ pub trait Case: Clone {
     /// Runs the library and the oracle; says where they differ.
     fn run(&self) -> Result<(), String>;
 
-    /// The case in words, with its shot file.
+    /// The case in words, with its shot file, VOX file or listing.
     fn describe(&self) -> String;
 
     /// Cases next to this one that are smaller, the smallest first.

@@ -2,7 +2,7 @@
 
 use crate::cells::Cells;
 use crate::list::{refusal, List, Refusal};
-use crate::{corners, credits, grid, shotfile, totals, vox};
+use crate::{corners, credits, grid, section, shotfile, totals, vox};
 use std::cell::OnceCell;
 
 /// A call's answer: refusal number (0 if accepted), detail, then the call's numbers (all 0 if refused).
@@ -152,6 +152,12 @@ pub fn covers(list: &List, run: &[u32], cell: [u16; 3]) -> Answer<2> {
 /// The listing call on a list.
 pub fn list(list: &List, work: &mut [u32], listing: &mut [u8]) -> Answer<7> {
     Calls::on(list).list(work, listing)
+}
+
+/// The corners at one x, which refuses nothing: 0, 0, the place of the part's first byte and the place after its last.
+pub fn corners_at(listing: &[u8], x: u16) -> Answer<4> {
+    let places = section::places(listing, x);
+    [0, 0, places.start as u64, places.end as u64]
 }
 
 /// The reader of shot files; a refusal stores nothing.

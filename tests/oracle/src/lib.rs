@@ -7,14 +7,17 @@
 //! - [`cells`]: the covered cells as a bit set
 //! - [`totals`]: volume, area, edge length and inner length counted over cells
 //! - [`corners`]: patterns, the ten weights, the listing, the corner sums
+//! - [`section`]: the corners at one x
 //! - [`grid`]: the grid index and the cover test
 //! - [`credits`]: cells credited to the shots that are the first to cover them
 //! - [`shotfile`]: the reader and the writer
 //! - [`vox`]: the reader of VOX files
-//! - [`calls`]: measure, list, index, credit, covers, read, read_vox and write with lent buffers, as a caller sees them
+//! - [`calls`]: measure, list, corners_at, index, credit, covers, read, read_vox and write with lent buffers, as a
+//!   caller sees them
 //! - [`quote`]: the programs that print a quote or the credits
 //! - [`literal`]: the definitions once more, cell by cell and point by point, for small fields
 //! - [`inputs`]: random and damaged inputs, from a seed
+//! - [`section_inputs`]: listings, whole and damaged, from a seed
 //! - [`vox_inputs`]: VOX files, whole and damaged, from a seed
 
 pub mod calls;
@@ -26,6 +29,8 @@ pub mod inputs;
 pub mod list;
 pub mod literal;
 pub mod quote;
+pub mod section;
+pub mod section_inputs;
 pub mod shotfile;
 pub mod totals;
 pub mod vox;
