@@ -38,9 +38,10 @@ fn told(name: &str, output: Output) -> Told {
     Told { output: output.stdout, complaint: String::from_utf8_lossy(&output.stderr).into_owned() }
 }
 
-/// The program on an input that reaches it in pieces of the given length.
-pub fn in_pieces(name: &str, input: &[u8], piece: usize) -> Told {
+/// The program, given these words, on an input that reaches it in pieces of the given length.
+pub fn given(name: &str, words: &[&str], input: &[u8], piece: usize) -> Told {
     let mut child = Command::new(program(name))
+        .args(words)
         .stdin(Stdio::piped())
         .stdout(Stdio::piped())
         .stderr(Stdio::piped())
@@ -62,12 +63,18 @@ pub fn in_pieces(name: &str, input: &[u8], piece: usize) -> Told {
     told(name, output)
 }
 
+/// The program on an input that reaches it in pieces of the given length.
+pub fn in_pieces(name: &str, input: &[u8], piece: usize) -> Told {
+    given(name, &[], input, piece)
+}
+
 /// The program on an input that is there at once.
 pub fn on(name: &str, input: &[u8]) -> Told {
     in_pieces(name, input, input.len())
 }
 
-/// The program with its standard streams put elsewhere by the shell: `redirection` is as `>&-` or `</`.
+/// The program with its standard streams put elsewhere by the shell: `redirection` is as `>&-` or `</`, after the words
+/// that the program is given.
 pub fn with(name: &str, redirection: &str, input: &[u8]) -> Told {
     let path = std::env::temp_dir().join(format!("heqdanu-{name}-{}-{:?}", std::process::id(), thread::current().id()));
     std::fs::write(&path, input).expect("the input is written");

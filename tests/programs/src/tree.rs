@@ -10,13 +10,32 @@ use std::sync::atomic::{AtomicUsize, Ordering};
 use std::sync::{Mutex, MutexGuard};
 
 /// The commands that run a program of the same name.
-pub const PROGRAMS: [&str; 8] =
-    ["quote", "quote_vox", "recount", "shots", "write_shots", "vox_shots", "listing", "credits"];
+pub const PROGRAMS: [&str; 9] =
+    ["quote", "quote_vox", "recount", "shots", "write_shots", "vox_shots", "listing", "corners_at", "credits"];
 /// All commands.
-pub const COMMANDS: [&str; 10] =
-    ["quote", "quote_vox", "recount", "shots", "write_shots", "vox_shots", "listing", "credits", "drop", "same"];
+pub const COMMANDS: [&str; 11] = [
+    "quote",
+    "quote_vox",
+    "recount",
+    "shots",
+    "write_shots",
+    "vox_shots",
+    "listing",
+    "corners_at",
+    "credits",
+    "drop",
+    "same",
+];
 /// A stand-in for `rt` that must not be called; `Tree::built` says whether it was.
 pub const NEVER: &str = "echo 'rt: called'; exit 1";
+
+/// A command with the words that it needs before its files: `corners_at` has an x.
+pub fn before_files(command: &str) -> &str {
+    match command {
+        "corners_at" => "corners_at 0",
+        _ => command,
+    }
+}
 
 /// What a command wrote, and its status.
 #[derive(Debug, PartialEq, Eq)]

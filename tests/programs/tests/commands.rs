@@ -2,7 +2,7 @@
 //! the status says how it went.
 
 use programs::run;
-use programs::tree::{Ended, Tree, COMMANDS, NEVER, PROGRAMS};
+use programs::tree::{before_files, Ended, Tree, COMMANDS, NEVER, PROGRAMS};
 use std::os::unix::fs::symlink;
 use std::os::unix::net::UnixListener;
 
@@ -65,6 +65,8 @@ fn a_wrong_use_builds_nothing() {
     ] {
         misused(&tree.run(script, words), script);
     }
+    // Options are the command's, and not the environment's.
+    misused(&tree.shell("options='-x --hepl' heqdanu credits -x part", &[]), "credits");
     assert_eq!(tree.calls(), "");
 }
 
@@ -77,7 +79,7 @@ fn files_that_cannot_be_read_build_nothing() {
         for (file, words) in
             [("missing", "no such file"), ("dangling", "no such file"), ("", "no such file"), ("..", "is a directory")]
         {
-            tree.run(script, &[file]).is("", &format!("{script}: {file}: {words}\n"), 2);
+            tree.run(before_files(script), &[file]).is("", &format!("{script}: {file}: {words}\n"), 2);
         }
     }
     tree.run("quote", &["one", "two"]).is("", "quote: one: no such file\nquote: two: no such file\n", 2);
@@ -280,7 +282,8 @@ fn a_file_that_does_not_open() {
     tree.file("part", &CUBE);
     for command in PROGRAMS.into_iter().chain(["drop", "quote -t", "listing --text"]) {
         let name = command.split(' ').next().expect("a name");
-        tree.shell(&format!("heqdanu {command} socket"), &[]).is("", &format!("{name}: socket: cannot be opened\n"), 2);
+        let words = before_files(command);
+        tree.shell(&format!("heqdanu {words} socket"), &[]).is("", &format!("{name}: socket: cannot be opened\n"), 2);
     }
     tree.run("same", &["part", "socket"]).is("", "same: socket: cannot be opened\n", 2);
     // Where POSIX is asked of the shell too.

@@ -54,6 +54,8 @@ fn help_of_a_command() {
     assert!(tree.shell("heqdanu help quote", &[]).text().contains("-t, or --table"));
     assert!(tree.shell("heqdanu help listing", &[]).text().contains("--text"));
     assert!(tree.shell("heqdanu help quote_vox", &[]).text().contains("version 150"));
+    // What its file leaves out is as usual, whatever the environment has.
+    assert_eq!(tree.shell("leads=X statuses=none heqdanu help quote", &[]), tree.shell("heqdanu help quote", &[]));
 }
 
 #[test]
@@ -64,6 +66,7 @@ fn an_unknown_command_is_answered_by_the_nearest() {
         ("Quote", "quote"),
         ("quote-vox", "quote_vox"),
         ("list", "listing"),
+        ("corners", "corners_at"),
         ("recuont", "recount"),
         ("shot", "shots"),
         ("vox_shot", "vox_shots"),

@@ -10,7 +10,7 @@ use std::time::{Duration, Instant};
 const ARCH: &[u8] = include_bytes!("../../../examples/arch.vox");
 const OVERLAP: [u8; 15] = [7, 8, 0, 2, 0, 2, 0, 0, 7, 1, 0, 1, 0, 1, 0];
 
-/// The tree with files: a part, another, a refused list, as many shots as allowed, and its text.
+/// The tree with files: a part, another, a refused list, as many shots as allowed, its text, and its listing.
 fn tree() -> Tree {
     let tree = Tree::built();
     let mut random = Random::new(91);
@@ -22,6 +22,7 @@ fn tree() -> Tree {
     tree.file("arch", ARCH);
     tree.file("many", &many);
     tree.shell("heqdanu shots many >text; printf 'field 8\\nfield 8\\n' >wrong", &[]).is("", "", 0);
+    tree.shell("heqdanu listing many >corners", &[]).is("", "", 0);
     tree
 }
 
@@ -54,6 +55,9 @@ fn commands_that_keep_nothing_answer_as_ever() {
         "listing cut",
         "listing many",
         "listing --text many",
+        "corners_at 30 corners",
+        "corners_at 65535 corners",
+        "corners_at 1 part",
         "write_shots text",
         "write_shots wrong",
         "vox_shots arch",
@@ -100,8 +104,15 @@ fn no_temporary_folder() {
 #[test]
 fn a_full_output() {
     let tree = tree();
-    for words in ["quote part", "credits many", "shots many", "listing many", "write_shots text", "listing --text many"]
-    {
+    for words in [
+        "quote part",
+        "credits many",
+        "shots many",
+        "listing many",
+        "write_shots text",
+        "listing --text many",
+        "corners_at 30 corners",
+    ] {
         let name = words.split(' ').next().expect("a name");
         let line = format!("bash -c \"trap '' XFSZ; ulimit -f 1; exec heqdanu {words} >out\"; echo $?; rm out");
         let ended = tree.shell(&line, &[]);

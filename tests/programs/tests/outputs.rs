@@ -1,7 +1,8 @@
 //! What becomes of the programs' outputs: a standard output that takes nothing, programs that end badly, bytes and
 //! terminals.
 
-use programs::tree::{Tree, COMMANDS, PROGRAMS};
+use programs::run;
+use programs::tree::{before_files, Tree, COMMANDS, PROGRAMS};
 
 const OVERLAP: [u8; 15] = [7, 8, 0, 2, 0, 2, 0, 0, 7, 1, 0, 1, 0, 1, 0];
 const ARCH: &[u8] = include_bytes!("../../../examples/arch.vox");
@@ -13,13 +14,16 @@ fn an_output_that_takes_nothing() {
     tree.file("part", &CUBE);
     tree.file("text", b"shot 1 2 3\n");
     tree.file("arch", ARCH);
+    tree.file("corners", &run::on("listing", &CUBE).good());
     for script in PROGRAMS.into_iter().chain(["listing --text", "quote -t", "drop"]) {
         let file = match script {
             "write_shots" => "text",
             "vox_shots" => "arch",
+            "corners_at" => "corners",
             _ => "part",
         };
         let name = script.split(' ').next().expect("a name");
+        let script = before_files(script);
         for output in [">&-", ">/dev/full"] {
             let complaint = format!("{name}: standard output cannot be written\n");
             tree.shell(&format!("heqdanu {script} {file} {output}"), &[]).is("", &complaint, 2);
@@ -61,6 +65,7 @@ fn no_output_where_there_is_trouble() {
     tree.shell("heqdanu quote", &[]).is("", "quote: standard input: there is no answer\n", 2);
     tree.shell("heqdanu shots", &[]).is("", "shots: standard input: there is no answer\n", 2);
     tree.shell("heqdanu credits", &[]).is("", "", 0);
+    tree.shell("heqdanu corners_at 0", &[]).is("", "", 0);
     Tree::standing_in("echo volume").shell("heqdanu quote", &[]).is(
         "",
         "quote: standard input: there is no answer\n",
@@ -90,7 +95,7 @@ fn programs_that_are_killed() {
         let program = if ["same", "drop"].contains(&command) { "listing" } else { command };
         let complaint =
             format!("{command}: part: the program {program} ended with status 139, so there is no answer\n");
-        tree.shell(&format!("heqdanu {command} {files}"), &[]).is("", &complaint, 2);
+        tree.shell(&format!("heqdanu {} {files}", before_files(command)), &[]).is("", &complaint, 2);
     }
     let complaint = "listing: part: the program listing ended with status 139, so there is no answer\n";
     tree.shell("heqdanu listing --text part", &[]).is("", complaint, 2);

@@ -27,7 +27,7 @@ fn a_line_a_file() {
     tree.run("recount", &["-t", "a part"]).is(line, "", 0);
     tree.file("arch", ARCH);
     tree.run("quote_vox", &["-t", "arch"]).is("arch\t69\t142\t82\t6\t16\n", "", 0);
-    for command in ["credits", "shots", "listing", "write_shots", "drop", "same"] {
+    for command in ["credits", "shots", "listing", "corners_at", "write_shots", "drop", "same"] {
         assert_eq!(tree.run(command, &["-t", "a part"]).status, 2, "{command}");
     }
 }
