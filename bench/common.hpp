@@ -3,7 +3,7 @@
 // A program is called `PROGRAM FILE SECONDS`: it measures the file's list again and again for about SECONDS, at least
 // once, and prints `volume area edge inner corners WALL CPU PEAK RUNS`: the quickest run's elapsed time and the runs'
 // mean processor time, in seconds, and the program's peak memory in KiB. One that credits prints the figures of credits
-// in place of the five.
+// in place of the five, and one that looks for the corners at one x the places of the part.
 #ifndef HEQDANU_BENCH_COMMON_HPP
 #define HEQDANU_BENCH_COMMON_HPP
 
@@ -36,14 +36,20 @@ struct CreditFigures {
     uint64_t sum = 0, weighted = 0, none = 0, shots = 0;
 };
 
+// The corners at one x: the place of the part's first byte and the place after its last, 0 and 0 where there is none.
+struct Part {
+    uint64_t first = 0, end = 0;
+};
+
 inline std::vector<uint8_t> read_bytes(const char *path) {
-    std::vector<uint8_t> bytes(1 << 16);
+    std::vector<uint8_t> bytes;
+    uint8_t part[1 << 12];
     FILE *file = fopen(path, "rb");
     if (file == nullptr) {
         perror(path);
         exit(2);
     }
-    bytes.resize(fread(bytes.data(), 1, bytes.size(), file));
+    while (size_t length = fread(part, 1, sizeof part, file)) bytes.insert(bytes.end(), part, part + length);
     fclose(file);
     return bytes;
 }
@@ -137,6 +143,8 @@ inline void print(const Totals &figures) {
 inline void print(const CreditFigures &figures) {
     print_numbers({figures.sum, figures.weighted, figures.none, figures.shots});
 }
+
+inline void print(const Part &part) { print_numbers({part.first, part.end}); }
 
 inline double seconds(clockid_t clock) {
     timespec now;

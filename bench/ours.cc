@@ -1,6 +1,8 @@
-// Ours: one call of heqdanu.h, timed: `ours FILE SECONDS [CALL]`, CALL being measure (unless said), list, index,
-// recount, credit, need, read, read_vox or write. `need` is the measuring call with an empty work slice: the list's
-// checks and the count of the index's entries. FILE is a shot file, and a VOX file for read_vox.
+// Ours: one call of heqdanu.h, timed: `ours FILE SECONDS [CALL [WORD]]`, CALL being measure (unless said), list,
+// corners_at, index, recount, credit, need, read, read_vox or write. `need` is the measuring call with an empty work
+// slice: the list's checks and the count of the index's entries. FILE is a shot file, a VOX file for read_vox, and a
+// listing for corners_at. WORD is for list a file that takes the listing, and for corners_at the x, which is 512 unless
+// said.
 #include "../include/heqdanu.h"
 #include "common.hpp"
 
@@ -34,11 +36,32 @@ static int read_again(decltype(heqdanu_read) *reading, const char *path, double 
     });
 }
 
+// The corners at one x of a listing, timed.
+static int find_again(const char *path, double patience, uint16_t x) {
+    std::vector<uint8_t> listing = read_bytes(path);
+    return report(patience, [&] {
+        answered(heqdanu_corners_at(listing.data(), listing.size(), x, answer, HEQDANU_ANSWER));
+        Part part;
+        part.first = answer[HEQDANU_PART_FIRST], part.end = answer[HEQDANU_PART_END];
+        return part;
+    });
+}
+
+// Stores a listing.
+static void keep(const char *path, const std::vector<uint8_t> &listing) {
+    FILE *file = fopen(path, "wb");
+    if (file == nullptr || fwrite(listing.data(), 1, listing.size(), file) != listing.size() || fclose(file) != 0) {
+        perror(path);
+        exit(2);
+    }
+}
+
 int main(int count, char **arguments) {
     double patience = atof(arguments[2]);
     std::string call = count > 3 ? arguments[3] : "measure";
     if (call == "read") return read_again(heqdanu_read, arguments[1], patience);
     if (call == "read_vox") return read_again(heqdanu_read_vox, arguments[1], patience);
+    if (call == "corners_at") return find_again(arguments[1], patience, uint16_t(count > 4 ? atoi(arguments[4]) : 512));
     List list = read_list(arguments[1]);
     const uint16_t *coords = list.coords.data();
     size_t ncoords = list.coords.size();
@@ -68,10 +91,13 @@ int main(int count, char **arguments) {
     }
     if (call == "list") {
         std::vector<uint8_t> listing(HEQDANU_RECORD * answered(measure(work.data(), work.size())).corners + 1);
-        return report(patience, [&] {
+        int status = report(patience, [&] {
             return answered(heqdanu_list(list.field, list.edge, list.grid, coords, ncoords, work.data(), work.size(),
                                          listing.data(), listing.size(), answer, HEQDANU_ANSWER));
         });
+        listing.pop_back();
+        if (count > 4) keep(arguments[4], listing);
+        return status;
     }
     std::vector<uint8_t> bytes(28680);
     return report(patience, [&] {
