@@ -46,7 +46,7 @@
 #include <stdint.h>
 
 /* The version that a contract cites, as the command `heqdanu --version` says it. */
-#define HEQDANU_VERSION "0.5.0"
+#define HEQDANU_VERSION "0.6.0"
 
 #ifdef __cplusplus
 extern "C" {
