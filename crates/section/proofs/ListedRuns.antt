@@ -218,7 +218,7 @@ join-cons v (suc n) i g h l none here-v else = ⊎-elim last (λ e. earlier e (j
 abbrev UpTo : ℕ → Corner → Type 0
 UpTo n v = v .x ≤ n
 
-pub with-parts : (n : ℕ) (vs : List Corner) → All (UpTo n) vs → Rising vs → join (suc n) (λ x. withX x vs) ≡ vs
+with-parts : (n : ℕ) (vs : List Corner) → All (UpTo n) vs → Rising vs → join (suc n) (λ x. withX x vs) ≡ vs
 unfolding withX
 with-parts n [] a r = join-nil (suc n) (λ x. refl)
 with-parts n (v ∷ vs) a r =

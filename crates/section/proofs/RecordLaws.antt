@@ -22,7 +22,7 @@ readAt l at = record {
   pattern = getD l (at + 6) 0;
 }
 
-pub readBack-short : (l : List ℕ) → length l < 7 → readBack l ≡ []
+readBack-short : (l : List ℕ) → length l < 7 → readBack l ≡ []
 unfolding readBack
 readBack-short [] h = refl
 readBack-short (a ∷ []) h = refl

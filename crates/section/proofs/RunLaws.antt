@@ -18,7 +18,7 @@ use Rattle.section.proofs.RecordLaws.{seven-more, readAt, readBack-at, 
 
 -- ---- before the first that passes
 module _ (p : Corner → Bool) where
-  pub countBefore-length : (vs : List Corner) → countBefore p vs ≤ length vs
+  countBefore-length : (vs : List Corner) → countBefore p vs ≤ length vs
   unfolding countBefore
   countBefore-length [] = omega arith
   countBefore-length (v ∷ vs) = go (p v) (countBefore-length vs)
@@ -163,9 +163,6 @@ module _ (l : List ℕ) (x : ℕ) where
   pub places-empty : partWith l x ≡ [] → placesOf l x ≡ record { first = 0; end = 0 }
   unfolding placesOf placesBetween
   places-empty e = rw (eq-eqb (runStart x vs) (runEnd x vs) (omega (arith, ap length e, part-length, start-end x vs)))
-
-  pub part-few : length (partWith l x) ≤ length l
-  part-few = omega (arith, part-length, end-inside)
 
   -- and the part is the bytes of the run
   pub part-run : Bytes l → partWith l x ≡ bytes (firstRun x vs)

@@ -6,7 +6,7 @@ use mathlib.Core.Bool.{Bool, true, false, not, cond}
 use mathlib.Core.List.{List, [], _∷_, _++_, List·Memᴰ}
 use Prim.Native.Nat.{ℕ, zero, suc, _+_, _*_}
 use lib.Dec.{eqb}
-use lib.ListN.{drop, getD}
+use lib.ListN.{drop}
 use lib.Seq.{slice}
 use Rattle.lattice.specs.Cells.{Cells}
 use Rattle.lattice.specs.Listing.{Corner, corners, IsCorner, All, Rising, bytes, readBack}
@@ -47,10 +47,6 @@ asked false b = not b
 -- a corner has that x (true), has another (false)
 abbrev pub asks : Bool → ℕ → Corner → Bool
 asks same x v = asked same (eqb (v .x) x)
-
--- the x of the record of a number
-abbrev pub recordX : List ℕ → ℕ → ℕ
-recordX l i = getD l (7 * i) 0 + getD l (7 * i + 1) 0 * 256
 
 -- how many corners stand before the first that passes a test; all of them where none does
 unfoldable pub countBefore : (Corner → Bool) → List Corner → ℕ

@@ -8,9 +8,9 @@
 ghost use mathlib.Core.Path.{_≡_};
 ghost use Prim.Native.Nat.{_+_, _*_, _/_, _≤_, _<_};
 ghost use lib.Dec.{ltb, eqb};
-ghost use lib.ListN.{length, drop};
+ghost use lib.ListN.{length, drop, getD};
 ghost use Rattle.lattice.specs.Listing.{readBack};
-ghost use Rattle.section.specs.Section.{stepFrom, afterAt, recordX, asked, asks, countBefore, placesOf, partWith};
+ghost use Rattle.section.specs.Section.{stepFrom, afterAt, asked, asks, countBefore, placesOf, partWith};
 
 // What a reader meets at its place.
 pub enum Step {
@@ -77,7 +77,7 @@ pub fn after(listing: &[u8], at: usize) -> usize
 // The x of a record.
 fn x_of(listing: &[u8], number: usize) -> u16
     requires { ⌜ number < length (now listing) / 7 ⌝ }
-    ensures { λ r. ⌜ r ≡ recordX (now (listing .entry)) number ⌝ }
+    ensures { λ r. ⌜ r ≡ getD (now (listing .entry)) (7 * number) 0 + getD (now (listing .entry)) (7 * number + 1) 0 * 256 ⌝ }
 {
     let at = 7 * number;
     word(listing[at], listing[at + 1])
@@ -86,7 +86,7 @@ fn x_of(listing: &[u8], number: usize) -> u16
 // A record's x is the one asked for or, where `same` is false, another.
 fn answers(listing: &[u8], number: usize, x: u16, same: bool) -> bool
     requires { ⌜ number < length (now listing) / 7 ⌝ }
-    ensures { λ r. ⌜ r ≡ asked same (eqb (recordX (now (listing .entry)) number) x) ⌝ }
+    ensures { λ r. ⌜ r ≡ asked same (eqb (getD (now (listing .entry)) (7 * number) 0 + getD (now (listing .entry)) (7 * number + 1) 0 * 256) x) ⌝ }
 {
     let equal = x_of(listing, number) == x;
     if same {

@@ -37,7 +37,7 @@ block-lies {A = A} k a l {start} {end} s e = ⊎-elim whole past (short-or-whole
             ∙ (ap (λ i. drop i l) p ∙ sym (take-all k (drop a l) (omega (arith, length-drop a l))))
 
 module _ (l : List ℕ) (number : ℕ) where
-  pub block-reads : readBack (take 14336 (drop (14336 * number) l)) ≡ take 2048 (drop (2048 * number) (readBack l))
+  block-reads : readBack (take 14336 (drop (14336 * number) l)) ≡ take 2048 (drop (2048 * number) (readBack l))
   block-reads = readBack-take 2048 (drop (14336 * number) l) ∙ ap (take 2048) (ap (λ at. readBack (drop at l)) sevens ∙ readBack-drop (2048 * number) l)
     where
       sevens : 14336 * number ≡ 7 * (2048 * number)

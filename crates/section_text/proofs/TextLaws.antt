@@ -25,7 +25,7 @@ pub number-length : (n a end : ℕ) → length (digitsThen n a end) ≤ n + 1
 unfolding digitsThen
 number-length n a end = omega (arith, length-append (digits n a) (end ∷ []), digits-length n a)
 
-pub line-few : (x y z p : ℕ) → length (cornerLine x y z p) ≤ 22
+line-few : (x y z p : ℕ) → length (cornerLine x y z p) ≤ 22
 unfolding cornerLine
 line-few x y z p =
     omega (
