@@ -30,6 +30,21 @@ pub and-says : (a b : Bool) {P Q : Type 0} → (a ≡ true) ↔ P → (b ≡ tru
 and-says true b s t = (λ e. (s .0 refl, t .0 e), λ p. t .1 (p .1))
 and-says false b s t = (λ e. absurd (true≢false (sym e)), λ p. absurd (true≢false (sym (s .1 (p .0)))))
 
+-- ---- two numbers
+pub less-or-not : (a b : ℕ) → (a < b) ⊎ (b ≤ a)
+less-or-not a b = go (leb b a) refl
+  where
+    go : (t : Bool) → leb b a ≡ t → (a < b) ⊎ (b ≤ a)
+    go true e = inr (leb-true b a e)
+    go false e = inl (leb-false b a e)
+
+pub same-or-other : (a b : ℕ) → (a ≡ b) ⊎ (a ≡ b → ⊥)
+same-or-other a b = go (eqb a b) refl
+  where
+    go : (t : Bool) → eqb a b ≡ t → (a ≡ b) ⊎ (a ≡ b → ⊥)
+    go true e = inl (eqb-true a b e)
+    go false e = inr (eqb-false a b e)
+
 -- ---- tests of numbers
 -- what is not refused by a test of equality
 pub settled : (a b : ℕ) → ¬ (¬ (a ≡ b)) → a ≡ b

@@ -1,7 +1,7 @@
 -- Of a listing that rises, the first unbroken run of an x is all corners with it; the parts of all x, one after another, are the
 -- listing. Assumes nothing.
 use mathlib.Core.Path.{_≡_, refl, sym, _∙_, ap, subst}
-use mathlib.Core.Logic.{_⊎_, ⊎-elim, inl, inr}
+use mathlib.Core.Logic.{⊎-elim}
 use mathlib.Core.Bool.{Bool, true, false, cond}
 use mathlib.Core.List.{List, [], _∷_, _++_, append-assoc, List·Memᴰ, List·Memᴰ·head, List·Memᴰ·tail, List·Memᴰ·not-nil, List·Memᴰ·cases-cons}
 use Prim.Native.Nat.{ℕ, zero, suc, _+_, _-_, _≤_, _<_}
@@ -9,11 +9,12 @@ use native.Mathlib.Nat.{zero-add, suc-add}
 use native.Mathlib.Omega.{arith}
 use lib.Dec.{eqb}
 use lib.ListN.{take}
-use borrow.Author.Tests.{eqb-true, eqb-false, eq-eqb, ne-eqb}
+use borrow.Author.Tests.{eq-eqb, ne-eqb}
 use Rattle.lattice.specs.Cells.{Cells}
 use Rattle.ground.specs.Sums.{join}
 use Rattle.lattice.specs.Listing.{Corner, corners, IsCorner, Precedes, All, Rising, cornerRecord, bytes, listing, readBack}
 use Rattle.lattice.proofs.ListingLaws.{readBack-bytes}
+use Rattle.ground.proofs.Tests.{same-or-other}
 use Rattle.ground.proofs.JoinLaws.{join-ext, join-nil}
 use Rattle.lattice.proofs.Order.{all-map, corners-rising, corners-are, corners-exactly}
 use Rattle.section.proofs.RunLaws.{part-bytes}
@@ -56,14 +57,6 @@ module _ (x : ℕ) (v : Corner) (vs : List Corner) where
   with-other : (v .x ≡ x → ⊥) → withX x (v ∷ vs) ≡ withX x vs
   unfolding withX
   with-other e = rw (ne-eqb (v .x) x e)
-
--- equal or not
-same-or-other : (a b : ℕ) → (a ≡ b) ⊎ (a ≡ b → ⊥)
-same-or-other a b = go (eqb a b) refl
-  where
-    go : (t : Bool) → eqb a b ≡ t → (a ≡ b) ⊎ (a ≡ b → ⊥)
-    go true e = inl (eqb-true a b e)
-    go false e = inr (eqb-false a b e)
 
 -- ---- what the run is
 record Front (x : ℕ) (vs run : List Corner) : Type 0 where

@@ -1,16 +1,14 @@
 -- The whole records of any bytes: of bytes from a place on, of the first bytes, how many, and the bytes of what is read back.
 -- Assumes nothing.
 use mathlib.Core.Path.{_≡_, refl, sym, _∙_, ap}
-use mathlib.Core.Logic.{_⊎_, ⊎-elim, inl, inr}
-use mathlib.Core.Bool.{Bool, true, false}
+use mathlib.Core.Logic.{⊎-elim}
 use mathlib.Core.List.{List, [], _∷_}
 use Prim.Native.Nat.{ℕ, zero, suc, _+_, _-_, _*_, _/_, _%_, _≤_, _<_}
 use native.Mathlib.Nat.{zero-add, add-zero}
 use native.Mathlib.Omega.{arith}
-use lib.Dec.{leb}
 use lib.ListN.{length, getD, take, drop, length-drop}
 use lib.Seq.{slice, take-all, take-nil, getD-drop, drop-drop}
-use borrow.Author.Tests.{leb-true, leb-false}
+use Rattle.ground.proofs.Tests.{less-or-not}
 use Rattle.lattice.specs.Listing.{Corner, cornerRecord, bytes, readBack}
 
 -- seven bytes, as a record
@@ -54,17 +52,9 @@ module _ (l : List ℕ) (at : ℕ) where
       readBack-front (drop at l) (omega (arith, length-drop at l))
       ∙ simp (getD-drop, drop-drop 7 at l, add-zero, zero-add)
 
--- a record is there, or not
-pub short-or-whole : (n m : ℕ) → (n < m) ⊎ (m ≤ n)
-short-or-whole n m = go (leb m n) refl
-  where
-    go : (b : Bool) → leb m n ≡ b → (n < m) ⊎ (m ≤ n)
-    go true e = inr (leb-true m n e)
-    go false e = inl (leb-false m n e)
-
 pub readBack-drop : (k : ℕ) (l : List ℕ) → readBack (drop (7 * k) l) ≡ drop k (readBack l)
 readBack-drop zero l = refl
-readBack-drop (suc k) l = ⊎-elim short (whole (readBack-drop k (drop 7 l))) (short-or-whole (length l) 7)
+readBack-drop (suc k) l = ⊎-elim short (whole (readBack-drop k (drop 7 l))) (less-or-not (length l) 7)
   where
     short : length l < 7 → readBack (drop (7 * suc k) l) ≡ drop (suc k) (readBack l)
     short h = rw (readBack-none l (7 * suc k) (omega arith), readBack-short l h)

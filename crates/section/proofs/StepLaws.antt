@@ -11,11 +11,12 @@ use lib.Dec.{ltb}
 use lib.ListN.{length, getD, drop}
 use lib.Seq.{drop-drop}
 use borrow.Author.Tests.{ltb-true, ltb-false, lt-ltb, le-ltb}
+use Rattle.ground.proofs.Tests.{less-or-not}
 use Rattle.lattice.specs.Listing.{readBack}
 use Rattle.section.specs.declared.Step.{Step}
 use Rattle.section.specs.declared.Step.the-variants.{Corner as Found, Done}
 use Rattle.section.specs.Section.{firstStep, stepFrom, past, afterAt, stepped}
-use Rattle.section.proofs.RecordLaws.{readBack-none, readBack-more, short-or-whole}
+use Rattle.section.proofs.RecordLaws.{readBack-none, readBack-more}
 
 -- ---- no whole record left
 pub done-short : (n at : ℕ) → n < 7 → true ≡ ltb n (at + 7)
@@ -49,7 +50,7 @@ module _ (l : List ℕ) (at : ℕ) where
 -- ---- one step after another
 -- a step leaves all records but the first
 readBack-after : (l : List ℕ) (at : ℕ) → readBack (drop (afterAt l at) l) ≡ drop 1 (readBack (drop at l))
-readBack-after l at = ⊎-elim done found (short-or-whole (length l) (at + 7))
+readBack-after l at = ⊎-elim done found (less-or-not (length l) (at + 7))
   where
     done : length l < at + 7 → readBack (drop (afterAt l at) l) ≡ drop 1 (readBack (drop at l))
     done h = rw (← afterAt-done l at h, readBack-none l at h)

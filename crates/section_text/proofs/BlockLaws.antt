@@ -7,23 +7,24 @@ use Prim.Native.Nat.{ℕ, zero, suc, _+_, _-_, _*_, _≤_, _<_, min}
 use native.Mathlib.Omega.{arith}
 use lib.ListN.{length, take, drop, length-take, length-drop, drop-of-length-le}
 use lib.Seq.{take-all, take-nil, take-add}
+use Rattle.ground.proofs.Tests.{less-or-not}
 use Rattle.ground.specs.Sums.{join}
 use Rattle.lattice.specs.Listing.{Corner, readBack}
 use Rattle.section.specs.Section.{firstRun, partWith}
-use Rattle.section.proofs.RecordLaws.{short-or-whole, readBack-take, readBack-drop, length-readBack}
+use Rattle.section.proofs.RecordLaws.{readBack-take, readBack-drop, length-readBack}
 use Rattle.section.proofs.RunLaws.{part-reads}
 use Rattle.section_text.specs.CornerLines.{cornerLine, cornerLines, blockCount, blockLines}
 
 -- ---- one block
 -- so many elements from a place on lie between two places of the list
 pub block-lies : {A : Type 0} (k a : ℕ) (l : List A) {start end : ℕ} → start ≡ min a (length l) → end ≡ min (start + k) (length l) → take (end - start) (drop start l) ≡ take k (drop a l)
-block-lies {A = A} k a l {start} {end} s e = ⊎-elim whole past (short-or-whole a (length l))
+block-lies {A = A} k a l {start} {end} s e = ⊎-elim whole past (less-or-not a (length l))
   where
     past : length l ≤ a → take (end - start) (drop start l) ≡ take k (drop a l)
     past h = rw (drop-of-length-le l {i = a} h, drop-of-length-le l {i = start} (omega arith), take-nil {A = A} (end - start), take-nil {A = A} k)
 
     whole : a < length l → take (end - start) (drop start l) ≡ take k (drop a l)
-    whole h = ⊎-elim (inner same) (last same) (short-or-whole (start + k) (length l))
+    whole h = ⊎-elim (inner same) (last same) (less-or-not (start + k) (length l))
       where
         same : start ≡ a
         same = omega arith
