@@ -13,7 +13,7 @@ use Rattle.section.specs.Section.{firstStep, firstRun, withX, placesOf, partWit
 use Rattle.section.specs.declared.Places.{Places}
 use Rattle.section.specs.declared.Step.{Step}
 use Rattle.section.proofs.ListedRuns.{run-is-first, run-none, listing-run, listing-section}
-use Rattle.section.proofs.RecordLaws.{Bytes}
+use Rattle.ground.specs.Numbers.{Bytes}
 use Rattle.section.proofs.RunLaws.{places-in, places-empty, part-reads, part-run}
 use Rattle.measure_intake.specs.Intake.{solid}
 use Rattle.measure_intake.specs.declared.Measured.{Measured}

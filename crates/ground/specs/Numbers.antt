@@ -3,6 +3,7 @@ use mathlib.Core.Bool.{Bool, true, false, cond, _||_}
 use mathlib.Core.List.{List, [], _∷_, _++_}
 use Prim.Native.Nat.{ℕ, zero, suc, _<_}
 use lib.Dec.{eqb}
+use lib.ListN.{getD}
 
 -- a test as a number, to count what passes
 abbrev pub bit : Bool → ℕ
@@ -28,6 +29,10 @@ those f (a ∷ l) = cond (f a) (a ∷ those f l) (those f l)
 unfoldable pub AllBelow : ℕ → List ℕ → Type 0
 AllBelow n [] = Unit {0}
 AllBelow n (a ∷ l) = (a < n) × AllBelow n l
+
+-- every number of a list is a byte, as those of a byte slice are
+abbrev pub Bytes : List ℕ → Type 0
+Bytes l = (i : ℕ) → getD l i 0 < 256
 
 -- whether a number is in a list
 unfoldable pub has : List ℕ → ℕ → Bool

@@ -8,6 +8,7 @@ use native.Mathlib.Nat.{zero-add, add-zero}
 use native.Mathlib.Omega.{arith}
 use lib.ListN.{length, getD, take, drop, length-drop}
 use lib.Seq.{slice, take-all, take-nil, getD-drop, drop-drop}
+use Rattle.ground.specs.Numbers.{Bytes}
 use Rattle.ground.proofs.Tests.{less-or-not}
 use Rattle.lattice.specs.Listing.{Corner, cornerRecord, bytes, readBack}
 
@@ -104,10 +105,6 @@ length-readBack (a ∷ b ∷ c ∷ d ∷ e ∷ f ∷ []) = omega arith
 length-readBack (a ∷ b ∷ c ∷ d ∷ e ∷ f ∷ g ∷ l) = omega (arith, length-readBack l)
 
 -- ---- the bytes of what is read back
--- the numbers of a list are bytes
-abbrev pub Bytes : List ℕ → Type 0
-Bytes l = (i : ℕ) → getD l i 0 < 256
-
 low : (a b : ℕ) → a < 256 → (a + b * 256) % 256 ≡ a
 low a b h = omega arith
 

@@ -10,11 +10,12 @@ use lib.Dec.{eqb}
 use lib.ListN.{length, take, drop, length-drop, drop-of-length-le}
 use lib.Seq.{slice, slice-empty, length-slice, take-length, take-nil, drop-nil, getD-drop}
 use borrow.Author.Tests.{eqb-true, eq-eqb, ne-eqb}
+use Rattle.ground.specs.Numbers.{Bytes}
 use Rattle.lattice.specs.Listing.{Corner, cornerRecord, bytes, readBack}
 use Rattle.lattice.proofs.ListingLaws.{readBack-bytes}
 use Rattle.section.specs.Section.{asked, asks, countBefore, runStart, runEnd, firstRun, placesBetween, placesOf, partWith}
 use Rattle.section.specs.declared.Places.{Places}
-use Rattle.section.proofs.RecordLaws.{seven-more, readAt, readBack-at, readBack-slice, length-readBack, Bytes, bytes-readBack}
+use Rattle.section.proofs.RecordLaws.{seven-more, readAt, readBack-at, readBack-slice, length-readBack, bytes-readBack}
 
 -- ---- before the first that passes
 module _ (p : Corner → Bool) where
