@@ -39,6 +39,8 @@ pub enum Refusal {
     VoxelRange { at: usize },
     // The credit slice has fewer places than these shots.
     ShortCredits { shots: usize },
+    // A field of the map at `at` says what its absence would mean.
+    NeedlessField { at: usize },
 }
 
 // What the checks of a list and its settings find.
@@ -150,6 +152,11 @@ pub fn notice_of(refusal: Refusal) -> Notice
             number: 16,
             detail: shots,
             met: Place::Nowhere,
+        },
+        Refusal::NeedlessField { at } => Notice {
+            number: 17,
+            detail: at,
+            met: Place::Byte,
         },
     }
 }

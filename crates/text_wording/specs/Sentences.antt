@@ -3,7 +3,7 @@ use mathlib.Core.List.{List}
 use Prim.Native.Nat.{ℕ}
 use Rattle.text_parts.specs.Text.{text}
 use Rattle.refusals.specs.declared.Refusal.{Refusal}
-use Rattle.refusals.specs.declared.Refusal.the-variants.{BrokenShot, TooManyShots, NoPlace, UnknownBit, CutShort, FieldRange, EdgeRange, GridRange, OutsideField, ShortWork, ShortListing, ShortFile, NotVox, BrokenChunk, VoxelRange, ShortCredits}
+use Rattle.refusals.specs.declared.Refusal.the-variants.{BrokenShot, TooManyShots, NoPlace, UnknownBit, CutShort, FieldRange, EdgeRange, GridRange, OutsideField, ShortWork, ShortListing, ShortFile, NotVox, BrokenChunk, VoxelRange, ShortCredits, NeedlessField}
 
 unfoldable pub sentence : Refusal → List ℕ
 sentence BrokenShot = text "the coordinates' count is not a multiple of three"
@@ -22,3 +22,4 @@ sentence (NotVox at) = text "no VOX mark of version 150, or not the chunk requir
 sentence (BrokenChunk at) = text "this chunk is cut short, or a size of it does not match"
 sentence (VoxelRange at) = text "a side is not 1 to 256, or a voxel is outside or has colour 0"
 sentence (ShortCredits shots) = text "the credit slice has fewer places than there are shots"
+sentence (NeedlessField at) = text "a field of this map says what its absence would mean"

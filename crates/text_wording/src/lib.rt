@@ -73,5 +73,10 @@ pub fn put_sentence(out: &mut [u8], at: usize, refusal: Refusal) -> usize
             at,
             b"the credit slice has fewer places than there are shots",
         ),
+        Refusal::NeedlessField { at: _ } => put_word(
+            out,
+            at,
+            b"a field of this map says what its absence would mean",
+        ),
     }
 }

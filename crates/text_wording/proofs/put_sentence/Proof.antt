@@ -150,6 +150,15 @@ slice-aggregate-put-word-16 c = search needs
 put-word-requires-16 : tie.Need-put-word-requires-16
 put-word-requires-16 c κs = search needs
 
+enum-told-17 : tie.Need-enum-told-17
+enum-told-17 c = search needs
+
+slice-aggregate-put-word-17 : tie.Need-slice-aggregate-put-word-17
+slice-aggregate-put-word-17 c = search needs
+
+put-word-requires-17 : tie.Need-put-word-requires-17
+put-word-requires-17 c κs = search needs
+
 same-length : tie.Need-same-length
 same-length c = search needs
 
@@ -262,6 +271,13 @@ returns-16 : tie.Need-returns-16
 unfolding sentence
 returns-16 c = wrote-as (ap sentence (sym (c .before .before .before .before .before .enum-told16 .given .1))) (c .before .before .put-word16 .ensures)
 
+same-length-17 : tie.Need-same-length-17
+same-length-17 c = search needs
+
+returns-17 : tie.Need-returns-17
+unfolding sentence
+returns-17 c = wrote-as (ap sentence (sym (c .before .before .before .before .before .enum-told17 .given .1))) (c .before .before .put-word17 .ensures)
+
 pub put-sentence-spec : {M : Type 1} → statement M
 put-sentence-spec =
     tie.close
@@ -314,6 +330,9 @@ put-sentence-spec =
     enum-told-16
     slice-aggregate-put-word-16
     put-word-requires-16
+    enum-told-17
+    slice-aggregate-put-word-17
+    put-word-requires-17
     same-length
     returns
     same-length-2
@@ -345,4 +364,6 @@ put-sentence-spec =
     same-length-15
     returns-15
     same-length-16
-    returns-16)
+    returns-16
+    same-length-17
+    returns-17)
