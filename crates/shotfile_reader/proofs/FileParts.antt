@@ -1,5 +1,5 @@
 -- A file that was read, taken apart: its header and its shots. Assumes nothing.
-use mathlib.Core.Path.{_≡_, refl, ap, _∙_}
+use mathlib.Core.Path.{_≡_, refl, sym, subst, ap, ap₂, _∙_}
 use mathlib.Core.List.{List}
 use Prim.Native.Nat.{ℕ}
 use native.Mathlib.Omega.{arith}
@@ -11,7 +11,7 @@ use Rattle.shotfile_records.specs.declared.Taken.the-variants.{Whole, Refused}
 use Rattle.shotfile_records.specs.Numbers.{settingFields}
 use Rattle.shotfile_records.specs.Records.{headerAbsent, recordAt}
 use Rattle.shotfile_reader.specs.Files.{Rest, coordinates, faulty, shotsFrom, file, refused, withSettings, firstShot, onHeader, fileIn}
-use Rattle.shotfile_reader.proofs.ShotsRead.{Reads, reads}
+use Rattle.shotfile_reader.proofs.ShotsRead.{Reads, reads, reads-same}
 
 pub record FileParts (s : List ℕ) (places : ℕ) (job : Job) : Type 0 where
   pub end : ℕ
@@ -38,3 +38,14 @@ file-parts s places {job} e = header (recordAt s 0 headerAbsent) refl e
     header : (t : Taken) → recordAt s 0 headerAbsent ≡ t → onHeader t (λ end. shotsFrom 4096 places s (firstShot end)) ≡ file job → FileParts s places job
     header (Refused r) h e = apart e
     header (Whole f end) h e = rest f end h (shotsFrom 4096 places s (firstShot end)) refl e
+
+-- however many places there are, a file that is read says one list
+pub one-list : (s : List ℕ) (places room : ℕ) {one two : Job} → fileIn places s ≡ file one → fileIn room s ≡ file two → one ≡ two
+one-list s places room {one} {two} e k =
+    let p = file-parts s places e in
+    let q = file-parts s room k in
+    let same : Whole (settingFields one) (p .end) ≡ Whole (settingFields two) (q .end) = sym (p .header) ∙ q .header in
+    let same-settings : settingFields one ≡ settingFields two = cc in
+    let same-end : p .end ≡ q .end = cc in
+    let same-coords : one.coords ≡ two.coords = reads-same (p .rest) (subst (λ (end : ℕ). Reads s 4096 room (firstShot end) two.coords) (sym same-end) (q .rest)) in
+    ap₂ (λ (f : Fields) (coords : List ℕ). jobOf (f .first) (f .second) (f .third) coords) same-settings same-coords

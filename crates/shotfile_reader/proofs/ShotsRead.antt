@@ -1,5 +1,5 @@
 -- The shots that a file has from a cursor on, one record after the other. Assumes nothing.
-use mathlib.Core.Path.{_≡_, refl, sym, subst}
+use mathlib.Core.Path.{_≡_, refl, sym, subst, ap₂, _∙_}
 use mathlib.Core.Bool.{Bool, true, false, cond}
 use mathlib.Core.List.{List, [], _++_}
 use Prim.Native.Nat.{ℕ, zero, suc, _≤_, _<_}
@@ -86,3 +86,15 @@ reads-next (done h) = refl
 reads-next {s} {left} {places} {c} (shot {f = f} {end = end} {coords = coords} l t r) =
     let e : stepAt s c ≡ Shot (record { at = end; last = f }) = sym (step-on s c l (Whole f end) (sym t)) in
     rw (count-more f coords, e, reads-next r)
+
+-- however many places there are, they are the same coordinates
+pub reads-same : {s : List ℕ} {left places allowed room : ℕ} {c : Cursor} {coords others : List ℕ} → Reads s left places c coords → Reads s allowed room c others → coords ≡ others
+reads-same (done h) (done k) = refl
+reads-same (done h) (shot l t r) = absurd (omega arith)
+reads-same (shot l t r) (done h) = absurd (omega arith)
+reads-same {s} (shot {f = f} {end = end} l t r) (shot {left = allowed} {places = room} {f = g} {end = place} {coords = others} k q w) =
+    let same : Whole f end ≡ Whole g place = sym t ∙ q in
+    let same-fields : f ≡ g = cc in
+    let same-end : end ≡ place = cc in
+    let w' : Reads s allowed room (record { at = end; last = f }) others = rw (same-fields, same-end) w in
+    ap₂ (λ (h : Fields) (later : List ℕ). shotNumbers h ++ later) same-fields (reads-same r w')

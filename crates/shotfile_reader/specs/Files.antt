@@ -41,7 +41,7 @@ onStep (Stopped r) next = faulty r
 onStep End next = coordinates []
 
 -- the shots from a cursor on, where `left` more are allowed and the coordinate slice has places for `places` more:
--- refusals 2, 3, 4, 5 in this order on each record, and the first faulty record decides
+-- refusals 2, 3, 4, 5, 17 in this order on each record, and the first faulty record decides
 unfoldable pub shotsFrom : ℕ → ℕ → List ℕ → Cursor → Rest
 shotsFrom zero places s c = cond (ltb (c .at) (length s)) (faulty (TooManyShots (c .at))) (coordinates [])
 shotsFrom (suc left) zero s c = cond (ltb (c .at) (length s)) (faulty (NoPlace (c .at))) (coordinates [])

@@ -1,7 +1,7 @@
 // Reading a shot file: a cursor takes one record and goes on to the next from there; the file is checked whole before anything is stored.
 // docs/SCOPE.md, 'Shot file' and 'When a job is refused'. specs/Files.antt says what a file says, specs/Calls.antt what `read` promises,
 // specs/Conditions.antt when it refuses; proofs/Conditions.antt that each refusal is given exactly where it should be. Stands on
-// `shotfile_records`, on `refusals` and `job`, whose refusals and door to a shot it uses, on `lattice` and `buffer`.
+// `shotfile_records`, on `refusals` and `job`, whose refusals and door to a shot it uses, on `lattice`, `buffer` and `ground`.
 use refusals::Refusal;
 use shotfile_records::Fields;
 use shotfile_records::Taken;

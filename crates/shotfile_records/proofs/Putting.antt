@@ -59,6 +59,36 @@ module _ (absent v : ℕ) where
 
 -- ---- a record
 module _ (absent f : Fields) where
+  bits₁ : bitOf (absent .first) (f .first) ≤ 1
+  bits₁ = bit-small (absent .first) (f .first)
+
+  bits₂ : bitOf (absent .second) (f .second) ≤ 1
+  bits₂ = bit-small (absent .second) (f .second)
+
+  bits₃ : bitOf (absent .third) (f .third) ≤ 1
+  bits₃ = bit-small (absent .third) (f .third)
+
+  -- the three bits of a map
+  pub map-first : mapOf absent f % 2 ≡ bitOf (absent .first) (f .first)
+  map-first = omega (arith, bits₁, bits₂, bits₃)
+
+  pub map-second : mapOf absent f / 2 % 2 ≡ bitOf (absent .second) (f .second)
+  map-second = omega (arith, bits₁, bits₂, bits₃)
+
+  pub map-third : mapOf absent f / 4 ≡ bitOf (absent .third) (f .third)
+  map-third = omega (arith, bits₁, bits₂, bits₃)
+
+  pub map-small : mapOf absent f < 8
+  map-small = omega (arith, bits₁, bits₂, bits₃)
+
+  -- made of its bits
+  module _ {b₁ b₂ b₃ : ℕ} (e₁ : b₁ ≡ bitOf (absent .first) (f .first)) (e₂ : b₂ ≡ bitOf (absent .second) (f .second)) (e₃ : b₃ ≡ bitOf (absent .third) (f .third)) where
+    pub map-made : b₁ + 2 * b₂ + 4 * b₃ ≡ mapOf absent f
+    map-made = rw (e₁, e₂, e₃)
+
+    pub made-small : b₁ + 2 * b₂ + 4 * b₃ < 8
+    made-small = omega (arith, map-made, map-small)
+
   pub record-size : length (recordOf absent f) ≡ 1 + length (fieldOf (absent .first) (f .first)) + length (fieldOf (absent .second) (f .second)) + length (fieldOf (absent .third) (f .third))
   unfolding recordOf
   record-size =
@@ -68,18 +98,12 @@ module _ (absent f : Fields) where
         length-append (fieldOf (absent .second) (f .second)) (fieldOf (absent .third) (f .third)),
       )
 
+  -- a byte, and two for each bit that stands
+  pub record-bits : length (recordOf absent f) ≡ 1 + 2 * bitOf (absent .first) (f .first) + 2 * bitOf (absent .second) (f .second) + 2 * bitOf (absent .third) (f .third)
+  record-bits = omega (arith, record-size, field-size (absent .first) (f .first), field-size (absent .second) (f .second), field-size (absent .third) (f .third))
+
   pub record-most : length (recordOf absent f) ≤ 7
-  record-most =
-      omega (
-        arith,
-        record-size,
-        field-size (absent .first) (f .first),
-        bit-small (absent .first) (f .first),
-        field-size (absent .second) (f .second),
-        bit-small (absent .second) (f .second),
-        field-size (absent .third) (f .third),
-        bit-small (absent .third) (f .third),
-      )
+  record-most = omega (arith, record-bits, bits₁, bits₂, bits₃)
 
 -- ---- writing
 module _ (w : List ℕ) (at : ℕ) where
@@ -92,12 +116,8 @@ module _ (w : List ℕ) (at : ℕ) where
       rw (field-some absent v n) (record { next = refl; room = room; is = two-stores w at (v % 256) (v / 256) room })
 
 module _ (absent f : Fields) where
-  pub put-map : (w : List ℕ) (at : ℕ) {b₁ b₂ b₃ : ℕ} → at < length w
-      → b₁ ≡ bitOf (absent .first) (f .first)
-      → b₂ ≡ bitOf (absent .second) (f .second)
-      → b₃ ≡ bitOf (absent .third) (f .third)
-      → Wrote w (set w at (b₁ + 2 * b₂ + 4 * b₃)) at (at + 1) (mapOf absent f ∷ [])
-  put-map w at h e₁ e₂ e₃ = rw (← e₁, ← e₂, ← e₃) (wrote-one w at _ h)
+  pub put-map : (w : List ℕ) (at : ℕ) {m : ℕ} → at < length w → m ≡ mapOf absent f → Wrote w (set w at m) at (at + 1) (mapOf absent f ∷ [])
+  put-map w at h e = rw (← e) (wrote-one w at _ h)
 
   pub room-map : (w : List ℕ) (at : ℕ) → at + length (recordOf absent f) ≤ length w → at < length w
   room-map w at room = omega (arith, record-size absent f)

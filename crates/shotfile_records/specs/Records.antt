@@ -5,7 +5,7 @@ use mathlib.Core.List.{List, [], _∷_, _++_}
 use Prim.Native.Nat.{ℕ, _+_, _*_, _/_, _%_}
 use lib.Dec.{ltb, leb, eqb}
 use lib.ListN.{length, getD}
-use Rattle.refusals.specs.declared.Refusal.the-variants.{UnknownBit, CutShort}
+use Rattle.refusals.specs.declared.Refusal.the-variants.{UnknownBit, CutShort, NeedlessField}
 use Rattle.shotfile_records.specs.declared.Fields.{Fields}
 use Rattle.shotfile_records.specs.declared.Taken.{Taken}
 use Rattle.shotfile_records.specs.declared.Taken.the-variants.{Whole, Refused}
@@ -46,13 +46,27 @@ fieldsAt s m at absent =
       third = fieldAt s (thirdAt m at) (m / 4) (absent .third);
     }
 
--- the record at a place: refusal 4 where another bit than the three stands, 5 where the file ends before its map or a field
+-- a field that stands though it says what its absence would mean
+unfoldable pub needless : List ℕ → ℕ → ℕ → ℕ → Bool
+needless s at b absent = not (eqb b 0) && eqb (fieldNumber s at) absent
+
+-- no field of the record at a place is needless
+unfoldable pub tight : List ℕ → ℕ → Fields → Bool
+tight s at absent =
+    not (needless s (at + 1) (getD s at 0 % 2) (absent .first))
+    && (not (needless s (secondAt (getD s at 0) at) (getD s at 0 / 2 % 2) (absent .second))
+    && not (needless s (thirdAt (getD s at 0) at) (getD s at 0 / 4) (absent .third)))
+
+-- the record at a place: refusal 4 where another bit than the three stands, 5 where the file ends before its map or a field, 17 where a
+-- field is needless
 unfoldable pub recordAt : List ℕ → ℕ → Fields → Taken
 recordAt s at absent =
     cond (ltb at (length s))
     (cond (ltb (getD s at 0) 8)
     (cond (leb (endAt (getD s at 0) at) (length s))
+    (cond (tight s at absent)
     (Whole (fieldsAt s (getD s at 0) at absent) (endAt (getD s at 0) at))
+    (Refused (NeedlessField at)))
     (Refused (CutShort at)))
     (Refused (UnknownBit at)))
     (Refused (CutShort at))
@@ -72,15 +86,3 @@ mapOf absent f = bitOf (absent .first) (f .first) + 2 * bitOf (absent .second) (
 unfoldable pub recordOf : Fields → Fields → List ℕ
 recordOf absent f =
     mapOf absent f ∷ (fieldOf (absent .first) (f .first) ++ (fieldOf (absent .second) (f .second) ++ fieldOf (absent .third) (f .third)))
-
--- ---- the shortest form
--- a field that stands though it says what its absence would mean
-unfoldable pub needless : List ℕ → ℕ → ℕ → ℕ → Bool
-needless s at b absent = not (eqb b 0) && eqb (fieldNumber s at) absent
-
--- no field of the record at a place is needless
-unfoldable pub tight : List ℕ → ℕ → Fields → Bool
-tight s at absent =
-    not (needless s (at + 1) (getD s at 0 % 2) (absent .first))
-    && (not (needless s (secondAt (getD s at 0) at) (getD s at 0 / 2 % 2) (absent .second))
-    && not (needless s (thirdAt (getD s at 0) at) (getD s at 0 / 4) (absent .third)))

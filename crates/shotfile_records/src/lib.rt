@@ -75,7 +75,27 @@ fn field(bytes: &[u8], at: usize, bit: usize, absent: u16) -> u16
     word(bytes[at], bytes[at + 1])
 }
 
-// Takes the record whose map is at a place.
+// The bit of a field in the map: 0 where its absence says it.
+fn bit(absent: u16, value: u16) -> u8
+    ensures { λ r. ⌜ r ≡ bitOf absent value ⌝ }
+{
+    if value == absent {
+        return 0;
+    }
+    1
+}
+
+// The map of the shortest record of these numbers: a bit for each that is not what its absence means.
+fn map_of(absent: Fields, fields: Fields) -> u8
+    ensures { λ r. ⌜ r ≡ mapOf absent fields ⌝ }
+{
+    let b1 = bit(absent.first, fields.first);
+    let b2 = bit(absent.second, fields.second);
+    let b3 = bit(absent.third, fields.third);
+    b1 + 2 * b2 + 4 * b3
+}
+
+// Takes the record whose map is at a place, if no field of it says what its absence means: then its map is that of the shortest record.
 pub fn take_record(bytes: &[u8], at: usize, absent: Fields) -> Taken
     ensures { λ r. ⌜ r ≡ recordAt (now (bytes .entry)) at absent ⌝ }
 {
@@ -100,30 +120,20 @@ pub fn take_record(bytes: &[u8], at: usize, absent: Fields) -> Taken
         second: field(bytes, second, b2, absent.second),
         third: field(bytes, third, b3, absent.third),
     };
+    if map != map_of(absent, fields) {
+        return Taken::Refused(Refusal::NeedlessField { at: at });
+    }
     Taken::Whole {
         fields: fields,
         end: end,
     }
 }
 
-// The bit of a field in the map: 0 where its absence says it.
-fn bit(absent: u16, value: u16) -> u8
-    ensures { λ r. ⌜ r ≡ bitOf absent value ⌝ }
-{
-    if value == absent {
-        return 0;
-    }
-    1
-}
-
-// How many bytes a field takes.
+// How many bytes a field takes: two where its bit stands.
 fn field_length(absent: u16, value: u16) -> usize
     ensures { λ r. ⌜ r ≡ length (fieldOf absent value) ⌝ }
 {
-    if value == absent {
-        return 0;
-    }
-    2
+    2 * wide(bit(absent, value))
 }
 
 // How many bytes the shortest record of these numbers takes.
@@ -154,10 +164,7 @@ fn put_map(bytes: &mut [u8], at: usize, absent: Fields, fields: Fields) -> usize
     requires { ⌜ at < length (now bytes) ⌝ }
     ensures { λ r. ⌜ Wrote (now (bytes .entry)) (now (bytes .exit)) at r (mapOf absent fields ∷ []) ⌝ }
 {
-    let b1 = bit(absent.first, fields.first);
-    let b2 = bit(absent.second, fields.second);
-    let b3 = bit(absent.third, fields.third);
-    bytes[at] = b1 + 2 * b2 + 4 * b3;
+    bytes[at] = map_of(absent, fields);
     at + 1
 }
 

@@ -1,15 +1,21 @@
--- A field takes no byte or two. Assumes nothing.
-use mathlib.Core.Path.{sym, ap}
-use lib.ListN.{length}
-use Rattle.shotfile_records.proofs.Putting.{field-none, field-some}
+-- A field takes two bytes where its bit stands. Assumes nothing.
+use native.Mathlib.Omega.{arith}
+use Rattle.shotfile_records.proofs.Putting.{bit-small, field-size}
+use borrow.Author.Needs.{needs}
 use Rattle.shotfile_records.proofs.field_length.Statement.{statement}
 use Rattle.shotfile_records.proofs.field_length.Tie as tie
 
-returns : tie.Need-returns
-returns c = sym (ap length (field-none _ _ (c .if1 .taken)))
+bit-requires : tie.Need-bit-requires
+bit-requires c κs = search needs
 
-returns-2 : tie.Need-returns-2
-returns-2 c = sym (ap length (field-some _ _ (c .if1 .left)))
+wide-requires : tie.Need-wide-requires
+wide-requires c κs = search needs
+
+mul-result : tie.Need-mul-result
+mul-result c = let at-start = c .before .before .args in omega (arith, c .wide .ensures, c .before .bit .ensures, bit-small (at-start .absent) (at-start .value))
+
+returns : tie.Need-returns
+returns c = let at-start = c .before .before .args in omega (arith, c .wide .ensures, c .before .bit .ensures, field-size (at-start .absent) (at-start .value))
 
 pub field-length-spec : {M : Type 1} → statement M
-field-length-spec = tie.close (tie.spec returns returns-2)
+field-length-spec = tie.close (tie.spec bit-requires wide-requires mul-result returns)

@@ -1,5 +1,6 @@
 -- `take_record` answers `recordAt`: each way out is one law of `Taking`. Assumes nothing.
-use Rattle.shotfile_records.proofs.Taking.{no-map, unknown-bit, cut-short, taken-whole}
+use mathlib.Core.Path.{sym, _∙_}
+use Rattle.shotfile_records.proofs.Taking.{no-map, unknown-bit, cut-short, needless-field, taken-whole}
 use borrow.Author.Needs.{needs}
 use Rattle.shotfile_records.proofs.take_record.Statement.{statement}
 use Rattle.shotfile_records.proofs.take_record.Tie as tie
@@ -58,8 +59,24 @@ field-requires-2 c κs = search needs
 field-requires-3 : tie.Need-field-requires-3
 field-requires-3 c κs = search needs
 
+map-of-requires : tie.Need-map-of-requires
+map-of-requires c κs = search needs
+
 returns-4 : tie.Need-returns-4
-returns-4 c = taken-whole (c .before .before .before .before .before .before .before .before .before .before .before .args .bytes .now) _ (c .before .before .before .before .before .before .before .before .before .before .before .args .absent) (c .before .before .before .before .before .before .before .before .before .if1 .left) (c .before .before .before .before .before .before .before .if2 .left) (c .before .before .before .before .before .before .wide .ensures) (c .before .before .before .before .before .wide2 .ensures) (c .before .before .before .before .wide3 .ensures) (c .before .before .before .if3 .left) (c .before .before .field .ensures) (c .before .field2 .ensures) (c .field3 .ensures)
+returns-4 c =
+    let at-fields = c .before .before in
+    let at-bits = at-fields .before .before .before .before in
+    let at-map = at-bits .before .before .before in
+    let at-start = at-map .before .before .before .before in
+    needless-field (at-start .args .bytes .now) _ (at-start .args .absent) (at-map .before .before .if1 .left) (at-map .if2 .left) (at-bits .before .before .wide .ensures) (at-bits .before .wide2 .ensures) (at-bits .wide3 .ensures) (at-fields .before .before .before .if3 .left) (at-fields .before .before .field .ensures) (at-fields .before .field2 .ensures) (at-fields .field3 .ensures) (λ e. c .if4 .taken (e ∙ sym (c .before .map-of .ensures)))
+
+returns-5 : tie.Need-returns-5
+returns-5 c =
+    let at-fields = c .before .before in
+    let at-bits = at-fields .before .before .before .before in
+    let at-map = at-bits .before .before .before in
+    let at-start = at-map .before .before .before .before in
+    taken-whole (at-start .args .bytes .now) _ (at-start .args .absent) (at-map .before .before .if1 .left) (at-map .if2 .left) (at-bits .before .before .wide .ensures) (at-bits .before .wide2 .ensures) (at-bits .wide3 .ensures) (at-fields .before .before .before .if3 .left) (at-fields .before .before .field .ensures) (at-fields .before .field2 .ensures) (at-fields .field3 .ensures) (c .if4 .left ∙ c .before .map-of .ensures)
 
 pub take-record-spec : {M : Type 1} → statement M
 take-record-spec =
@@ -83,4 +100,6 @@ take-record-spec =
     field-requires
     field-requires-2
     field-requires-3
-    returns-4)
+    map-of-requires
+    returns-4
+    returns-5)
