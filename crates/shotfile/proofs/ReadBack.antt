@@ -21,7 +21,7 @@ use Rattle.shotfile_writer.specs.Files.{shotRecords, fileOf}
 use Rattle.shotfile_records.proofs.Taking.{field-absent, field-there, taken-whole}
 use Rattle.shotfile_reader.proofs.Coords.{shots-more, allNumbers, all-numbers}
 use Rattle.shotfile_reader.proofs.Steps.{step-on, shots-end, shots-on}
-use Rattle.shotfile_records.proofs.Putting.{bit-absent, bit-there, bit-small, field-some, field-size, record-size}
+use Rattle.shotfile_records.proofs.Putting.{bit-absent, bit-there, field-some, field-size, map-first, map-second, map-third, map-small, record-size, record-bits}
 
 -- the numbers are of 16 bits
 pub record SmallFields (f : Fields) : Type 0 where
@@ -65,7 +65,7 @@ field-at {s} {at} pre post absent v e q h =
     ∙ (ap (λ (l : List ℕ). fieldAt l (length pre) (bitOf absent v) absent) (sym e) ∙ ap (λ (k : ℕ). fieldAt s k (bitOf absent v) absent) (sym q))
 
 -- a record that stands at a place: its map's bits, its room, and its fields
-pub record Placed (s : List ℕ) (at : ℕ) (absent f : Fields) : Type 0 where
+record Placed (s : List ℕ) (at : ℕ) (absent f : Fields) : Type 0 where
   pub inside : at < length s
   pub map-is : getD s at 0 ≡ mapOf absent f
   pub room : at + length (recordOf absent f) ≤ length s
@@ -73,33 +73,7 @@ pub record Placed (s : List ℕ) (at : ℕ) (absent f : Fields) : Type 0 where
   pub second-at : f .second ≡ fieldAt s (at + 1 + 2 * bitOf (absent .first) (f .first)) (bitOf (absent .second) (f .second)) (absent .second)
   pub third-at : f .third ≡ fieldAt s (at + 1 + 2 * bitOf (absent .first) (f .first) + 2 * bitOf (absent .second) (f .second)) (bitOf (absent .third) (f .third)) (absent .third)
 
-module _ (absent f : Fields) where
-  bits₁ : bitOf (absent .first) (f .first) ≤ 1
-  bits₁ = bit-small (absent .first) (f .first)
-
-  bits₂ : bitOf (absent .second) (f .second) ≤ 1
-  bits₂ = bit-small (absent .second) (f .second)
-
-  bits₃ : bitOf (absent .third) (f .third) ≤ 1
-  bits₃ = bit-small (absent .third) (f .third)
-
-  -- the three bits of a map
-  map-first : mapOf absent f % 2 ≡ bitOf (absent .first) (f .first)
-  map-first = omega (arith, bits₁, bits₂, bits₃)
-
-  map-second : mapOf absent f / 2 % 2 ≡ bitOf (absent .second) (f .second)
-  map-second = omega (arith, bits₁, bits₂, bits₃)
-
-  map-third : mapOf absent f / 4 ≡ bitOf (absent .third) (f .third)
-  map-third = omega (arith, bits₁, bits₂, bits₃)
-
-  map-small : mapOf absent f < 8
-  map-small = omega (arith, bits₁, bits₂, bits₃)
-
-  record-bits : length (recordOf absent f) ≡ 1 + 2 * bitOf (absent .first) (f .first) + 2 * bitOf (absent .second) (f .second) + 2 * bitOf (absent .third) (f .third)
-  record-bits = omega (arith, record-size absent f, field-size (absent .first) (f .first), field-size (absent .second) (f .second), field-size (absent .third) (f .third))
-
-pub placed : (pre post : List ℕ) (absent f : Fields) → SmallFields f → Placed (pre ++ (recordOf absent f ++ post)) (length pre) absent f
+placed : (pre post : List ℕ) (absent f : Fields) → SmallFields f → Placed (pre ++ (recordOf absent f ++ post)) (length pre) absent f
 unfolding recordOf
 placed pre post absent f small = record {
   inside = omega (arith, record-bits absent f, whole);
@@ -148,19 +122,19 @@ placed pre post absent f small = record {
 
 module _ {s : List ℕ} {at : ℕ} {absent f : Fields} (p : Placed s at absent f) where
   -- the bits of its map
-  pub placed-first : bitOf (absent .first) (f .first) ≡ getD s at 0 % 2
+  placed-first : bitOf (absent .first) (f .first) ≡ getD s at 0 % 2
   placed-first = sym (ap (λ (k : ℕ). k % 2) (p .map-is) ∙ map-first absent f)
 
-  pub placed-second : bitOf (absent .second) (f .second) ≡ getD s at 0 / 2 % 2
+  placed-second : bitOf (absent .second) (f .second) ≡ getD s at 0 / 2 % 2
   placed-second = sym (ap (λ (k : ℕ). k / 2 % 2) (p .map-is) ∙ map-second absent f)
 
-  pub placed-third : bitOf (absent .third) (f .third) ≡ getD s at 0 / 4
+  placed-third : bitOf (absent .third) (f .third) ≡ getD s at 0 / 4
   placed-third = sym (ap (λ (k : ℕ). k / 4) (p .map-is) ∙ map-third absent f)
 
   -- it is read as the numbers that it says
-  pub placed-read : recordAt s at absent ≡ Whole f (at + length (recordOf absent f))
+  placed-read : recordAt s at absent ≡ Whole f (at + length (recordOf absent f))
   placed-read =
-      sym (taken-whole s at absent (p .inside) (omega (arith, p .map-is, map-small absent f)) placed-first placed-second placed-third (omega (arith, p .room, record-bits absent f)) (p .first-at) (p .second-at) (p .third-at))
+      sym (taken-whole s at absent (p .inside) (omega (arith, p .map-is, map-small absent f)) placed-first placed-second placed-third (omega (arith, p .room, record-bits absent f)) (p .first-at) (p .second-at) (p .third-at) (p .map-is))
       ∙ ap (Whole f) (omega (arith, record-bits absent f))
 
 -- the shots of a file, after what stands before them
@@ -169,7 +143,7 @@ module _ (s : List ℕ) where
   at-shot pre rest p f e = omega (arith, ap length e, length-append pre (recordOf p f ++ rest), length-append (recordOf p f) rest, record-size p f)
 
   -- a shot's record is one step
-  pub one-step : (pre rest : List ℕ) (p f : Fields) → s ≡ pre ++ (recordOf p f ++ rest) → SmallFields f
+  one-step : (pre rest : List ℕ) (p f : Fields) → s ≡ pre ++ (recordOf p f ++ rest) → SmallFields f
       → stepAt s (record { at = length pre; last = p }) ≡ Stepped (record { at = length (pre ++ recordOf p f); last = f })
   one-step pre rest p f e small = sym (step-on s (record { at = length pre; last = p }) (at-shot pre rest p f e) (Whole f (length (pre ++ recordOf p f))) (sym taken))
     where

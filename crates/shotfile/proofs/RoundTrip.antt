@@ -1,17 +1,17 @@
 -- Reading and writing undo one another: what condition 2 asks of shot files. Assumes nothing.
 -- (a) A list that the writer accepts is read back from what it wrote, with its settings.
--- (b) A file in its shortest form is written back, byte for byte, from what was read.
--- (c) What is written is in its shortest form, and no file with the same list and settings has fewer bytes.
--- (d) A file is in its shortest form if and only if no file with the same list and settings has fewer bytes.
+-- (b) A file that is read is written back, byte for byte, from what was read. So two files with the same list and settings are the same bytes.
+-- (c) What is written, and what is read, is in its shortest form.
 -- Each is stated of the definitions, and (a) to (c) once more of the calls, by their contracts `ReadCall` and `WriteCall`.
 use mathlib.Core.Path.{_≡_, sym, ap, subst, _∙_}
 use mathlib.Core.List.{List, [], _∷_}
-use mathlib.Core.Logic.{_↔_}
 use Prim.Native.Nat.{ℕ, _≤_}
 use native.Mathlib.Omega.{arith}
 use lib.Dec.{T}
 use lib.ListN.{length, take, drop}
 use lib.Seq.{take-at}
+use Rattle.ground.specs.Numbers.{Bytes}
+use Rattle.ground.proofs.Bools.{truth}
 use Rattle.buffer.specs.Wrote.{inFront}
 use Rattle.lattice.specs.Shots.{Shot, AllInField}
 use Rattle.job.specs.Job.{Job, jobOf, shots, shotCount, firstShots, Valid}
@@ -28,10 +28,7 @@ use Rattle.shotfile_reader.specs.Calls.{readNumbers, readAnswer, readValues, re
 use Rattle.shotfile_writer.specs.Calls.{writtenNumbers, WriteCall}
 use Rattle.shotfile_reader.proofs.Coords.{threes-whole}
 use Rattle.shotfile.proofs.ReadBack.{SmallFields, SmallShots, file-read}
-use Rattle.shotfile.proofs.Tight.{file-tight}
-use Rattle.shotfile.proofs.WriteBack.{Bytes}
-use Rattle.shotfile.proofs.Shortest.{file-least, file-same}
-use Rattle.shotfile.proofs.Fewest.{file-fewest, again-bytes, again-read}
+use Rattle.shotfile.proofs.Shortest.{file-shortest, file-same}
 use Rattle.shotfile_writer.proofs.Writing.{write-done}
 use Rattle.shotfile_reader.proofs.Accepted.{accepted-file}
 use Rattle.shotfile_writer.proofs.Accepted.{AcceptedList, accepted-list}
@@ -59,23 +56,18 @@ read-written job places v r =
     r
 
 -- (b)
-pub written-read : (s : List ℕ) (places : ℕ) (job : Job) → Bytes s → T (shortest s) → fileIn places s ≡ file job → fileOf job ≡ s
-written-read s places job b t e = file-same s places e b t
+pub written-read : (s : List ℕ) (places : ℕ) (job : Job) → Bytes s → fileIn places s ≡ file job → fileOf job ≡ s
+written-read s places job b e = file-same s places e b
+
+pub same-bytes : (s t : List ℕ) (places room : ℕ) (job : Job) → Bytes s → Bytes t → fileIn places s ≡ file job → fileIn room t ≡ file job → s ≡ t
+same-bytes s t places room job b c e k = sym (written-read s places job b e) ∙ written-read t room job c k
 
 -- (c)
+read-shortest : (s : List ℕ) (places : ℕ) (job : Job) → fileIn places s ≡ file job → T (shortest s)
+read-shortest s places job e = truth (shortest s) (file-shortest s places e)
+
 written-shortest : (job : Job) → Valid job → T (shortest (fileOf job))
-written-shortest job v = subst T (sym (file-tight job (small-settings v) (small-shots job.field (shots job) (v .field-most) (v .inside)))) tt
-
-shortest-least : (s : List ℕ) (places : ℕ) (job : Job) → fileIn places s ≡ file job → length (fileOf job) ≤ length s
-shortest-least s places job e = file-least s places e
-
--- (d)
-pub shortest-fewest : (s : List ℕ) (places : ℕ) (job : Job) → Bytes s → fileIn places s ≡ file job
-    → T (shortest s) ↔ ((t : List ℕ) → Bytes t → fileIn places t ≡ file job → length s ≤ length t)
-shortest-fewest s places job b e = (
-  λ h t c k. subst (λ (l : List ℕ). length l ≤ length t) (written-read s places job b h e) (shortest-least t places job k),
-  λ h. subst T (sym (file-fewest s places e (h (fileOf job) (again-bytes s places b e) (again-read s places b e)))) tt,
-)
+written-shortest job v = read-shortest (fileOf job) (shotCount job.coords) job (read-written job (shotCount job.coords) v (omega arith))
 
 -- ---- of the calls
 wrote-file : {job : Job} {before after : List ℕ} {n : ℕ} → AcceptedList job before n after → take n after ≡ fileOf job
@@ -97,18 +89,18 @@ read-what-write-wrote {job} {n} {before} {written} {lent} wrote e read room =
     is : fileIn (shotCount lent) (take n written) ≡ file job
     is = ap (fileIn (shotCount lent)) (wrote-file a) ∙ read-written job (shotCount lent) (a .valid) room
 
--- (b) where `read` accepts a file in its shortest form, and the list is valid, `write` of what was read, with room enough, answers the
--- file's length and writes the file's bytes; the other places keep their values
+-- (b) where `read` accepts a file, and the list is valid, `write` of what was read, with room enough, answers the file's length and writes
+-- the file's bytes; the other places keep their values
 pub write-what-read-read : {F E G n : ℕ} {s lent coords before after : List ℕ} {r : ReadAnswer} {w : WriteAnswer}
-    → ReadCall s lent r coords → r ≡ Read F E G n → Bytes s → T (shortest s)
+    → ReadCall s lent r coords → r ≡ Read F E G n → Bytes s
     → WriteCall (jobOf F E G (firstShots n coords)) before w after → Valid (jobOf F E G (firstShots n coords)) → length s ≤ length before
     → (w ≡ Written (length s)) × (writtenNumbers w ≡ 0 ∷ 0 ∷ length s ∷ []) × (after ≡ inFront s before)
 unfolding writtenNumbers
-write-what-read-read {F} {E} {G} {n} {s} {lent} {coords} {before} {after} read e b t wrote v room =
+write-what-read-read {F} {E} {G} {n} {s} {lent} {coords} {before} {after} read e b wrote v room =
     (wrote .answer ∙ sym (d .answer), wrote .numbers ∙ sym (d .numbers), wrote .file ∙ sym (d .file))
   where
     same : fileOf (jobOf F E G (firstShots n coords)) ≡ s
-    same = written-read s (shotCount lent) (jobOf F E G (firstShots n coords)) b t (accepted-file read e .is)
+    same = written-read s (shotCount lent) (jobOf F E G (firstShots n coords)) b (accepted-file read e .is)
 
     d : WriteCall (jobOf F E G (firstShots n coords)) before (Written (length s)) (inFront s before)
     d = write-done (jobOf F E G (firstShots n coords)) before (sym (accepted-valid (jobOf F E G (firstShots n coords)) .1 v)) (ap length (sym same)) room (ap (λ (k : List ℕ). inFront k before) (sym same))
@@ -118,3 +110,7 @@ pub write-wrote-shortest : {job : Job} {n : ℕ} {before after : List ℕ} {w : 
 write-wrote-shortest {job} {n} wrote e =
     let a = accepted-list wrote e in
     subst (λ (s : List ℕ). T (shortest s)) (sym (wrote-file a)) (written-shortest job (a .valid))
+
+-- and where `read` accepts a file, it is in its shortest form
+pub read-read-shortest : {F E G n : ℕ} {s lent after : List ℕ} {r : ReadAnswer} → ReadCall s lent r after → r ≡ Read F E G n → T (shortest s)
+read-read-shortest {F} {E} {G} {n} {s} {lent} {after} read e = read-shortest s (shotCount lent) (jobOf F E G (firstShots n after)) (accepted-file read e .is)

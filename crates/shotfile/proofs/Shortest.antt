@@ -1,32 +1,51 @@
--- The shortest form is shortest, and a file in its shortest form is what its list is written as. Assumes nothing.
-use mathlib.Core.Path.{_≡_, sym, ap, subst, _∙_}
-use mathlib.Core.Bool.{true}
+-- A file that is read is in its shortest form, and is what its list is written as. Assumes nothing.
+use mathlib.Core.Path.{_≡_, refl, sym, ap, _∙_}
+use mathlib.Core.Bool.{Bool, true, _&&_}
 use mathlib.Core.List.{List, [], _++_}
-use Prim.Native.Nat.{ℕ, zero, suc, _+_, _-_, _≤_}
-use native.Mathlib.Omega.{arith}
-use lib.Dec.{T}
-use lib.ListN.{length, drop, length-append, drop-of-length-le}
-use Rattle.ground.proofs.Bools.{and-left, and-right}
-use Rattle.job.specs.Job.{Job, shots, shotsOf, shotCount}
+use Prim.Native.Nat.{ℕ, zero, suc, _≤_}
+use lib.ListN.{length, drop, drop-of-length-le, List·getD-eq-default}
+use Rattle.ground.specs.Numbers.{Bytes}
+use Rattle.job.specs.Job.{Job, shotsOf}
 use Rattle.shotfile_records.specs.declared.Fields.{Fields}
-use Rattle.shotfile_records.specs.declared.Taken.{Taken}
 use Rattle.shotfile_records.specs.declared.Taken.the-variants.{Whole}
 use Rattle.shotfile_reader.specs.declared.Cursor.{Cursor}
 use Rattle.shotfile_reader.specs.declared.Step.{Step}
 use Rattle.shotfile_reader.specs.declared.Step.the-variants.{Shot}
-use Rattle.shotfile_records.specs.Records.{headerAbsent, firstAbsent, recordAt, recordOf, tight}
+use Rattle.shotfile_records.specs.Records.{headerAbsent, needless, tight, recordAt, recordOf}
 use Rattle.shotfile_records.specs.Numbers.{settingFields, shotNumbers}
-use Rattle.shotfile_reader.specs.Files.{stepAt, file, firstShot, fileIn, onShot}
+use Rattle.shotfile_reader.specs.Files.{stepAt, file, fileIn, onShot}
 use Rattle.shotfile_writer.specs.Files.{shotRecords, fileOf}
 use Rattle.shotfile.specs.Shortest.{tightFrom, tightRest, shortest}
-use Rattle.shotfile_reader.proofs.Coords.{shots-none, shots-more, count-none, count-more}
-use Rattle.shotfile_reader.proofs.Steps.{step-on}
+use Rattle.shotfile_reader.proofs.Coords.{shots-none, shots-more}
+use Rattle.shotfile_reader.proofs.Steps.{step-end, step-on}
 use Rattle.shotfile_reader.proofs.ShotsRead.{Reads, done, shot}
 use Rattle.shotfile_reader.proofs.FileParts.{file-parts}
-use Rattle.shotfile.proofs.WriteBack.{Bytes, record-least, record-same}
 use Rattle.shotfile_records.proofs.Parts.{parts}
+use Rattle.shotfile.proofs.WriteBack.{record-same}
 
--- ---- no file of the same list is shorter
+-- ---- no field of it is needless
+-- past the end no field stands
+end-tight : (s : List ℕ) (at : ℕ) (absent : Fields) → length s ≤ at → tight s at absent ≡ true
+unfolding tight needless
+end-tight s at absent h = rw (List·getD-eq-default s 0 h)
+
+reads-tight : {s : List ℕ} {left places : ℕ} {c : Cursor} {coords : List ℕ} → Reads s left places c coords → (n : ℕ) → tightFrom n s c ≡ true
+unfolding tightFrom
+reads-tight r zero = refl
+reads-tight {s} {left} {places} {c} (done h) (suc n) = rw (end-tight s (c .at) (c .last) h, ← step-end s c h)
+reads-tight {s} {left} {places} {c} (shot {f = f} {end = end} i q r) (suc n) =
+    let step : stepAt s c ≡ Shot (record { at = end; last = f }) = sym (step-on s c i (Whole f end) (sym q)) in
+    ap (λ (b : Bool). b && onShot (stepAt s c) true (tightFrom n s)) (parts s (c .at) (c .last) q .is-tight)
+    ∙ (ap (λ (k : Step). onShot k true (tightFrom n s)) step ∙ reads-tight r n)
+
+pub file-shortest : (s : List ℕ) (places : ℕ) {job : Job} → fileIn places s ≡ file job → shortest s ≡ true
+unfolding shortest
+file-shortest s places e =
+    let q = file-parts s places e in
+    ap (λ (b : Bool). b && tightRest s (recordAt s 0 headerAbsent)) (parts s 0 headerAbsent (q .header) .is-tight)
+    ∙ (ap (tightRest s) (q .header) ∙ reads-tight (q .rest) (length s))
+
+-- ---- it is what its list is written as
 module _ (e : ℕ) where
   -- the records of the shots that were read, one after the other
   records-none : (p : Fields) → shotRecords p (shotsOf e []) ≡ []
@@ -37,52 +56,17 @@ module _ (e : ℕ) where
   unfolding shotRecords
   records-more p f coords = ap (shotRecords p) (shots-more e f coords)
 
-  pub more-length : (p f : Fields) (coords : List ℕ) → length (shotRecords p (shotsOf e (shotNumbers f ++ coords))) ≡ length (recordOf p f) + length (shotRecords f (shotsOf e coords))
-  more-length p f coords = ap length (records-more p f coords) ∙ length-append (recordOf p f) (shotRecords f (shotsOf e coords))
+  shots-same : {s : List ℕ} {left places : ℕ} {c : Cursor} {coords : List ℕ} → Reads s left places c coords → Bytes s → drop (c .at) s ≡ shotRecords (c .last) (shotsOf e coords)
+  shots-same {s} {left} {places} {c} (done h) b = drop-of-length-le s h ∙ sym (records-none (c .last))
+  shots-same {s} {left} {places} {c} (shot {f = f} {end = end} {coords = coords} i q r) b =
+      record-same s (c .at) (c .last) f end (parts s (c .at) (c .last) q) b
+      ∙ (ap (λ (k : List ℕ). recordOf (c .last) f ++ k) (shots-same r b) ∙ sym (records-more (c .last) f coords))
 
-  pub shots-least : {s : List ℕ} {left places : ℕ} {c : Cursor} {coords : List ℕ} → Reads s left places c coords → c .at ≤ length s
-      → c .at + length (shotRecords (c .last) (shotsOf e coords)) ≤ length s
-  shots-least {s} {left} {places} {c} (done h) l = omega (arith, ap length (records-none (c .last)))
-  shots-least {s} {left} {places} {c} (shot {f = f} {end = end} {coords = coords} i t r) l =
-      let p = parts s (c .at) (c .last) t in
-      omega (arith, shots-least r (p .room), record-least s (c .at) (c .last) f end p, more-length (c .last) f coords)
-
--- a file is its header and its shots
-pub file-size : (job : Job) → length (fileOf job) ≡ length (recordOf headerAbsent (settingFields job)) + length (shotRecords firstAbsent (shots job))
+pub file-same : (s : List ℕ) (places : ℕ) {job : Job} → fileIn places s ≡ file job → Bytes s → fileOf job ≡ s
 unfolding fileOf
-file-size job = length-append (recordOf headerAbsent (settingFields job)) (shotRecords firstAbsent (shots job))
-
-pub file-least : (s : List ℕ) (places : ℕ) {job : Job} → fileIn places s ≡ file job → length (fileOf job) ≤ length s
-file-least s places {job} e =
-    let q = file-parts s places e in
-    let p = parts s 0 headerAbsent (q .header) in
-    omega (arith, shots-least job.edge (q .rest) (p .room), record-least s 0 headerAbsent (settingFields job) (q .end) p, file-size job)
-
--- ---- a file in its shortest form
--- a record is a byte or more
-reads-count : {s : List ℕ} {left places : ℕ} {c : Cursor} {coords : List ℕ} → Reads s left places c coords → shotCount coords ≤ length s - c .at
-reads-count (done h) = omega (arith, count-none)
-reads-count {s} {left} {places} {c} (shot {f = f} {end = end} {coords = coords} i t r) =
-    let p = parts s (c .at) (c .last) t in
-    omega (arith, reads-count r, p .end-is, p .room, count-more f coords)
-
-shots-same : (e : ℕ) {s : List ℕ} {left places : ℕ} {c : Cursor} {coords : List ℕ} → Reads s left places c coords → Bytes s → (n : ℕ) → shotCount coords ≤ n → T (tightFrom n s c)
-    → drop (c .at) s ≡ shotRecords (c .last) (shotsOf e coords)
-unfolding tightFrom
-shots-same e {s} {left} {places} {c} (done h) b n l t = drop-of-length-le s h ∙ sym (records-none e (c .last))
-shots-same e {s} {left} {places} {c} (shot {f = f} {end = end} {coords = coords} i q r) b zero l t = absurd (omega (arith, count-more f coords))
-shots-same e {s} {left} {places} {c} (shot {f = f} {end = end} {coords = coords} i q r) b (suc n) l t =
-    let step : stepAt s c ≡ Shot (record { at = end; last = f }) = sym (step-on s c i (Whole f end) (sym q)) in
-    let later : T (tightFrom n s (record { at = end; last = f })) = subst (λ (k : Step). T (onShot k true (tightFrom n s))) step (and-right (tight s (c .at) (c .last)) (onShot (stepAt s c) true (tightFrom n s)) t) in
-    record-same s (c .at) (c .last) f end (parts s (c .at) (c .last) q) b (and-left (tight s (c .at) (c .last)) (onShot (stepAt s c) true (tightFrom n s)) t)
-    ∙ (ap (λ (k : List ℕ). recordOf (c .last) f ++ k) (shots-same e r b n (omega (arith, count-more f coords)) later) ∙ sym (records-more e (c .last) f coords))
-
-pub file-same : (s : List ℕ) (places : ℕ) {job : Job} → fileIn places s ≡ file job → Bytes s → T (shortest s) → fileOf job ≡ s
-unfolding fileOf shortest
-file-same s places {job} e b t =
+file-same s places {job} e b =
     let f : Fields = settingFields job in
     let q = file-parts s places e in
-    let later : T (tightFrom (length s) s (firstShot (q .end))) = subst (λ (k : Taken). T (tightRest s k)) (q .header) (and-right (tight s 0 headerAbsent) (tightRest s (recordAt s 0 headerAbsent)) t) in
     sym
-    (record-same s 0 headerAbsent f (q .end) (parts s 0 headerAbsent (q .header)) b (and-left (tight s 0 headerAbsent) (tightRest s (recordAt s 0 headerAbsent)) t)
-    ∙ ap (λ (k : List ℕ). recordOf headerAbsent f ++ k) (shots-same job.edge (q .rest) b (length s) (omega (arith, reads-count (q .rest))) later))
+    (record-same s 0 headerAbsent f (q .end) (parts s 0 headerAbsent (q .header)) b
+    ∙ ap (λ (k : List ℕ). recordOf headerAbsent f ++ k) (shots-same job.edge (q .rest) b))

@@ -1,12 +1,12 @@
 -- The text of a file whose list is accepted, read as a typed list, says that list: (a) its settings and the number of its shots, (b) their
--- coordinates; and (c) where the file is in its shortest form, the file of that list is the same file. Assumes nothing.
+-- coordinates; and (c) the file of that list is the same file. Assumes nothing.
 use mathlib.Core.Path.{_≡_, refl, sym, ap, _∙_}
 use mathlib.Core.List.{List, [], _++_, append-assoc, append-nil}
 use Prim.Native.Nat.{ℕ, zero, suc, _+_, _/_, _%_, _≤_, _<_}
 use native.Mathlib.Omega.{arith}
-use lib.Dec.{T}
 use lib.ListN.{length, getD}
 use borrow.Author.Tests.{le-ltb}
+use Rattle.ground.specs.Numbers.{Bytes}
 use Rattle.refusals.specs.declared.Checked.{Checked}
 use Rattle.refusals.specs.declared.Checked.the-variants.{Accepted}
 use Rattle.job.specs.Job.{Job, jobOf, shots, shotsOf, shotCount, Valid}
@@ -21,14 +21,12 @@ use Rattle.shotfile_records.specs.Records.{recordAt}
 use Rattle.shotfile_records.specs.Numbers.{settingFields, shotNumbers}
 use Rattle.shotfile_reader.specs.Files.{File, file, firstShot, fileIn}
 use Rattle.shotfile_writer.specs.Files.{fileOf}
-use Rattle.shotfile.specs.Shortest.{shortest}
 use Rattle.shotfile_reader.proofs.Coords.{count-none, count-more}
 use Rattle.shotfile_reader.proofs.Steps.{step-end, step-on}
 use Rattle.shotfile_reader.proofs.ShotsRead.{Reads, done, shot, reads-room}
 use Rattle.shotfile_reader.proofs.FileParts.{file-parts}
 use Rattle.shotfile.proofs.ReadBack.{SmallShots, small-more}
 use Rattle.shotfile.proofs.RoundTrip.{small-shots, written-read}
-use Rattle.shotfile.proofs.WriteBack.{Bytes}
 use Rattle.shotfile_lines.specs.Lines.{settingLine, settings, shotLine}
 use Rattle.shotfile_shots.specs.ShotLines.{shotLines}
 use Rattle.shotfile_verdict.specs.Verdicts.{listVerdict, verdict}
@@ -175,6 +173,6 @@ module _ (s : List ℕ) (places : ℕ) (job : Job) (e : fileIn places s ≡ file
   pub retyped-shots : shotsIn (linesOf (plainText places s)) ≡ coords
   retyped-shots = back .shots
 
-  -- (c) from a file in its shortest form, the file that is written for the typed list is that file, byte for byte
-  pub rewritten : Bytes s → T (shortest s) → fileOf (jobOf F E G (shotsIn (linesOf (plainText places s)))) ≡ s
-  rewritten b t = ap (λ c. fileOf (jobOf F E G c)) retyped-shots ∙ written-read s places job b t e
+  -- (c) the file that is written for the typed list is that file, byte for byte
+  pub rewritten : Bytes s → fileOf (jobOf F E G (shotsIn (linesOf (plainText places s)))) ≡ s
+  rewritten b = ap (λ c. fileOf (jobOf F E G c)) retyped-shots ∙ written-read s places job b e
