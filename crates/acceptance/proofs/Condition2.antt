@@ -3,8 +3,8 @@ use mathlib.Core.Path.{_≡_, sym, _∙_, ap, subst}
 use mathlib.Core.List.{List}
 use Prim.Native.Nat.{ℕ, _≤_}
 use native.Mathlib.Omega.{arith}
-use lib.Dec.{T}
 use lib.ListN.{length, take, drop, length-append}
+use Rattle.ground.specs.Numbers.{Bytes}
 use Rattle.job.specs.Job.{Job, jobOf, shotCount, firstShots, Valid}
 use Rattle.refusals.specs.declared.Refusal.{Refusal}
 use Rattle.measure_intake.specs.Intake.{MeasureCall}
@@ -21,8 +21,7 @@ use Rattle.shotfile_writer.specs.declared.WriteAnswer.the-variants.{Written, Re
 use Rattle.shotfile_writer.specs.Files.{fileOf}
 use Rattle.shotfile_writer.proofs.Accepted.{accepted-list}
 use Rattle.shotfile_writer.proofs.Conditions.{write-accepts}
-use Rattle.shotfile.specs.Shortest.{shortest}
-use Rattle.shotfile.proofs.RoundTrip.{read-what-write-wrote, write-what-read-read, shortest-fewest}
+use Rattle.shotfile.proofs.RoundTrip.{read-what-write-wrote, written-read, write-what-read-read}
 use Rattle.acceptance.specs.Condition2.{TotalsCounted, WrittenAndRead, ReadAndWritten}
 
 -- ---- totals
@@ -59,26 +58,23 @@ module _ {bytes coords coords' : List ℕ} {r : ReadAnswer} (read : ReadCall byt
   pub list-there : {F E G n : ℕ} → r ≡ Read F E G n → n ≤ shotCount coords'
   list-there e = let a = accepted-file read e in omega (arith, a .room, a .same-length)
 
-  pub write-back : {F E G n : ℕ} {list out out' : List ℕ} {w : WriteAnswer} → r ≡ Read F E G n → list ≡ firstShots n coords' → WriteCall (jobOf F E G list) out w out' → ReadAndWritten bytes coords out w out'
-  write-back {F} {E} {G} {n} {list} {out} {out'} {w} e is wrote job valid s room =
-      let p = write-what-read-read read e (s .all-bytes) tight (subst (λ (l : List ℕ). WriteCall (jobOf F E G l) out w out') is wrote) (subst Valid same valid) room in
+  pub write-back : {F E G n : ℕ} {list out out' : List ℕ} {w : WriteAnswer} → Bytes bytes → r ≡ Read F E G n → list ≡ firstShots n coords' → WriteCall (jobOf F E G list) out w out' → ReadAndWritten bytes coords out w out'
+  write-back {F} {E} {G} {n} {list} {out} {out'} {w} b e is wrote job says accepts =
+      let p = write-what-read-read read e b (subst (λ (l : List ℕ). WriteCall (jobOf F E G l) out w out') is wrote) (subst Valid same (accepts .0)) room in
       record { answer = p .0; file = p .2 }
     where
-      kept : Job
-      kept = jobOf F E G (firstShots n coords')
+      kept : fileIn (shotCount coords) bytes ≡ file (jobOf F E G (firstShots n coords'))
+      kept = accepted-file read e .is
 
-      says : fileIn (shotCount coords) bytes ≡ file kept
-      says = accepted-file read e .is
+      same : job ≡ jobOf F E G (firstShots n coords')
+      same = same-job (sym says ∙ kept)
 
-      same : job ≡ kept
-      same = same-job (sym (s .says) ∙ says)
-
-      tight : T (shortest bytes)
-      tight = shortest-fewest bytes (shotCount coords) job (s .all-bytes) (s .says) .1 (s .fewest)
+      room : length bytes ≤ length out
+      room = omega (arith, accepts .1, ap length (written-read bytes (shotCount coords) job b says))
 
   -- a refused one says no list
   pub unwritten : {q : Refusal} {out out' : List ℕ} {w : WriteAnswer} → r ≡ Unread q → ReadAndWritten bytes coords out w out'
-  unwritten {q} e job valid s room =
-      let both : file job ≡ refused q = sym (s .says) ∙ refused-file read e .0 in
+  unwritten {q} e job says accepts =
+      let both : file job ≡ refused q = sym says ∙ refused-file read e .0 in
       let z : _≡_ {A = ℕ} 0 1 = cc in
       absurd (omega arith)

@@ -6,4 +6,5 @@ pub mod CoverTest  -- the first covering shot of a run, the lowest of a list
 pub mod Requests  -- voxels, credits, lengths
 pub mod SectionLaws  -- the part of a listing at one x, and what a reader meets in it
 pub mod SectionParts  -- the parts of one x after another
+pub mod ShortestFiles  -- only the shortest file, and two files
 pub mod Numbers  -- sizes of numbers

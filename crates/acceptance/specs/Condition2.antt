@@ -1,11 +1,11 @@
 -- Condition 2: the totals are the published cell counts; a list that is written to a shot file and read again is that list with its
--- settings; a valid list's shortest file that is read and written again is its bytes. docs/SCOPE.md, 'Cells and totals', 'Shot file'.
+-- settings; a file that is read and written again is its bytes. docs/SCOPE.md, 'Cells and totals', 'Shot file'.
 use mathlib.Core.Path.{_≡_}
 use mathlib.Core.List.{List}
-use Prim.Native.Nat.{ℕ, _≤_, _<_}
-use lib.ListN.{length, getD}
+use Prim.Native.Nat.{ℕ, _≤_}
+use lib.ListN.{length}
 use Rattle.buffer.specs.Wrote.{inFront}
-use Rattle.job.specs.Job.{Job, shotCount, Valid}
+use Rattle.job.specs.Job.{Job, shotCount}
 use Rattle.lattice_sums.specs.CornerSums.{totalsOf}
 use Rattle.lattice_sums.specs.declared.sums.Totals.{Totals}
 use Rattle.measure_intake.specs.Intake.{solid}
@@ -31,20 +31,12 @@ pub record ReadBack (job : Job) (coords : List ℕ) (r : ReadAnswer) (coords' : 
 abbrev pub WrittenAndRead : Job → List ℕ → List ℕ → ReadAnswer → List ℕ → Type 0
 WrittenAndRead job bytes coords r coords' = WriteAccepts job (length bytes) → shotCount job.coords ≤ shotCount coords → ReadBack job coords r coords'
 
--- a shortest file of a list: it says this list, and no file that does has fewer bytes. A file consists of bytes, as every lent byte slice does
-abbrev pub AllBytes : List ℕ → Type 0
-AllBytes s = (i : ℕ) → getD s i 0 < 256
-
-pub record ShortestFile (job : Job) (places : ℕ) (bytes : List ℕ) : Type 0 where
-  pub all-bytes : AllBytes bytes
-  pub says : fileIn places bytes ≡ file job
-  pub fewest : (others : List ℕ) → AllBytes others → fileIn places others ≡ file job → length bytes ≤ length others
-
--- read into a slice, and written to a byte buffer as long as the file: the file's length, and its bytes in front of the buffer
+-- read into a slice, and written to a byte buffer with room for it: the file's length, and its bytes in front of the buffer
 pub record WrittenBack (bytes out : List ℕ) (r : WriteAnswer) (out' : List ℕ) : Type 0 where
   pub answer : r ≡ Written (length bytes)
   pub file : out' ≡ inFront bytes out
 
+-- every file that is read, whose list the writer accepts: a valid list's shortest file is one
 abbrev pub ReadAndWritten : List ℕ → List ℕ → List ℕ → WriteAnswer → List ℕ → Type 0
 ReadAndWritten bytes coords out r out' =
-    (job : Job) → Valid job → ShortestFile job (shotCount coords) bytes → length bytes ≤ length out → WrittenBack bytes out r out'
+    (job : Job) → fileIn (shotCount coords) bytes ≡ file job → WriteAccepts job (length out) → WrittenBack bytes out r out'

@@ -7,4 +7,5 @@ pub mod CoverTest
 pub mod Credits
 pub mod Lengths
 pub mod Sections
+pub mod ShortestFiles
 pub mod Comparing

@@ -72,7 +72,7 @@ pub fn write(field: u16, edge: u16, grid: u16, coords: &[u16], bytes: &mut [u8])
     shotfile_writer::write(field, edge, grid, coords, bytes)
 }
 
-// Reading a shot file: refusals 2 to 5.
+// Reading a shot file: refusals 2 to 5 and 17.
 pub fn read(bytes: &[u8], coords: &mut [u16]) -> ReadAnswer
     ensures { λ r. ⌜ ReadAnswered (now (bytes .entry)) (now (coords .entry)) r (now (coords .exit)) ⌝ }
 {

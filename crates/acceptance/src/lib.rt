@@ -2,7 +2,7 @@
 // acceptance reader to open first. A function here takes any numbers, bytes and slices. Its contract is the sentence, by a definition of
 // the file in specs/ that is named as its own; so a call that promises less than the sentence leaves this crate unproved. In the order of
 // the papers: condition_1, condition_2, condition_3, voxels for request (i), grids for (ii), cover_test for (iii) and (iv), credits for
-// (iv), lengths for (v), sections for (vi).
+// (iv), lengths for (v), sections for (vi), shortest_files for (vii).
 //
 // Condition 1, which is of every call, stands in the promises of the calls themselves, a record each, of the answer, of its numbers and of
 // every lent place: `Checks` (refusals/specs/Tests.antt) of `check`, `IndexCall` and `MeasureCall` (measure_intake/specs/Intake.antt) of
@@ -18,4 +18,5 @@ pub mod grids;
 pub mod lengths;
 mod parts;
 pub mod sections;
+pub mod shortest_files;
 pub mod voxels;
