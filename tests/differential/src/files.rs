@@ -3,9 +3,10 @@
 use crate::lent::Lent;
 use crate::lists::expect;
 use crate::smallest::Case;
-use crate::{hex, same_answer};
+use crate::{hex, hold, same_answer};
 use heqdanu::raw;
 use oracle::inputs::{Length, Random};
+use oracle::met::Met;
 use oracle::{calls, vox_inputs};
 
 /// A reader: its name, what it reads, the library's call and the oracle's.
@@ -43,6 +44,14 @@ impl FileCase {
         let answer = if random.once_in(20) { Length::any(random) } else { Length::About(0) };
         FileCase { reader, file, places, answer, seed: random.number() }
     }
+}
+
+/// Holds a case, and counts the oracle's answer to it among those met, where the slice has room for an answer.
+pub fn hold_counted(met: &mut Met, case: FileCase) {
+    if case.answer.places(6) >= 6 {
+        met.count((case.reader.oracle)(&case.file, &mut vec![0; case.places])[0]);
+    }
+    hold(case);
 }
 
 impl Case for FileCase {

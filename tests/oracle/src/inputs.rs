@@ -190,37 +190,54 @@ pub fn run(random: &mut Random, list: &List, most: usize) -> Vec<u32> {
     run
 }
 
-/// A shot file of the list in which some fields stand although their absence would mean the same.
+/// The records of a list's shot file, the header first: the values of each, and what their absence means there.
+fn records(list: &List) -> Vec<[[u16; 3]; 2]> {
+    let mut records = vec![[[list.field, list.edge, list.grid], ABSENT]];
+    let mut previous = [0; 3];
+    for shot in list.coords.chunks_exact(3) {
+        let shot = [shot[0], shot[1], shot[2]];
+        records.push([shot, previous]);
+        previous = shot;
+    }
+    records
+}
+
+/// A shot file of the list in which fields stand although their absence would mean the same, so that it is refused by
+/// 17: one of those that the shortest file leaves out, in any record, and besides it all others, a third of them or
+/// none. A list whose shortest file leaves out nothing has no longer one, and gets that.
 pub fn longer_file(random: &mut Random, list: &List) -> Vec<u8> {
+    let records = records(list);
+    let left_out = |[values, absent]: &[[u16; 3]; 2], bit: usize| values[bit] == absent[bit];
+    let fields = (0..records.len()).flat_map(|number| [0, 1, 2].map(|bit| (number, bit)));
+    let needless: Vec<(usize, usize)> = fields.filter(|(number, bit)| left_out(&records[*number], *bit)).collect();
+    if needless.is_empty() {
+        return shotfile::shortest(list);
+    }
+    let one = random.one_of(&needless);
+    let share = random.one_of(&[1, 3, usize::MAX]);
     let mut file = Vec::new();
-    let mut put = |values: [u16; 3], absent: [u16; 3]| {
+    for (number, record) in records.iter().enumerate() {
         let map = file.len();
         file.push(0);
         for bit in 0..3 {
-            if values[bit] != absent[bit] || random.once_in(3) {
+            if !left_out(record, bit) || (number, bit) == one || random.once_in(share) {
                 file[map] |= 1 << bit;
-                file.extend(values[bit].to_le_bytes());
+                file.extend(record[0][bit].to_le_bytes());
             }
         }
-    };
-    put([list.field, list.edge, list.grid], ABSENT);
-    let mut previous = [0; 3];
-    for shot in list.coords.chunks_exact(3) {
-        put([shot[0], shot[1], shot[2]], previous);
-        previous = [shot[0], shot[1], shot[2]];
     }
     file
 }
 
-/// A shot file: whole, cut, with flipped bits, with more bytes after it, or random bytes. One in sixteen has the grid
-/// size that files leave out, whether or not it divides the field side.
+/// A shot file, one in ten longer than the shortest: whole, cut, with flipped bits, with more bytes after it, or
+/// random bytes. One in sixteen has the grid size that files leave out, whether or not it divides the field side.
 pub fn file(random: &mut Random, size: Size) -> Vec<u8> {
     let mut list = if random.once_in(4) { damaged(random, size) } else { accepted(random, size) };
     if random.once_in(16) {
         list.grid = ABSENT[2];
     }
-    let mut file = if random.once_in(2) { shotfile::shortest(&list) } else { longer_file(random, &list) };
-    match random.within(0, 9) {
+    let mut file = if random.once_in(10) { longer_file(random, &list) } else { shotfile::shortest(&list) };
+    match random.within(0, 10) {
         0 => file.truncate(random.within(0, file.len())),
         1 => flip(random, &mut file, 1),
         2 => flip(random, &mut file, 8),
@@ -233,6 +250,7 @@ pub fn file(random: &mut Random, size: Size) -> Vec<u8> {
 }
 
 /// A file about the largest number of shots, to meet refusal 2 and the end of the bytes that the quoting program reads.
+/// All its shots name the same fields, and none says what the shot before says, so that damage alone meets 17.
 pub fn crowded_file(random: &mut Random) -> Vec<u8> {
     let map = random.one_of(&[0u8, 1, 4, 7]);
     let shots = MOST_SHOTS + random.within(0, 3) - 1;
@@ -240,20 +258,35 @@ pub fn crowded_file(random: &mut Random) -> Vec<u8> {
     for value in [64u16, 2, random.one_of(&[1, 2, 4])] {
         file.extend(value.to_le_bytes());
     }
+    let mut shot = [0; 3];
     for _ in 0..shots {
         file.push(map);
-        for _ in 0..map.count_ones() {
-            file.extend((random.within(0, 62) as u16).to_le_bytes());
+        for (_, place) in shot.iter_mut().enumerate().filter(|(bit, _)| map >> bit & 1 == 1) {
+            *place = (*place + random.within(1, 62)) % 63;
+            file.extend((*place as u16).to_le_bytes());
         }
     }
-    match random.within(0, 5) {
+    match random.within(0, 7) {
         0 => file.push(random.number() as u8),
         1 => file.truncate(file.len() - 1),
         2 => flip(random, &mut file, 1),
         3 => file.extend([0, 255, 1]),
+        4 => repeat_x(random, &mut file, shots),
         _ => {}
     }
     file
+}
+
+/// Puts one shot more into a crowded file of so many, behind any of them or about the last that is allowed: it says the
+/// x of the shot before it.
+fn repeat_x(random: &mut Random, file: &mut Vec<u8>, shots: usize) {
+    let header = 7;
+    let length = (file.len() - header) / shots;
+    let any = random.within(0, shots);
+    let before = random.one_of(&[any, shots, MOST_SHOTS - 1, MOST_SHOTS]).min(shots);
+    let place = header + before * length;
+    let x = if before > 0 && file[header] & 1 == 1 { file[place - length + 1] } else { 0 };
+    file.splice(place..place, [1, x, 0]);
 }
 
 /// Flips one bit or a few, up to `most`.

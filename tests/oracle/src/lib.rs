@@ -19,6 +19,7 @@
 //! - [`inputs`]: random and damaged inputs, from a seed
 //! - [`section_inputs`]: listings, whole and damaged, from a seed
 //! - [`vox_inputs`]: VOX files, whole and damaged, from a seed
+//! - [`met`]: which answers some inputs meet
 
 pub mod calls;
 pub mod cells;
@@ -28,6 +29,7 @@ pub mod grid;
 pub mod inputs;
 pub mod list;
 pub mod literal;
+pub mod met;
 pub mod quote;
 pub mod section;
 pub mod section_inputs;

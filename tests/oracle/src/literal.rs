@@ -3,6 +3,7 @@
 
 use crate::corners::{Corner, Weights};
 use crate::list::List;
+use crate::shotfile::ABSENT;
 
 /// The lowest shot that covers a cell; a cell outside the field has none.
 pub fn lowest_covering(list: &List, i: i64, j: i64, k: i64) -> Option<usize> {
@@ -148,4 +149,29 @@ pub fn index(list: &List) -> Vec<u32> {
     }
     starts.extend(runs);
     starts
+}
+
+/// The places of the maps of a shot file of whole records.
+pub fn maps(file: &[u8]) -> Vec<usize> {
+    let after = |map: &usize| Some(map + 1 + 2 * file[*map].count_ones() as usize).filter(|map| *map < file.len());
+    std::iter::successors(Some(0), after).collect()
+}
+
+/// The field of that bit in the record whose map stands at a place, if the record has it.
+fn field_at(file: &[u8], map: usize, bit: usize) -> Option<u16> {
+    let before = file[map] & ((1 << bit) - 1);
+    let place = map + 1 + 2 * before.count_ones() as usize;
+    (file[map] >> bit & 1 == 1).then(|| u16::from_le_bytes([file[place], file[place + 1]]))
+}
+
+/// The place of the first map that names a field which says what its absence would mean, in a file of whole records.
+/// What it would mean in a shot, the last shot before it that has the field says.
+pub fn first_needless(file: &[u8]) -> Option<usize> {
+    let maps = maps(file);
+    let absent = |record: usize, bit: usize| match record {
+        0 => ABSENT[bit],
+        _ => maps[1..record].iter().rev().find_map(|map| field_at(file, *map, bit)).unwrap_or(0),
+    };
+    let needless = |record: usize, bit: usize| field_at(file, maps[record], bit) == Some(absent(record, bit));
+    (0..maps.len()).find(|record| (0..3).any(|bit| needless(*record, bit))).map(|record| maps[record])
 }

@@ -115,6 +115,12 @@ fn the_quoting_program_s_example() {
     assert_eq!(quote(&[0, 0]), "volume 4096\narea 1536\nedge 192\ninner 0\ncorners 8\n");
     assert_eq!(quote(&[1, 8, 0]), "refused 7 0\n");
     assert_eq!(quote(&[4, 64, 0]), "refused 10 262145\n");
+    // The first shot's zeros stand there; a third shot says its z alone, and x again.
+    let zeros = [7, 8, 0, 2, 0, 2, 0, 7, 0, 0, 0, 0, 0, 0, 7, 1, 0, 1, 0, 1, 0];
+    assert_eq!(quote(&zeros), "refused 17 7\n");
+    let third = |record: &[u8]| quote(&[&file[..], record].concat());
+    assert_eq!(third(&[4, 3, 0]), "volume 23\narea 58\nedge 50\ninner 6\ncorners 20\n");
+    assert_eq!(third(&[5, 1, 0, 3, 0]), "refused 17 15\n");
 }
 
 #[test]
@@ -125,6 +131,7 @@ fn what_credits_prints() {
     assert_eq!(credits(&[0]), "");
     assert_eq!(credits(&[]), "refused 5 0\n");
     assert_eq!(credits(&[1, 8, 0]), "refused 7 0\n");
+    assert_eq!(credits(&[4, 16, 0]), "refused 17 0\n");
     assert_eq!(credits(&[4, 64, 0]), "refused 10 262145\n");
     // A list of the most shots has a place for each, so none is refused by 16.
     assert_eq!(credits(&[0; 4097]).lines().last(), Some("4095 0"));
@@ -136,6 +143,9 @@ fn files_that_leave_out_the_grid() {
     // 16 does not divide the field side; 8, named, does.
     assert_eq!(quote(&[3, 8, 0, 2, 0, 0]), "refused 8 0\n");
     assert_eq!(quote(&[7, 8, 0, 2, 0, 8, 0, 0]), "volume 8\narea 24\nedge 24\ninner 0\ncorners 8\n");
+    // 16 is not named, even where it divides the field side.
+    assert_eq!(quote(&[7, 16, 0, 2, 0, 16, 0, 0]), "refused 17 0\n");
+    assert_eq!(quote(&[3, 16, 0, 2, 0, 0]), "volume 8\narea 24\nedge 24\ninner 0\ncorners 8\n");
     // A shot of edge 16 at the origin needs 4,098 entries with 16, and 514 with 8.
     let one = |grid| job(1024, 16, grid, &[[0; 3]]);
     assert_eq!(calls::measure(&one(16), &mut vec![0; 514]), [10, 4098, 0, 0, 0, 0, 0]);

@@ -5,7 +5,8 @@ use oracle::cells::Cells;
 use oracle::corners::listing;
 use oracle::credits::credits;
 use oracle::inputs::{accepted, accepted_with, Random, Size};
-use oracle::list::List;
+use oracle::list::{refusal, List};
+use oracle::shotfile::ABSENT;
 use oracle::{grid, literal, shotfile};
 
 #[test]
@@ -134,6 +135,29 @@ fn what_is_written_reads_back() {
         let file = shotfile::shortest(&list);
         assert_eq!(shotfile::read(&file, list.coords.len()), Ok(list));
     }
+}
+
+/// Whole records of few values, so that many fields say what their absence would mean.
+#[test]
+fn the_first_needless_field() {
+    let mut random = Random::new(9);
+    let (mut accepted, mut later) = (0, 0);
+    for _ in 0..20_000 {
+        let mut file = Vec::new();
+        for record in 0..random.within(1, 6) {
+            let map = random.within(0, 7) as u8;
+            file.push(map);
+            for bit in (0..3).filter(|bit| map >> bit & 1 == 1) {
+                let values = if record == 0 { [8, 4, 1, 0, ABSENT[bit]] } else { [0, 1, 2, 256, 257] };
+                file.extend(random.one_of(&values).to_le_bytes());
+            }
+        }
+        let needless = literal::first_needless(&file);
+        assert_eq!(shotfile::read(&file, 15).err(), needless.map(|map| refusal(17, map)), "{file:02x?}");
+        accepted += usize::from(needless.is_none());
+        later += usize::from(needless.is_some_and(|map| map > file.len() / 2));
+    }
+    assert!(accepted > 2_000 && later > 2_000, "{accepted} accepted, {later} refused in their second half");
 }
 
 /// Fields of 1,024 take seconds at most.

@@ -117,17 +117,19 @@ fn the_largest_need_fits_32_bits() {
     assert_eq!(grid::need(&all), 1_074_003_969);
 }
 
+/// The number and the detail with which a file is read, where there are so many places. A refusal stores nothing.
+fn read(file: &[u8], places: usize) -> (u64, u64) {
+    let mut coords = vec![7; places];
+    let answer = calls::read(file, &mut coords);
+    if answer[0] != 0 {
+        assert_eq!(coords, vec![7; places]);
+        assert_eq!(answer[2..], [0; 4]);
+    }
+    (answer[0], answer[1])
+}
+
 #[test]
 fn the_reader_s_first_faulty_record_decides() {
-    let read = |file: &[u8], places: usize| {
-        let mut coords = vec![7; places];
-        let answer = calls::read(file, &mut coords);
-        if answer[0] != 0 {
-            assert_eq!(coords, vec![7; places]);
-            assert_eq!(answer[2..], [0; 4]);
-        }
-        (answer[0], answer[1])
-    };
     assert_eq!(read(&[], 3), (5, 0));
     assert_eq!(read(&[8], 3), (4, 0));
     assert_eq!(read(&[1], 3), (5, 0));
@@ -147,6 +149,80 @@ fn the_reader_s_first_faulty_record_decides() {
     assert_eq!(read(&crowded, 12_287), (3, 4096));
     crowded[4000] = 16;
     assert_eq!(read(&crowded, 20_000), (4, 4000));
+}
+
+/// A file whose first shot is (5, 6, 7), with more behind it, which begins at 8.
+fn after_a_shot(more: &[u8]) -> Vec<u8> {
+    [&[0, 7, 5, 0, 6, 0, 7, 0], more].concat()
+}
+
+#[test]
+fn seventeen_is_a_field_that_says_what_its_absence_would_mean() {
+    // F = 1,024, E = 16 and G = 16, each alone and beside the others.
+    for header in [&[1, 0, 4][..], &[2, 16, 0], &[4, 16, 0]] {
+        assert_eq!(read(header, 3), (17, 0), "{header:?}");
+    }
+    for header in [[7, 0, 4, 2, 0, 2, 0], [7, 8, 0, 16, 0, 2, 0], [7, 8, 0, 2, 0, 16, 0], [7, 0, 4, 16, 0, 16, 0]] {
+        assert_eq!(read(&header, 3), (17, 0), "{header:?}");
+    }
+    // The first shot's 0.
+    for shot in [&[1, 0, 0][..], &[2, 0, 0], &[4, 0, 0], &[7, 5, 0, 0, 0, 7, 0], &[7, 0, 0, 0, 0, 0, 0]] {
+        assert_eq!(read(&[&[0], shot].concat(), 3), (17, 1), "{shot:?}");
+    }
+    // What the shot before says, also where it leaves that out, or where no shot says it.
+    for shot in [&[1, 5, 0][..], &[2, 6, 0], &[4, 7, 0], &[7, 1, 0, 6, 0, 1, 0]] {
+        assert_eq!(read(&after_a_shot(shot), 6), (17, 8), "{shot:?}");
+        assert_eq!(read(&after_a_shot(&[&[0, 0], shot].concat()), 12), (17, 10), "{shot:?}");
+    }
+    for bit in [1, 2, 4] {
+        assert_eq!(read(&[0, 0, 7 - bit, 1, 0, 1, 0, bit, 0, 0], 9), (17, 7), "{bit}");
+    }
+}
+
+#[test]
+fn what_is_like_a_needless_field() {
+    // A byte of the value, 8 for the grid, a 0, what absence means of another field.
+    for header in [[1, 0, 0], [1, 1, 4], [1, 16, 0], [2, 16, 1], [2, 0, 4], [2, 0, 0], [4, 8, 0], [4, 0, 4], [4, 0, 0]]
+    {
+        assert_eq!(read(&header, 3), (0, 0), "{header:?}");
+    }
+    for shot in [[1, 0, 1], [2, 1, 0], [4, 16, 0]] {
+        assert_eq!(read(&[&[0], &shot[..]].concat(), 3), (0, 0), "{shot:?}");
+    }
+    // The same of shots: a 0, what another axis has, and what the shot before the one before said.
+    for shot in [[1, 0, 0], [2, 0, 0], [4, 0, 0], [1, 6, 0], [2, 7, 0], [4, 5, 0], [1, 5, 1], [2, 6, 6], [4, 0, 7]] {
+        assert_eq!(read(&after_a_shot(&shot), 6), (0, 0), "{shot:?}");
+    }
+    assert_eq!(read(&after_a_shot(&[7, 1, 0, 1, 0, 1, 0, 7, 5, 0, 6, 0, 7, 0]), 9), (0, 0));
+}
+
+#[test]
+fn seventeen_comes_after_five_and_before_the_next_record() {
+    // Cut and needless, wherever it is cut.
+    for length in 1..7 {
+        assert_eq!(read(&[7, 0, 4, 16, 0, 16, 0][..length], 3), (5, 0), "{length}");
+        assert_eq!(read(&[&[0], &[7, 0, 0, 0, 0, 0, 0][..length]].concat(), 3), (5, 1), "{length}");
+        assert_eq!(read(&after_a_shot(&[7, 5, 0, 6, 0, 7, 0][..length]), 6), (5, 8), "{length}");
+    }
+    // Needless with a bit that has no meaning, and without a place.
+    for bit in [8, 16, 32, 64, 128] {
+        assert_eq!(read(&[bit | 1, 0, 4], 3), (4, 0), "{bit}");
+        assert_eq!(read(&after_a_shot(&[bit | 7, 5, 0, 6, 0, 7, 0]), 6), (4, 8), "{bit}");
+    }
+    assert_eq!(read(&[0, 1, 0, 0], 2), (3, 1));
+    assert_eq!(read(&after_a_shot(&[1, 5, 0]), 5), (3, 8));
+    // A needless record, then one at fault: without a place, with another bit, cut, or needless too.
+    for (behind, places) in [(&[0][..], 6), (&[8], 9), (&[1], 9), (&[1, 0], 9), (&[4, 7, 0], 9)] {
+        assert_eq!(read(&after_a_shot(&[&[2, 6, 0], behind].concat()), places), (17, 8), "{behind:?}");
+        assert_eq!(read(&[&[4, 16, 0], behind].concat(), places - 6), (17, 0), "{behind:?}");
+    }
+    // The last shot that is allowed, and the first that is not.
+    let needless = |records: usize, behind: &[u8]| [&vec![0; records][..], &[1, 0, 0], behind].concat();
+    assert_eq!(read(&needless(4096, &[]), 12_288), (17, 4096));
+    assert_eq!(read(&needless(4096, &[0]), 12_288), (17, 4096));
+    assert_eq!(read(&needless(4096, &[]), 12_287), (3, 4096));
+    assert_eq!(read(&needless(4097, &[]), 12_288), (2, 4097));
+    assert_eq!(read(&needless(4097, &[]), 20_000), (2, 4097));
 }
 
 #[test]

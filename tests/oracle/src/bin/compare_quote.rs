@@ -1,11 +1,12 @@
 //! Compares the quoting program with the oracle: `compare_quote PROGRAM [FILES]`.
 //!
-//! Runs PROGRAM on FILES (3,000 unless said) generated shot files: whole ones, cut ones, ones with flipped bits, random
-//! bytes, and files about the largest number of shots. Every third one goes through a pipe in pieces, the others are
-//! written at once. What the program prints must be what the oracle prints, byte for byte, and it must end with
-//! success. The first difference is printed with its file in hexadecimal and ends the run.
+//! Runs PROGRAM on FILES (3,000 unless said) generated shot files: whole ones, longer ones, cut ones, ones with flipped
+//! bits, random bytes, and files about the largest number of shots. Every third one goes through a pipe in pieces, the
+//! others are written at once. What the program prints must be what the oracle prints, byte for byte, and it must end
+//! with success. The first difference is printed with its file in hexadecimal and ends the run.
 
 use oracle::inputs::{self, Random, Size};
+use oracle::met::Met;
 use oracle::quote;
 use std::io::Write;
 use std::process::{exit, Command, Stdio};
@@ -19,7 +20,7 @@ fn main() {
         _ => usage(),
     };
     let mut random = Random::new(6);
-    let mut accepted = 0;
+    let mut met = Met::default();
     for number in 0..files {
         let file = shot_file(&mut random, number);
         let expected = quote::quote(&file);
@@ -29,14 +30,20 @@ fn main() {
             println!("file {number} differs\nprogram:\n{given}oracle:\n{expected}shot file: {}", hex.join(" "));
             exit(1);
         }
-        accepted += usize::from(!expected.starts_with("refused"));
+        met.count(refusal(&expected));
     }
-    println!("{files} files agree, {accepted} of them accepted");
+    println!("{files} files agree: {met}");
 }
 
 fn usage() -> ! {
     println!("usage: compare_quote PROGRAM [FILES]");
     exit(2)
+}
+
+/// The number of the refusal that is printed, 0 where there is none.
+fn refusal(printed: &str) -> u64 {
+    let number = printed.strip_prefix("refused ").and_then(|words| words.split(' ').next()).unwrap_or("0");
+    number.parse().expect("a refusal has a number")
 }
 
 /// Small fields mostly; now and then a large one, and a crowded file.
