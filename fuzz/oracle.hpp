@@ -300,7 +300,25 @@ struct File {
     std::vector<uint16_t> coords;
 };
 
-inline File read(const uint8_t *bytes, size_t nbytes, size_t places) {
+// A whole record of a shot file: its number, 0 being the header's, its map, what the absence of each field would mean,
+// and what the record says.
+struct Record {
+    size_t number;
+    uint8_t map;
+    uint16_t absent[3], said[3];
+
+    bool has(int bit) const { return map >> bit & 1; }
+};
+
+// Whether a record has a field that says what its absence would mean.
+inline bool needless(const Record &record) {
+    for (int bit = 0; bit < 3; bit++)
+        if (record.has(bit) && record.said[bit] == record.absent[bit]) return true;
+    return false;
+}
+
+// Reads a shot file; the rule says which of its whole records are refused by 17.
+template <class Rule> File read_by(const uint8_t *bytes, size_t nbytes, size_t places, Rule rule) {
     File file;
     uint16_t previous[3] = {0, 0, 0};
     size_t offset = 0, shots = 0;
@@ -317,17 +335,25 @@ inline File read(const uint8_t *bytes, size_t nbytes, size_t places) {
         uint8_t map = bytes[offset++];
         if (map > 7) return refuse(4);
         uint16_t *values = header ? file.header : previous;
+        Record record = {header ? 0 : shots + 1, map, {}, {}};
+        std::copy(values, values + 3, record.absent);
         for (int bit = 0; bit < 3; bit++) {
-            if (!(map >> bit & 1)) continue;
+            if (!record.has(bit)) continue;
             if (nbytes - offset < 2) return refuse(5);
             values[bit] = uint16_t(bytes[offset] | bytes[offset + 1] << 8);
             offset += 2;
         }
+        std::copy(values, values + 3, record.said);
+        if (rule(record)) return refuse(17);
         if (header) continue;
         file.coords.insert(file.coords.end(), previous, previous + 3);
         shots++;
     }
     return file;
+}
+
+inline File read(const uint8_t *bytes, size_t nbytes, size_t places) {
+    return read_by(bytes, nbytes, places, needless);
 }
 
 // A number of a VOX file: 32 bits, least byte first.

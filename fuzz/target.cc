@@ -1,12 +1,13 @@
 // The fuzz target: calls of heqdanu.h on any bytes, held to a brute-force oracle.
 //
 // The input's first six bytes choose the buffers' lengths and how the list is made; the rest is a file. It is read as a
-// VOX file, with MAIN's size put right or a voxel repeated past 4,096 times where that is chosen, and as a shot file;
-// the list that it holds, as it is or squeezed into a small field, goes through measure, recount, index, list, credit
-// and write, and the file's bytes are the runs of the cover test and a listing, in which corners_at looks for the
-// corners at one x, as it does in the list's own. Answers and every place of every buffer must be the oracle's. Lists
-// whose cells are too many to count here are held to what the calls say of each other: a listing's sums give the
-// totals, and what is written reads back.
+// VOX file, with MAIN's size put right or a voxel repeated past 4,096 times where that is chosen, and as a shot file,
+// in its shortest form where that is chosen; a shot file that is read must be the shortest of its list. What list the
+// bytes say, whether or not they are read, goes through measure, recount, index, list, credit and write, as it is or
+// squeezed into a small field, and the file's bytes are the runs of the cover test and a listing, in which corners_at
+// looks for the corners at one x, as it does in the list's own. Answers and every place of every buffer must be the
+// oracle's. Lists whose cells are too many to count here are held to what the calls say of each other: a listing's sums
+// give the totals, and what is written reads back.
 //
 // The archive carries no sanitizer, so each lent buffer ends where an unmapped page begins, and the bytes before it are
 // looked at afterwards. The address and undefined-behaviour sanitizers watch this file and the oracle.
@@ -158,8 +159,33 @@ void put_number(std::vector<uint8_t> &file, size_t at, uint64_t number) {
     for (size_t byte = 0; byte < 4; byte++) file[at + byte] = uint8_t(number >> (8 * byte));
 }
 
+// The list that any bytes say: the records of a shot file one after another, whatever their fields say. Bits without
+// meaning are passed over, a record that the bytes do not fill is left out, and so is what follows one shot too many.
+oracle::File said_by(const std::vector<uint8_t> &bytes) {
+    oracle::File said;
+    uint16_t shot[3] = {0, 0, 0};
+    for (size_t at = 0; at < bytes.size() && said.coords.size() < 3 * (MOST_SHOTS + 1);) {
+        uint16_t *values = at == 0 ? said.header : shot;
+        size_t map = at++;
+        size_t fields = size_t((bytes[map] & 1) + (bytes[map] >> 1 & 1) + (bytes[map] >> 2 & 1));
+        if (bytes.size() - at < 2 * fields) break;
+        for (int bit = 0; bit < 3; bit++) {
+            if (!(bytes[map] >> bit & 1)) continue;
+            values[bit] = uint16_t(bytes[at] | bytes[at + 1] << 8);
+            at += 2;
+        }
+        if (map > 0) said.coords.insert(said.coords.end(), shot, shot + 3);
+    }
+    return said;
+}
+
+// The shortest file of a list.
+std::vector<uint8_t> shortest(const oracle::File &list) {
+    return oracle::write({list.header[0], list.header[1], list.header[2], list.coords.data(), list.coords.size()});
+}
+
 // The bytes as they are, or as those of a VOX file with MAIN's size of children put right, and with its first voxel
-// repeated until there are 4,095 to 4,098.
+// repeated until there are 4,095 to 4,098; or the shortest file of the list that they say.
 std::vector<uint8_t> file_of(const uint8_t *bytes, size_t length, const uint8_t *choice) {
     std::vector<uint8_t> file(bytes, bytes + length);
     if ((choice[5] & 24) == 24 && length >= 64) {
@@ -171,14 +197,26 @@ std::vector<uint8_t> file_of(const uint8_t *bytes, size_t length, const uint8_t 
         put_number(file, 48, 4 + 4 * count);
     }
     if (choice[5] & 8 && length >= 20) put_number(file, 16, file.size() - 20);
-    return file;
+    return choice[5] & 64 ? shortest(said_by(file)) : file;
 }
 
-// What the file holds: as a VOX file where it is one, else as a shot file.
+// A shot file that is read is the shortest of the list that its bytes say, and holds that list. One that is refused by
+// 17 is so at the first byte that is another in the shortest.
+void expect_shortest(const oracle::File &held, const std::vector<uint8_t> &file) {
+    oracle::File said = said_by(file);
+    std::vector<uint8_t> other = shortest(said);
+    auto differs = std::mismatch(file.begin(), file.end(), other.begin(), other.end()).first;
+    bool same = std::equal(held.header, held.header + 3, said.header) && held.coords == said.coords && file == other;
+    expect(held.refusal.number != 0 || same, "read", "takes another file than the shortest");
+    bool first = held.refusal.detail == uint64_t(differs - file.begin());
+    expect(held.refusal.number != 17 || first, "read", "names another record than the first with a needless field");
+}
+
+// The list for the other calls: of a VOX file where it is one, else what the bytes say.
 oracle::File read_both(const std::vector<uint8_t> &file, const uint8_t *choice) {
     oracle::File vox = read("read_vox", heqdanu_read_vox, oracle::read_vox, file, choice);
-    oracle::File shots = read("read", heqdanu_read, oracle::read, file, choice);
-    if (vox.refusal.number != 0) return shots;
+    expect_shortest(read("read", heqdanu_read, oracle::read, file, choice), file);
+    if (vox.refusal.number != 0) return said_by(file);
     oracle::List list = {vox.header[0], 1, 1, vox.coords.data(), vox.coords.size()};
     bool quoted = oracle::check(list).number == 0 && oracle::need(list) == list.shots() + 2;
     expect(quoted, "read_vox", "the list is refused");

@@ -168,6 +168,72 @@ std::vector<uint32_t> credited(const oracle::List &list) {
     return credits;
 }
 
+// Whether a record of a shot file, behind one with the map `before`, is refused by 17, with faults 78 to 88.
+bool needless(const oracle::Record &record, uint8_t before) {
+    // No field is ever needless (78), none of the header (81), not the first shot's 0 (82).
+    if (FAULT == 78 || (FAULT == 81 && record.number == 0) || (FAULT == 82 && record.number == 1)) return false;
+    int fields = 0, repeats = 0;
+    for (int bit = 0; bit < 3; bit++) {
+        bool shot = record.number > 0;
+        uint16_t said = record.said[bit], absent = record.absent[bit];
+        // A field that is left out is needless too.
+        if (!record.has(bit) && FAULT != 84) continue;
+        // x is not looked at (79); z is held to what y's absence means (80), and the grid size to 8 (88).
+        if (FAULT == 79 && shot && bit == 0) continue;
+        if (FAULT == 80 && shot && bit == 2) absent = record.absent[1];
+        if (FAULT == 88 && !shot && bit == 2) absent = 8;
+        // A repeat is taken where the shot before leaves its own field out.
+        if (FAULT == 83 && record.number > 1 && !(before >> bit & 1)) continue;
+        // Low bytes alone are compared (86); a 0 is needless in every shot (87).
+        bool same = FAULT == 86 ? (said & 255) == (absent & 255) : said == absent;
+        fields++;
+        repeats += same || (FAULT == 87 && shot && said == 0);
+    }
+    // A record is refused only if all its fields are needless.
+    return FAULT == 85 ? fields > 0 && repeats == fields : repeats > 0;
+}
+
+// Whether the record at a place, all of it or what is left of it, has a whole field that says what its absence would
+// mean. The records before it are good.
+bool needless_at(const uint8_t *bytes, size_t nbytes, size_t at) {
+    const uint16_t none[3] = {0, 0, 0};
+    std::vector<uint16_t> shots = oracle::read(bytes, at, 12288).coords;
+    const uint16_t *absent = at == 0 ? oracle::ABSENT : shots.empty() ? none : &shots[shots.size() - 3];
+    size_t field = at + 1;
+    for (int bit = 0; bit < 3 && field + 1 < nbytes; bit++) {
+        if (!(bytes[at] >> bit & 1)) continue;
+        if ((bytes[field] | bytes[field + 1] << 8) == absent[bit]) return true;
+        field += 2;
+    }
+    return false;
+}
+
+// What a shot file holds, with faults 78 to 95.
+oracle::File held_shots(const uint8_t *bytes, size_t nbytes, size_t ncoords) {
+    uint8_t before = 0;
+    oracle::File held = oracle::read_by(bytes, nbytes, ncoords, [&](const oracle::Record &record) {
+        bool refused = needless(record, before);
+        before = record.map;
+        return refused;
+    });
+    oracle::Refusal &refusal = held.refusal;
+    // 17 comes before 5 (89), 4 (90), 3 (91) or 2 (92).
+    bool early = (FAULT == 89 && refusal.number == 5) || (FAULT == 90 && refusal.number == 4) ||
+                 (FAULT == 91 && refusal.number == 3) || (FAULT == 92 && refusal.number == 2);
+    if (early && needless_at(bytes, nbytes, refusal.detail)) refusal.number = 17;
+    if (refusal.number != 17) return held;
+    // Any other fault of a later record comes first.
+    if (FAULT == 93) {
+        oracle::File other = oracle::read_by(bytes, nbytes, ncoords, [](const oracle::Record &) { return false; });
+        if (other.refusal.number != 0) return other;
+    }
+    // The detail is the record's end (94), or the place behind its map (95).
+    uint8_t map = bytes[refusal.detail];
+    if (FAULT == 94) refusal.detail += 2 * uint64_t((map & 1) + (map >> 1 & 1) + (map >> 2 & 1));
+    if (FAULT == 94 || FAULT == 95) refusal.detail++;
+    return held;
+}
+
 // The VOX file as the stand-in looks at it: faults 14 to 16 change bytes of it.
 std::vector<uint8_t> looked_at(const uint8_t *bytes, size_t nbytes) {
     std::vector<uint8_t> file(bytes, bytes + nbytes);
@@ -186,7 +252,7 @@ std::vector<uint8_t> looked_at(const uint8_t *bytes, size_t nbytes) {
     return file;
 }
 
-// What a VOX file holds, with faults 14 to 18.
+// What a VOX file holds, with faults 14 to 18 and 97.
 oracle::File held_vox(const uint8_t *bytes, size_t nbytes, size_t ncoords) {
     std::vector<uint8_t> file = looked_at(bytes, nbytes);
     oracle::File held = oracle::read_vox(file.data(), nbytes, ncoords);
@@ -200,6 +266,9 @@ oracle::File held_vox(const uint8_t *bytes, size_t nbytes, size_t ncoords) {
         oracle::File roomy = oracle::read_vox(file.data(), nbytes, 12288);
         if (roomy.refusal.number == 15) return roomy;
     }
+    // A voxel that has the x of the one before is refused as a shot's record would be.
+    for (size_t at = 3; FAULT == 97 && held.refusal.number == 0 && at < held.coords.size(); at += 3)
+        if (held.coords[at] == held.coords[at - 3]) held.refusal = {17, 60 + 4 * (at / 3)};
     return held;
 }
 
@@ -343,10 +412,15 @@ extern "C" uint8_t heqdanu_read(const uint8_t *bytes, size_t nbytes, uint16_t *c
                                 size_t nanswer) {
     // Reading asks for the seven places of measuring.
     if (nanswer < (FAULT == 60 ? HEQDANU_ANSWER : HEQDANU_READ_ANSWER)) return 0;
-    oracle::File file = oracle::read(bytes, nbytes, ncoords);
+    oracle::File file = held_shots(bytes, nbytes, ncoords);
     if (FAULT == 9 && file.refusal.number == 3 && nbytes > 0 && bytes[nbytes - 1] > 7) file.refusal.number = 4;
     if (file.refusal.number != 0) {
         if (FAULT == 10 && file.refusal.number == 5 && ncoords > 0) coords[0] = 0;
+        // The shots before a needless field are stored.
+        if (FAULT == 96 && file.refusal.number == 17) {
+            std::vector<uint16_t> shots = oracle::read(bytes, file.refusal.detail, ncoords).coords;
+            std::copy(shots.begin(), shots.end(), coords);
+        }
         // The place behind the answer is cleared.
         bool behind = FAULT == 61 && nanswer > HEQDANU_READ_ANSWER;
         return refused(answer, HEQDANU_READ_ANSWER + behind, file.refusal);
