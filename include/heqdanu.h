@@ -46,7 +46,7 @@
 #include <stdint.h>
 
 /* The version that a contract cites, as the command `heqdanu --version` says it. */
-#define HEQDANU_VERSION "0.6.0"
+#define HEQDANU_VERSION "0.7.0"
 
 #ifdef __cplusplus
 extern "C" {
@@ -91,7 +91,9 @@ enum {
     /* a side of SIZE is not 1 to 256, or a voxel is outside SIZE or has colour 0; offset of SIZE or voxel */
     HEQDANU_VOXEL_RANGE = 15,
     /* the credit slice has fewer places than there are shots; the number of shots */
-    HEQDANU_SHORT_CREDITS = 16
+    HEQDANU_SHORT_CREDITS = 16,
+    /* a field of a map says what its absence would mean; offset of that map */
+    HEQDANU_NEEDLESS_FIELD = 17
 };
 /* the refusals end */
 
@@ -241,9 +243,14 @@ uint8_t heqdanu_covers(uint16_t edge, const uint16_t *coords, size_t ncoords, co
  * out is field 1,024, edge 16, grid 16; with that grid the work slice needs 4,097 entries and the pairs. The ranges of
  * these numbers and of the coordinates are not tested; the calls that take the list do that.
  *
+ * No field of a record may say what its absence would mean. Field 1,024, edge 16 and grid 16 in the header, and in a
+ * shot a coordinate that is that of the shot before, or 0 in the first, are refused by 17. So two files with the same
+ * settings and shots are the same bytes, and heqdanu_write makes them again where it accepts the list. A file from an
+ * older writer that has such a field is not mended here: its source must make it anew.
+ *
  * `coords` takes three numbers a shot; 12,288 places are enough for every file.
  *
- * Refusals: 2, 3, 4, 5, in this order on one record.
+ * Refusals: 2, 3, 4, 5, 17, in this order on one record.
  * After success `coords` holds the shots in its first places, later places keep their values. After a refusal `coords`
  * is as it was.
  */
@@ -277,7 +284,7 @@ uint8_t heqdanu_read(const uint8_t *bytes, size_t nbytes, uint16_t *coords, size
 uint8_t heqdanu_read_vox(const uint8_t *bytes, size_t nbytes, uint16_t *coords, size_t ncoords, uint64_t *answer,
                          size_t nanswer);
 
-/* Writes the shortest shot file of a list.
+/* Writes the shortest shot file of a list, which is the only one of that list that heqdanu_read takes.
  *
  * answer: number, detail, length of the file in bytes (HEQDANU_WRITE_ANSWER places). Field 1,024, edge 16 and grid 16
  * are left out of the header, and of a shot each coordinate that is that of the shot before, or 0 in the first.

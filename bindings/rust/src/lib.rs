@@ -239,7 +239,23 @@ fn answer_filling<T, const N: usize>(
 }
 
 /// Reads a shot file. Success stores the shots in the first places of `coords`; nothing else changes. What the file's
-/// header leaves out is field 1,024, edge 16, grid 16. Ranges are not tested here.
+/// header leaves out is field 1,024, edge 16, grid 16; what a shot leaves out is that of the shot before, or 0 in the
+/// first. Ranges are not tested here.
+///
+/// A field that says what its absence would mean is refused ([`Reason::NeedlessField`]). So two files with the same
+/// header and shots are the same bytes, and [`write`] makes them again where it accepts the list.
+///
+/// ```
+/// use heqdanu::{from_file, to_file, List, Reason};
+///
+/// let (header, coords) = from_file(&[3, 32, 0, 2, 0, 7, 1, 0, 2, 0, 3, 0, 4, 5, 0])?;
+/// assert_eq!((header.grid, &coords[..]), (16, &[1, 2, 3, 1, 2, 5][..]));
+/// let list = List { field: 32, edge: 2, grid: 16, coords: &coords };
+/// assert_eq!(to_file(&list)?, [3, 32, 0, 2, 0, 7, 1, 0, 2, 0, 3, 0, 4, 5, 0]);
+/// let named = from_file(&[7, 32, 0, 2, 0, 16, 0]).unwrap_err();
+/// assert_eq!((named.reason, named.detail), (Reason::NeedlessField, 0));
+/// # Ok::<(), heqdanu::Refusal>(())
+/// ```
 pub fn read(bytes: &[u8], coords: &mut [u16]) -> Result<Header, Refusal> {
     read_by(raw::heqdanu_read, bytes, coords)
 }
@@ -263,8 +279,8 @@ fn read_by(call: raw::Reading, bytes: &[u8], coords: &mut [u16]) -> Result<Heade
     Ok(Header { field: field as u16, edge: edge as u16, grid: grid as u16, shots: shots as usize })
 }
 
-/// Writes the shortest shot file of a list into the first places of `bytes` and gives its length. A refusal changes
-/// nothing.
+/// Writes the shortest shot file of a list, the only one of it that [`read`] takes, into the first places of `bytes`
+/// and gives its length. A refusal changes nothing.
 pub fn write(list: &List, bytes: &mut [u8]) -> Result<usize, Refusal> {
     let mut answer = [0; 3];
     // SAFETY: each pointer comes from a slice with the length beside it, and no two of them overlap.

@@ -59,6 +59,8 @@ reasons! {
     VoxelRange = 15, "a side is outside 1 to 256, or a voxel is outside or has colour 0, at byte {}";
     /// 16: the credits have fewer places than there are shots; the shots.
     ShortCredits = 16, "the credits are too short, the shots being {}";
+    /// 17: a field says what its absence would mean; the offset of the record's map.
+    NeedlessField = 17, "a field says what its absence would mean, in the record at byte {}";
 }
 
 impl Reason {

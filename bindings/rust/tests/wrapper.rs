@@ -108,6 +108,37 @@ fn settings_that_a_file_leaves_out() {
 }
 
 #[test]
+fn fields_that_say_what_their_absence_would_mean() {
+    for (file, map) in [
+        (&[1, 0, 4][..], 0),
+        (&[2, 16, 0], 0),
+        (&[4, 16, 0], 0),
+        (&[0, 1, 0, 0], 1),
+        (&[0, 7, 5, 0, 0, 0, 7, 0], 1),
+        (&[0, 7, 5, 0, 6, 0, 7, 0, 1, 5, 0], 8),
+        (&[0, 7, 5, 0, 6, 0, 7, 0, 0, 6, 9, 0, 7, 0], 9),
+    ] {
+        let mut coords = [9; 12];
+        assert_eq!(read(file, &mut coords), refused(Reason::NeedlessField, map), "{file:?}");
+        assert_eq!(coords, [9; 12]);
+    }
+    // On the same record 2, 3, 4 and 5 come first, and a fault of the next comes later.
+    assert_eq!(from_file(&[&[0; 4097][..], &[1, 0, 0]].concat()), refused(Reason::TooManyShots, 4097));
+    assert_eq!(from_file(&[&[0; 4096][..], &[1, 0, 0]].concat()), refused(Reason::NeedlessField, 4096));
+    assert_eq!(read(&[0, 1, 0, 0], &mut [0; 2]), refused(Reason::NoPlace, 1));
+    assert_eq!(from_file(&[9, 0, 4]), refused(Reason::UnknownBit, 0));
+    assert_eq!(from_file(&[3, 0, 4, 16]), refused(Reason::CutShort, 0));
+    assert_eq!(from_file(&[4, 16, 0, 255]), refused(Reason::NeedlessField, 0));
+    // A 0 behind another number, and what the shot before the one before says, are numbers like others; and what is
+    // read is written back to the same bytes.
+    for file in [&TWO_FILE[..], &[0, 0, 0], &[4, 8, 0, 3, 5, 0, 1, 0, 2, 0, 0], &[0, 1, 5, 0, 1, 0, 0, 1, 5, 0]] {
+        let (header, coords) = from_file(file).unwrap();
+        let list = List { field: header.field, edge: header.edge, grid: header.grid, coords: &coords };
+        assert_eq!(to_file(&list).unwrap(), file);
+    }
+}
+
+#[test]
 fn the_index_stays_in_the_work_slice() {
     let one = List { coords: &[1, 1, 1], ..TWO };
     let mut work = [5; 11];
@@ -183,6 +214,7 @@ fn refusals() {
     assert_eq!(read(&[0, 8], &mut [0; 3]), refused(Reason::UnknownBit, 1));
     assert_eq!(read(&[], &mut []), refused(Reason::CutShort, 0));
     assert_eq!(read(&[0; 4098], &mut [0; 20_000]), refused(Reason::TooManyShots, 4097));
+    assert_eq!(read(&[0, 4, 0, 0], &mut [0; 3]), refused(Reason::NeedlessField, 1));
 }
 
 #[test]
@@ -244,4 +276,7 @@ fn a_refusal_in_words() {
     let refusal = credit(&TWO, &mut [0; 11], &mut [0; 1]).unwrap_err();
     assert_eq!(refusal.to_string(), "the credits are too short, the shots being 2");
     assert_eq!([Reason::NotVox, Reason::VoxelRange, Reason::ShortCredits].map(Reason::number), [13, 15, 16]);
+    let refusal = from_file(&[0, 0, 1, 0, 0]).unwrap_err();
+    assert_eq!(refusal.to_string(), "a field says what its absence would mean, in the record at byte 2");
+    assert_eq!(Reason::NeedlessField.number(), 17);
 }
