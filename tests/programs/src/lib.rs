@@ -3,6 +3,7 @@
 
 pub mod drawing;
 pub mod listing;
+pub mod records;
 pub mod run;
 pub mod text;
 pub mod tree;

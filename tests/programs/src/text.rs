@@ -2,9 +2,13 @@
 //! that the programs print (crate `text_wording`), since README shows only some of them: the tests hold the programs to
 //! these words and do not judge them.
 
+use crate::records::after;
 use oracle::list::{List, Refusal};
 use oracle::quote::{BYTES, PLACES};
 use oracle::shotfile::{self, ABSENT};
+
+/// What the commands add where a file is refused by 17.
+pub const NOT_SHORTEST: &str = "only the shortest file of a list is read; this one must be made anew by its source";
 
 /// The refusals in words.
 pub fn sentence(number: u64) -> &'static str {
@@ -21,6 +25,7 @@ pub fn sentence(number: u64) -> &'static str {
         13 => "no VOX mark of version 150, or not the chunk required here",
         14 => "this chunk is cut short, or a size of it does not match",
         15 => "a side is not 1 to 256, or a voxel is outside or has colour 0",
+        17 => "a field of this map says what its absence would mean",
         _ => panic!("refusal {number} has no sentence here"),
     }
 }
@@ -39,7 +44,7 @@ pub fn shots(input: &[u8]) -> String {
         let names = ["field", "edge", "grid"];
         for (bit, value) in [list.field, list.edge, list.grid].into_iter().enumerate() {
             let note = if file[0] >> bit & 1 == 0 { " # default" } else { "" };
-            assert!(note.is_empty() || value == ABSENT[bit]);
+            assert_eq!(note.is_empty(), value != ABSENT[bit]);
             text += &format!("{} {value}{note}\n", names[bit]);
         }
         let mut offset = after(file, 0);
@@ -59,11 +64,6 @@ pub fn shots(input: &[u8]) -> String {
         },
     }
     text
-}
-
-/// The offset after the record at an offset.
-fn after(file: &[u8], offset: usize) -> usize {
-    offset + 1 + 2 * (file[offset] & 7).count_ones() as usize
 }
 
 /// A list as somebody types it.

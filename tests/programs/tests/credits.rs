@@ -5,6 +5,7 @@ use oracle::inputs::{self, Random, Size};
 use oracle::list::List;
 use oracle::quote::{credits, BYTES};
 use oracle::shotfile;
+use programs::records::longest;
 use programs::run::{in_pieces, on};
 use std::fs;
 
@@ -58,6 +59,7 @@ fn every_example() {
         ("outside.shots", "refused 9 1\n"),
         ("cut_off.shots", "refused 5 8\n"),
         ("no_grid.shots", "refused 8 0\n"),
+        ("needless.shots", "refused 17 7\n"),
         ("arch.vox", "refused 4 0\n"),
         ("make_arch", "refused 4 0\n"),
         ("audit.py", "refused 4 0\n"),
@@ -82,6 +84,7 @@ fn refusals_as_quote_prints_them() {
         (&[7, 8, 0, 2, 0, 2, 0, 0, 1, 7, 0], "refused 9 1\n"),
         (&[4, 64, 0], "refused 10 262145\n"),
         (&crowded, "refused 2 4103\n"),
+        (&[0, 0, 2, 0, 0], "refused 17 2\n"),
     ] {
         assert_eq!(told(file), line);
         assert_eq!(on("quote", file).text(), line);
@@ -95,16 +98,6 @@ fn files_cut_at_every_byte_and_in_pieces() {
         holds(&whole[..length], length);
         holds(&whole, length);
     }
-}
-
-/// A file of the most shots, each with all its fields: as long as a file can be.
-fn longest(random: &mut Random) -> Vec<u8> {
-    let mut file = vec![7, 64, 0, 2, 0, 4, 0];
-    for _ in 0..4096 {
-        let [x, y, z] = [0; 3].map(|_| random.within(0, 62) as u8);
-        file.extend([7, x, 0, y, 0, z, 0]);
-    }
-    file
 }
 
 #[test]
@@ -133,9 +126,15 @@ fn as_many_shots_as_allowed() {
     file.pop();
     assert_eq!(told(&file), lines[..lines.len() - "4095 0\n".len()]);
     let mut random = Random::new(82);
-    for _ in 0..15 {
-        holds(&inputs::crowded_file(&mut random), 5000);
+    let (mut answered, mut crowded) = (0, 0);
+    for _ in 0..40 {
+        let file = inputs::crowded_file(&mut random);
+        holds(&file, 5000);
+        let lines = credits(&file);
+        answered += usize::from(lines.lines().count() > 4000);
+        crowded += usize::from(lines.starts_with("refused 2 "));
     }
+    assert!(answered > 1 && crowded > 11, "{answered} of the files are answered, {crowded} have too many shots");
 }
 
 /// Credits sum to the volume that `quote` prints.

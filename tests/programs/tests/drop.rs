@@ -5,6 +5,7 @@ use oracle::list::List;
 use oracle::quote::credits;
 use oracle::shotfile::{self, shortest};
 use programs::run::on;
+use programs::text::NOT_SHORTEST;
 use programs::tree::Tree;
 
 const OVERLAP: [u8; 15] = [7, 8, 0, 2, 0, 2, 0, 0, 7, 1, 0, 1, 0, 1, 0];
@@ -31,6 +32,9 @@ fn repeats_and_shots_within_others() {
         (&[[1, 1, 1], [1, 1, 1], [1, 1, 1]][..], cube.clone()),
         (&[[0, 0, 0], [1, 1, 1], [1, 1, 1]], OVERLAP.to_vec()),
         (&[[0, 0, 0], [2, 0, 0], [1, 0, 0]], file(&[[0, 0, 0], [2, 0, 0]])),
+        // Behind a shot that goes, a field that is needless then goes too, and one that is needed then comes.
+        (&[[1, 1, 1], [3, 3, 1], [1, 1, 1], [3, 5, 1]], file(&[[1, 1, 1], [3, 3, 1], [3, 5, 1]])),
+        (&[[1, 1, 1], [3, 1, 1], [2, 1, 1], [2, 3, 1]], file(&[[1, 1, 1], [3, 1, 1], [2, 3, 1]])),
         (&[[1, 1, 1]], cube),
         (&[], file(&[])),
     ] {
@@ -43,9 +47,8 @@ fn repeats_and_shots_within_others() {
             0
         );
     }
-    // Written in the shortest form, also where nothing is dropped.
-    let longer = [7, 8, 0, 2, 0, 2, 0, 7, 0, 0, 0, 0, 0, 0, 7, 1, 0, 1, 0, 1, 0];
-    assert_eq!(tree.shell("heqdanu drop", &longer).output, OVERLAP);
+    // The same bytes, where nothing is dropped.
+    assert_eq!(tree.shell("heqdanu drop", &OVERLAP).output, OVERLAP);
 }
 
 #[test]
@@ -56,6 +59,11 @@ fn what_is_refused() {
     let cut = "drop: cut: refused 5 8: the file ends before a field of this map, or is empty\n";
     tree.run("drop", &["cut"]).is("", cut, 1);
     tree.run("drop", &["outside"]).is("", "drop: outside: refused 9 1: a shot leaves the field\n", 1);
+    // A file that is not in its shortest form is not brought into it.
+    let longer = [7, 8, 0, 2, 0, 2, 0, 7, 0, 0, 0, 0, 0, 0, 7, 1, 0, 1, 0, 1, 0];
+    let needless = "drop: standard input: refused 17 7: a field of this map says what its absence would mean";
+    let complaint = format!("{needless}\ndrop: standard input: {NOT_SHORTEST}\n");
+    tree.shell("heqdanu drop", &longer).is("", &complaint, 1);
     // More bytes than a program takes.
     let ended = tree.shell("heqdanu drop", &vec![0; 100_000]);
     assert_eq!((ended.output.len(), ended.status), (0, 1));

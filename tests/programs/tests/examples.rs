@@ -28,10 +28,11 @@ fn folder() -> PathBuf {
     PathBuf::from(concat!(env!("CARGO_MANIFEST_DIR"), "/../../examples"))
 }
 
-/// That a file is what is written for the text, and has this quote.
+/// That a file is what is written for the text, and again for what is printed of it, and has this quote.
 fn holds(name: &str, text: &str, [volume, area, edge, inner, corners]: [u64; 5]) {
     let file = example(name);
     assert_eq!(on("write_shots", text.as_bytes()).good(), file, "{name}");
+    assert_eq!(on("write_shots", &on("shots", &file).good()).good(), file, "{name}");
     let quote = format!("volume {volume}\narea {area}\nedge {edge}\ninner {inner}\ncorners {corners}\n");
     assert_eq!(on("quote", &file).text(), quote, "{name}");
 }
@@ -58,6 +59,9 @@ fn refused_examples() {
     // The overlapping cubes without a grid size.
     assert_eq!(example("no_grid"), [&[3], &overlap[1..5], &overlap[7..]].concat());
     assert_eq!(on("quote", &example("no_grid")).text(), "refused 8 0\n");
+    // The overlapping cubes, the first with all its fields.
+    assert_eq!(example("needless"), [&overlap[..7], &[7, 0, 0, 0, 0, 0, 0], &overlap[8..]].concat());
+    assert_eq!(on("quote", &example("needless")).text(), "refused 17 7\n");
 }
 
 #[test]
@@ -80,7 +84,7 @@ fn no_other_file_is_there() {
         .expect("the examples are there")
         .map(|entry| entry.expect("an example").file_name().to_string_lossy().into_owned())
         .collect();
-    let shots = ACCEPTED.iter().map(|(name, ..)| *name).chain(["shell", "cut_off", "outside", "no_grid"]);
+    let shots = ACCEPTED.iter().map(|(name, ..)| *name).chain(["shell", "cut_off", "outside", "no_grid", "needless"]);
     let known =
         shots.map(|name| format!("{name}.shots")).chain(["arch.vox", "make_arch", "audit.py"].map(String::from));
     assert_eq!(there, known.collect());

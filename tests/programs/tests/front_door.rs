@@ -56,6 +56,20 @@ fn help_of_a_command() {
     assert!(tree.shell("heqdanu help quote_vox", &[]).text().contains("version 150"));
     // What its file leaves out is as usual, whatever the environment has.
     assert_eq!(tree.shell("leads=X statuses=none heqdanu help quote", &[]), tree.shell("heqdanu help quote", &[]));
+    assert_eq!(tree.shell("reads=shots heqdanu help quote_vox", &[]), tree.shell("heqdanu help quote_vox", &[]));
+}
+
+/// The commands that read shot files say that they do so in the shortest form only, and no other does.
+#[test]
+fn help_says_which_files_are_read() {
+    let tree = Tree::bare(NEVER);
+    let readers = ["quote", "recount", "credits", "drop", "listing", "same", "shots"];
+    for command in COMMANDS {
+        let help = tree.shell(&format!("heqdanu help {command}"), &[]).text();
+        let said = help.contains("A shot file is read in its shortest form only") && help.contains("by 17");
+        assert_eq!(said, readers.contains(&command), "{help}");
+        assert_eq!(help.contains("17"), said, "{help}");
+    }
 }
 
 #[test]

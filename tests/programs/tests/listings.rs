@@ -51,6 +51,7 @@ fn refusals_with_their_sentences() {
     refused(&[7, 8, 0, 2, 0, 2, 0, 0, 1, 7, 0], "listing: refused 9 1: a shot leaves the field\n");
     refused(&[4, 64, 0], "listing: refused 10 262145: the work slice is too short for the grid index\n");
     refused(&[0; 4098], "listing: refused 2 4097: there are more than 4,096 shots\n");
+    refused(&[0, 0, 2, 0, 0], "listing: refused 17 2: a field of this map says what its absence would mean\n");
 }
 
 #[test]
@@ -60,9 +61,9 @@ fn one_listing_whatever_the_grid() {
     let file = |header: &[u8]| [header, &shots].concat();
     let bytes = on("listing", &file(&[0])).good();
     assert_eq!((bytes.len() % 7, bytes.len() > 7 * 16), (0, true));
-    for grid in [1, 2, 4, 8, 16] {
-        holds(&file(&[4, grid, 0]), 3);
-        assert_eq!(on("listing", &file(&[4, grid, 0])).good(), bytes, "grid {grid}");
+    for header in [&[0][..], &[4, 1, 0], &[4, 2, 0], &[4, 4, 0], &[4, 8, 0]] {
+        holds(&file(header), 3);
+        assert_eq!(on("listing", &file(header)).good(), bytes, "{header:?}");
     }
 }
 
@@ -108,7 +109,7 @@ fn a_list_with_many_corners() {
     for shot in 0..4096u16 {
         file.push(7);
         for value in [shot / 256, shot / 16 % 16, shot % 16] {
-            file.extend((64 * value + shot % 7).to_le_bytes());
+            file.extend((64 * value + shot % 7 + 1).to_le_bytes());
         }
     }
     assert_eq!(listing(&file).output.len(), 7 * 8 * 4096);

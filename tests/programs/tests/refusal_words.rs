@@ -1,6 +1,7 @@
 //! A refusal in words: on standard error, with the file's name, in the words of `text_wording`, and with a hint where
-//! the file is for another command.
+//! the file is for another command, or for none until it is made anew.
 
+use programs::text::NOT_SHORTEST;
 use programs::tree::{repository, Tree};
 use std::collections::BTreeMap;
 use std::fs;
@@ -42,7 +43,7 @@ fn the_words_are_those_of_text_wording() {
         .map(|(number, words)| (number.parse().expect("a number"), words))
         .collect();
     let numbers = numbers();
-    assert!(numbers.len() >= 16);
+    assert!(numbers.len() >= 17);
     assert_eq!(lines.iter().map(|line| line.0).collect::<Vec<_>>(), numbers.keys().copied().collect::<Vec<_>>());
     for (number, words) in lines {
         // The detail stands before the sentence, after it, or in it where it names the shot.
@@ -65,21 +66,28 @@ fn every_refusal_of_a_shot_file() {
         (&[7, 8, 0, 2, 0, 2, 0, 0, 1, 7, 0], "9 1", "shot 1 leaves the field"),
         (&[4, 64, 0], "10 262145", "the work slice is too short for the grid index, which needs 262145 entries"),
         (&crowded, "2 4103", "at byte 4103: there are more than 4,096 shots"),
+        (&[4, 16, 0], "17 0", "at byte 0: a field of this map says what its absence would mean"),
+        (&[0, 0, 0, 4, 0, 0], "17 3", "at byte 3: a field of this map says what its absence would mean"),
     ] {
         tree.file("a part", file);
+        // What can be done about it, which is said of what came by a pipe too.
+        let hint = |command: &str, title: &str| match line.split_once(' ') {
+            Some(("17", _)) => format!("{command}: {title}: {NOT_SHORTEST}\n"),
+            _ => String::new(),
+        };
         for command in ["quote", "recount", "credits"] {
-            let complaint = format!("{command}: a part: {words}\n");
+            let complaint = format!("{command}: a part: {words}\n{}", hint(command, "a part"));
             tree.run(command, &["a part"]).is(&format!("refused {line}\n"), &complaint, 1);
         }
         tree.shell("heqdanu quote", file).is(
             &format!("refused {line}\n"),
-            &format!("quote: standard input: {words}\n"),
+            &format!("quote: standard input: {words}\n{}", hint("quote", "standard input")),
             1,
         );
         // The text has the sentence.
         let ended = tree.run("shots", &["a part"]);
         if ended.status == 1 {
-            assert_eq!(ended.complaint, "");
+            assert_eq!(ended.complaint, hint("shots", "a part"));
         } else {
             assert_eq!(line, "10 262145");
         }

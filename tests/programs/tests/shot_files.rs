@@ -2,6 +2,7 @@
 
 use oracle::inputs::{self, Random, Size};
 use oracle::quote;
+use oracle::shotfile::{shortest, ABSENT};
 use programs::run::{in_pieces, on};
 use programs::text;
 
@@ -101,7 +102,7 @@ fn a_grid_that_is_left_out_is_16() {
 #[test]
 fn more_bytes_than_are_read() {
     // The longest list, then much more: the byte after the list shows that there are too many shots.
-    let mut file = vec![7, 0, 4, 16, 0, 8, 0];
+    let mut file = vec![7, 255, 3, 15, 0, 11, 0];
     for shot in 0..4096u16 {
         file.push(7);
         for value in [shot % 1000, shot % 999, shot % 998] {
@@ -116,22 +117,35 @@ fn more_bytes_than_are_read() {
     assert_eq!(on("quote", &file).text(), "refused 2 28679\n");
 }
 
+/// A file that leaves out the grid size, in a field that 16 divides: about half of their indexes need more entries than
+/// there are.
+fn no_grid_file(random: &mut Random) -> Vec<u8> {
+    let field = 16 * random.within(1, 32);
+    let edge = random.within(field / 4, field);
+    let mut list = inputs::accepted_with(random, field, edge, 40);
+    list.grid = ABSENT[2];
+    shortest(&list)
+}
+
 #[test]
 fn generated_files() {
     let mut random = Random::new(41);
-    let mut refused = 0;
+    let (mut refused, mut needless) = (0, 0);
     // Of the files whose header leaves out the grid size: quoted, and refused by 8 and by 10.
     let mut no_grid = [0; 3];
-    for number in 0..600 {
-        let size = if number % 20 == 0 { Size { field: 1024, shots: 40 } } else { Size { field: 16, shots: 20 } };
-        let file = inputs::file(&mut random, size);
+    for number in 0..640 {
+        let (file, names) = match number % 20 {
+            0 => (inputs::file(&mut random, Size { field: 1024, shots: 40 }), &READERS[2..]),
+            10 => (no_grid_file(&mut random), &["quote", "shots"][..]),
+            _ => (inputs::file(&mut random, Size { field: 16, shots: 20 }), &READERS[..]),
+        };
         let piece = if number % 3 == 0 { random.within(1, 40) } else { file.len() };
-        let names = if number % 20 == 0 { &READERS[2..] } else { &READERS[..] };
         for name in names {
             assert_eq!(in_pieces(name, &file, piece).text(), expected(name, &file), "{name} on {file:02x?}");
         }
         let told = quote::quote(&file);
         refused += usize::from(told.starts_with("refused"));
+        needless += usize::from(told.starts_with("refused 17 "));
         if file.first().is_some_and(|map| map & 4 == 0) {
             for (count, start) in no_grid.iter_mut().zip(["volume", "refused 8 ", "refused 10 "]) {
                 *count += usize::from(told.starts_with(start));
@@ -139,6 +153,7 @@ fn generated_files() {
         }
     }
     assert!((50..550).contains(&refused), "{refused} of the files are refused");
+    assert!(needless >= 15, "{needless} of the files have a needless field");
     assert!(no_grid.into_iter().all(|count| count >= 3), "{no_grid:?} of the files without a grid size");
 }
 

@@ -2,6 +2,7 @@
 
 use oracle::inputs::{self, Random, Size};
 use oracle::shotfile;
+use programs::records::{left_out, with_needless};
 use programs::run::{in_pieces, on};
 use programs::text;
 
@@ -111,14 +112,23 @@ fn any_bytes() {
 #[test]
 fn a_list_typed_and_printed() {
     let mut random = Random::new(44);
+    let mut longer = 0;
     for number in 0..300 {
         let size = if number % 30 == 0 { Size { field: 1024, shots: 4096 } } else { Size { field: 64, shots: 40 } };
         let list = inputs::accepted(&mut random, size);
         let file = shotfile::shortest(&list);
         assert_eq!(in_pieces("write_shots", text::typed(&list).as_bytes(), random.within(1, 5000)).good(), file);
         assert_eq!(on("write_shots", &on("shots", &file).good()).good(), file);
-        // A longer file of the same list prints the same numbers, so it is written in the shortest form.
-        let longer = inputs::longer_file(&mut random, &list);
-        assert_eq!(on("write_shots", &on("shots", &longer).good()).good(), file);
+        // A longer file of the same list is refused, and of its text no file is written, not even a shorter one.
+        let fields = left_out(&file);
+        if !fields.is_empty() {
+            let field = random.one_of(&fields);
+            let text = on("shots", &with_needless(&file, field)).text();
+            let verdict = format!("refused 17 at byte {}: {}", field.0, text::sentence(17));
+            assert_eq!(text.lines().next_back(), Some(verdict.as_str()), "{list:?}");
+            assert!(complaint(text.as_bytes()).starts_with(&format!("write_shots: line {}: ", text.lines().count())));
+            longer += 1;
+        }
     }
+    assert!(longer > 200, "{longer} of the files leave out a field");
 }
