@@ -20,7 +20,8 @@ use Rattle.shotfile_reader.proofs.Conditions.{read-accepts, read-refuses}
 use Rattle.shotfile_reader.proofs.Faults.{none-below}
 use Rattle.shotfile_reader.proofs.FileParts.{one-list}
 use Rattle.shotfile.proofs.RoundTrip.{same-bytes}
-use Rattle.acceptance.specs.ShortestFiles.{FirstNeedless, OnlyShortest, isRead, FilesCompared}
+use Rattle.acceptance.specs.ShortestFiles.{FirstNeedless, OnlyShortest, FilesCompared}
+use Rattle.acceptance.specs.Comparing.{isRead}
 
 -- ---- the reader
 module _ (places : ℕ) (s : List ℕ) where

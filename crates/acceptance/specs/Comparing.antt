@@ -1,4 +1,5 @@
--- What the function that compares two listings asks for and gives: no more than its own words. specs/Condition3.antt says what is asked.
+-- What the functions that compare two listings, and two files, promise each other: no more than their own words. specs/Condition3.antt and
+-- specs/ShortestFiles.antt say what is asked.
 use mathlib.Core.Bool.{Bool, true, false}
 use mathlib.Core.List.{List}
 use Prim.Native.Nat.{ℕ, _*_, _≤_}
@@ -6,6 +7,8 @@ use lib.ListN.{length, take}
 use Rattle.text_same.specs.Same.{same}
 use Rattle.measure_intake.specs.declared.Measured.{Measured}
 use Rattle.measure_intake.specs.declared.Measured.the-variants.{Quote, Refused as Unmeasured}
+use Rattle.shotfile_reader.specs.declared.ReadAnswer.{ReadAnswer}
+use Rattle.shotfile_reader.specs.declared.ReadAnswer.the-variants.{Read, Refused as Unread}
 use Rattle.acceptance.specs.declared.condition_3.Compared.{Compared}
 use Rattle.acceptance.specs.declared.condition_3.Compared.the-variants.{Same, Different, Refused}
 
@@ -26,3 +29,8 @@ compareSecond listed (Unmeasured q) other = Refused q
 abbrev pub comparison : Measured → List ℕ → Measured → List ℕ → Compared
 comparison (Quote t) buffer two other = compareSecond (take (7 * t .corners) buffer) two other
 comparison (Unmeasured q) buffer two other = Refused q
+
+-- a file was read
+abbrev pub isRead : ReadAnswer → Bool
+isRead (Read field edge grid shots) = true
+isRead (Unread q) = false

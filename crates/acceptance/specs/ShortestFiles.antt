@@ -1,6 +1,6 @@
 -- Request (vii), only the shortest file: docs/SCOPE.md, 'Shot file', and 'When a job is refused', 17.
 use mathlib.Core.Path.{_≡_}
-use mathlib.Core.Bool.{Bool, true, false}
+use mathlib.Core.Bool.{Bool, true}
 use mathlib.Core.List.{List}
 use mathlib.Core.Logic.{_↔_}
 use Prim.Native.Nat.{ℕ, _≤_, _<_}
@@ -15,8 +15,8 @@ use Rattle.shotfile_reader.specs.declared.ReadAnswer.{ReadAnswer}
 use Rattle.shotfile_reader.specs.declared.ReadAnswer.the-variants.{Read, Refused as Unread}
 
 -- ---- the reader
--- the first record that is faulty has its map at a place: it is one of 4,096 shots and has a place in the slice, its map has no bit without a
--- meaning, the file has all of its fields, and one of them says what its absence would mean
+-- the first record that is faulty has its map at a place: it is the header, or one of 4,096 shots and has a place in the slice; its map has no
+-- bit without a meaning, the file has all of its fields, and one of them says what its absence would mean
 pub record FirstNeedless (places : ℕ) (s : List ℕ) (at : ℕ) : Type 0 where
   pub n : ℕ
   pub absent : Fields
@@ -35,10 +35,6 @@ pub record OnlyShortest (bytes coords : List ℕ) (r : ReadAnswer) : Type 0 wher
   pub refused : (at : ℕ) → (r ≡ Unread (NeedlessField at)) ↔ FirstNeedless (shotCount coords) bytes at
 
 -- ---- two shops
-abbrev pub isRead : ReadAnswer → Bool
-isRead (Read field edge grid shots) = true
-isRead (Unread q) = false
-
 -- two files are the same if both are read and are the same bytes: exactly if they say one job, its settings and its shots
 pub record FilesCompared (bytes coords others others-coords : List ℕ) (r : Bool) : Type 0 where
   pub same-job : (r ≡ true) ↔ ((job : Job) × (fileIn (shotCount coords) bytes ≡ file job) × (fileIn (shotCount others-coords) others ≡ file job))

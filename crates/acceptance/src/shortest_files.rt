@@ -2,7 +2,8 @@
 // same record, with that map's offset; two files that are read are the same bytes exactly if they say the same settings and shots. That
 // every file which is read, and whose list the writer accepts, is rewritten to its own bytes is `read_and_write` of condition_2.
 ghost use mathlib.Core.Path.{_≡_};
-ghost use Rattle.acceptance.specs.ShortestFiles.{isRead, OnlyShortest, FilesCompared};
+ghost use Rattle.acceptance.specs.ShortestFiles.{OnlyShortest, FilesCompared};
+ghost use Rattle.acceptance.specs.Comparing.{isRead};
 use shotfile_reader::ReadAnswer;
 use text_same::same_bytes;
 
