@@ -71,6 +71,13 @@ pub and-intro : (a b : Bool) → T a → T b → T (a && b)
 and-intro true b s t = t
 and-intro false b s t = s
 
+-- an 'and' by its first part, and by its second where the first is true
+pub and-first : (a b : Bool) → a ≡ false → false ≡ a && b
+and-first a b h = rw h
+
+pub and-second : (a b : Bool) {c : Bool} → a ≡ true → c ≡ b → c ≡ a && b
+and-second a b h e = rw h e
+
 -- ---- 'or'
 pub or-true : (a b : Bool) → a || b ≡ true → (a ≡ true) ⊎ (b ≡ true)
 or-true true b h = inl refl
