@@ -5,9 +5,10 @@ use Rattle.refusals.specs.declared.Notice.{Notice}
 use Rattle.refusals.specs.declared.Checked.{Checked}
 use Rattle.refusals.specs.declared.Checked.the-variants.{Accepted, Refused}
 use Rattle.refusals.specs.declared.Refusal.{Refusal}
-use Rattle.refusals.specs.declared.Refusal.the-variants.{BrokenShot, TooManyShots, NoPlace, UnknownBit, CutShort, FieldRange, EdgeRange, GridRange, OutsideField, ShortWork, ShortListing, ShortFile, NotVox, BrokenChunk, VoxelRange, ShortCredits, NeedlessField}
+use Rattle.refusals.specs.declared.Refusal.the-variants.{BrokenShot, TooManyShots, NoPlace, UnknownBit, CutShort, FieldRange, EdgeRange, GridRange, OutsideField, ShortWork, ShortListing, ShortFile, NotVox, BrokenChunk, VoxelRange, ShortCredits, NeedlessField, InvalidTable}
 
--- its number; its detail, which is the place in the file for a reader, the first shot outside, or what would be long enough, and 0 otherwise;
+-- its number; its detail, which is the place in the file for a reader, the first shot outside, what would be long enough, or the band where a
+-- price table fails, and 0 otherwise;
 -- and where it is met, at a byte of a file or at a shot of the list, which its detail names, or nowhere in particular
 abbrev pub noticeOf : Refusal → Notice
 noticeOf BrokenShot = record { number = 1; detail = 0; met = Nowhere }
@@ -27,6 +28,7 @@ noticeOf (BrokenChunk at) = record { number = 14; detail = at; met = Byte }
 noticeOf (VoxelRange at) = record { number = 15; detail = at; met = Byte }
 noticeOf (ShortCredits shots) = record { number = 16; detail = shots; met = Nowhere }
 noticeOf (NeedlessField at) = record { number = 17; detail = at; met = Byte }
+noticeOf (InvalidTable band) = record { number = 18; detail = band; met = Nowhere }
 
 -- the number alone, and the detail alone
 abbrev pub numberOf : Refusal → ℕ

@@ -41,6 +41,8 @@ pub enum Refusal {
     ShortCredits { shots: usize },
     // A field of the map at `at` says what its absence would mean.
     NeedlessField { at: usize },
+    // A price table has this faulty band, or so many bands and not the top; 64, where it has more than 64 bands.
+    InvalidTable { band: usize },
 }
 
 // What the checks of a list and its settings find.
@@ -157,6 +159,11 @@ pub fn notice_of(refusal: Refusal) -> Notice
             number: 17,
             detail: at,
             met: Place::Byte,
+        },
+        Refusal::InvalidTable { band } => Notice {
+            number: 18,
+            detail: band,
+            met: Place::Nowhere,
         },
     }
 }

@@ -3,7 +3,7 @@ use Prim.Native.Nat.{_≤_}
 use native.Mathlib.Omega.{arith}
 use lib.ListN.{length}
 use Rattle.refusals.specs.declared.Refusal.{Refusal}
-use Rattle.refusals.specs.declared.Refusal.the-variants.{BrokenShot, TooManyShots, NoPlace, UnknownBit, CutShort, FieldRange, EdgeRange, GridRange, OutsideField, ShortWork, ShortListing, ShortFile, NotVox, BrokenChunk, VoxelRange, ShortCredits, NeedlessField}
+use Rattle.refusals.specs.declared.Refusal.the-variants.{BrokenShot, TooManyShots, NoPlace, UnknownBit, CutShort, FieldRange, EdgeRange, GridRange, OutsideField, ShortWork, ShortListing, ShortFile, NotVox, BrokenChunk, VoxelRange, ShortCredits, NeedlessField, InvalidTable}
 use Rattle.text_wording.specs.Sentences.{sentence}
 
 pub sentence-length : (r : Refusal) → length (sentence r) ≤ 64
@@ -25,3 +25,4 @@ sentence-length (BrokenChunk at) = omega arith
 sentence-length (VoxelRange at) = omega arith
 sentence-length (ShortCredits shots) = omega arith
 sentence-length (NeedlessField at) = omega arith
+sentence-length (InvalidTable band) = omega arith

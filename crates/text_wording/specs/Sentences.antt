@@ -3,7 +3,7 @@ use mathlib.Core.List.{List}
 use Prim.Native.Nat.{ℕ}
 use Rattle.text_parts.specs.Text.{text}
 use Rattle.refusals.specs.declared.Refusal.{Refusal}
-use Rattle.refusals.specs.declared.Refusal.the-variants.{BrokenShot, TooManyShots, NoPlace, UnknownBit, CutShort, FieldRange, EdgeRange, GridRange, OutsideField, ShortWork, ShortListing, ShortFile, NotVox, BrokenChunk, VoxelRange, ShortCredits, NeedlessField}
+use Rattle.refusals.specs.declared.Refusal.the-variants.{BrokenShot, TooManyShots, NoPlace, UnknownBit, CutShort, FieldRange, EdgeRange, GridRange, OutsideField, ShortWork, ShortListing, ShortFile, NotVox, BrokenChunk, VoxelRange, ShortCredits, NeedlessField, InvalidTable}
 
 unfoldable pub sentence : Refusal → List ℕ
 sentence BrokenShot = text "the coordinates' count is not a multiple of three"
@@ -23,3 +23,4 @@ sentence (BrokenChunk at) = text "this chunk is cut short, or a size of it does 
 sentence (VoxelRange at) = text "a side is not 1 to 256, or a voxel is outside or has colour 0"
 sentence (ShortCredits shots) = text "the credit slice has fewer places than there are shots"
 sentence (NeedlessField at) = text "a field of this map says what its absence would mean"
+sentence (InvalidTable band) = text "a price table has a faulty band, no top, or more than 64 bands"

@@ -78,5 +78,10 @@ pub fn put_sentence(out: &mut [u8], at: usize, refusal: Refusal) -> usize
             at,
             b"a field of this map says what its absence would mean",
         ),
+        Refusal::InvalidTable { band: _ } => put_word(
+            out,
+            at,
+            b"a price table has a faulty band, no top, or more than 64 bands",
+        ),
     }
 }

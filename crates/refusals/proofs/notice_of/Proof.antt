@@ -54,6 +54,9 @@ enum-known-refusal-12 c = search needs
 enum-known-refusal-13 : tie.Need-enum-known-refusal-13
 enum-known-refusal-13 c = search needs
 
+enum-known-refusal-14 : tie.Need-enum-known-refusal-14
+enum-known-refusal-14 c = search needs
+
 returns : tie.Need-returns
 returns c = (search needs, (search needs, search needs))
 
@@ -105,6 +108,9 @@ returns-16 c = (search needs, (search needs, search needs))
 returns-17 : tie.Need-returns-17
 returns-17 c = (search needs, (search needs, search needs))
 
+returns-18 : tie.Need-returns-18
+returns-18 c = (search needs, (search needs, search needs))
+
 pub notice-of-spec : {M : Type 1} → statement M
 notice-of-spec =
     tie.close
@@ -126,6 +132,7 @@ notice-of-spec =
     enum-known-refusal-11
     enum-known-refusal-12
     enum-known-refusal-13
+    enum-known-refusal-14
     returns
     returns-2
     returns-3
@@ -142,4 +149,5 @@ notice-of-spec =
     returns-14
     returns-15
     returns-16
-    returns-17)
+    returns-17
+    returns-18)

@@ -159,6 +159,15 @@ slice-aggregate-put-word-17 c = search needs
 put-word-requires-17 : tie.Need-put-word-requires-17
 put-word-requires-17 c κs = search needs
 
+enum-told-18 : tie.Need-enum-told-18
+enum-told-18 c = search needs
+
+slice-aggregate-put-word-18 : tie.Need-slice-aggregate-put-word-18
+slice-aggregate-put-word-18 c = search needs
+
+put-word-requires-18 : tie.Need-put-word-requires-18
+put-word-requires-18 c κs = search needs
+
 same-length : tie.Need-same-length
 same-length c = search needs
 
@@ -278,6 +287,13 @@ returns-17 : tie.Need-returns-17
 unfolding sentence
 returns-17 c = wrote-as (ap sentence (sym (c .before .before .before .before .before .enum-told17 .given .1))) (c .before .before .put-word17 .ensures)
 
+same-length-18 : tie.Need-same-length-18
+same-length-18 c = search needs
+
+returns-18 : tie.Need-returns-18
+unfolding sentence
+returns-18 c = wrote-as (ap sentence (sym (c .before .before .before .before .before .enum-told18 .given .1))) (c .before .before .put-word18 .ensures)
+
 pub put-sentence-spec : {M : Type 1} → statement M
 put-sentence-spec =
     tie.close
@@ -333,6 +349,9 @@ put-sentence-spec =
     enum-told-17
     slice-aggregate-put-word-17
     put-word-requires-17
+    enum-told-18
+    slice-aggregate-put-word-18
+    put-word-requires-18
     same-length
     returns
     same-length-2
@@ -366,4 +385,6 @@ put-sentence-spec =
     same-length-16
     returns-16
     same-length-17
-    returns-17)
+    returns-17
+    same-length-18
+    returns-18)
