@@ -58,7 +58,7 @@ module _ (numbers : List ℕ) {n : ℕ} (size : length numbers ≡ n) (answer : 
       answered = e ∙ ap (λ p. inFront p answer) k ∙ ap (λ b. cond b (inFront numbers answer) answer) (sym fit);
     }
 
-    done-is : {slice' : List ℕ} (done slice : List ℕ) → slice' ≡ done → slice' ≡ cond (fits numbers answer) done slice
+    pub done-is : {slice' : List ℕ} (done slice : List ℕ) → slice' ≡ done → slice' ≡ cond (fits numbers answer) done slice
     done-is done slice e = e ∙ ap (λ b. cond b done slice) (sym fit)
 
 -- how many numbers a file has

@@ -4,7 +4,7 @@ use mathlib.Core.Path.{_≡_}
 use mathlib.Core.Bool.{Bool, cond}
 use mathlib.Core.List.{List}
 use Prim.Native.Nat.{ℕ}
-use lib.Dec.{leb}
+use lib.Dec.{leb, ltb}
 use lib.ListN.{length}
 use Rattle.job.specs.Job.{Job, shotCount}
 use Rattle.refusals.specs.Tests.{firstNumbers}
@@ -12,10 +12,12 @@ use Rattle.grid_cover.specs.Cover.{firstCovering}
 use Rattle.measure_intake.specs.Intake.{measureTests, measureNumbers, workAfter}
 use Rattle.measure.specs.Answers.{listNumbers, listingAfter}
 use Rattle.crediting.specs.Credits.{creditTests, creditsAfter}
+use Rattle.price_charging.specs.Charging.{Tables}
+use Rattle.price.specs.Price.{priceNumbers}
 use Rattle.shotfile_reader.specs.Files.{fileIn}
 use Rattle.buffer.specs.Wrote.{inFront}
 use Rattle.section.specs.Section.{placesOf}
-use Rattle.capi_answers.specs.Places.{indexPlaces, measurePlaces, coverPlaces, partPlaces}
+use Rattle.capi_answers.specs.Places.{indexPlaces, measurePlaces, pricePlaces, coverPlaces, partPlaces}
 use Rattle.shotfile_reader.specs.Calls.{readValues, readCoords}
 use Rattle.shotfile_writer.specs.Calls.{writeValues, writeBytes}
 use Rattle.vox.specs.Vox.{voxIn}
@@ -45,6 +47,9 @@ cornersAtTells listing x = partPlaces (placesOf listing x)
 
 abbrev pub creditTells : Job → List ℕ → List ℕ → List ℕ
 creditTells job work credits = indexPlaces (firstNumbers (creditTests job (length work) (length credits)))
+
+abbrev pub priceTells : Job → List ℕ → Tables → List ℕ
+priceTells job work t = pricePlaces (priceNumbers job (length work) t)
 
 abbrev pub coversTells : ℕ → List ℕ → List ℕ → ℕ → ℕ → ℕ → List ℕ
 coversTells E coords run i j k = coverPlaces (firstCovering E coords run i j k)
@@ -84,6 +89,15 @@ pub record CreditTold (job : Job) (work credits answer : List ℕ) (r : ℕ) (wo
   pub told : Told (creditTells job work credits) answer r answer'
   pub index : work' ≡ cond (fits (creditTells job work credits) answer) (workAfter job work) work
   pub credited : credits' ≡ cond (fits (creditTells job work credits) answer) (creditsAfter job (length work) credits) credits
+
+-- `heqdanu_price`
+pub record PriceTold (job : Job) (work : List ℕ) (t : Tables) (answer : List ℕ) (r : ℕ) (work' answer' : List ℕ) : Type 0 where
+  pub told : Told (priceTells job work t) answer r answer'
+  pub index : work' ≡ cond (fits (priceTells job work t) answer) (workAfter job work) work
+
+-- the side that it prices by: where the numbers do not fit, 0, which no list has
+abbrev pub sideFor : ℕ → ℕ → ℕ
+sideFor field places = cond (ltb places 5) 0 field
 
 -- `heqdanu_covers`
 pub record CoversTold (E : ℕ) (coords run : List ℕ) (i j k : ℕ) (answer : List ℕ) (r : ℕ) (answer' : List ℕ) : Type 0 where

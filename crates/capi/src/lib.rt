@@ -1,15 +1,21 @@
 // The calls for C and Rust: numbers and slices only. include/heqdanu.h describes them for their users.
 // Each answer goes, as numbers, into a lent slice whose length is checked: specs/Answered.antt. Stands on `capi_answers`, which puts the
-// numbers, and on `measure`, `measure_cells`, `section`, `crediting`, `grid_cover`, `shotfile_reader`, `shotfile_writer` and `vox`.
+// numbers, and on `measure`, `measure_cells`, `section`, `crediting`, `price`, `grid_cover`, `shotfile_reader`, `shotfile_writer` and `vox`.
 ghost use Rattle.job.specs.Job.{jobOf};
-ghost use Rattle.capi.specs.Answered.{IndexTold, MeasureTold, ListTold, CornersAtTold, CreditTold, CoversTold, ReadTold, VoxTold, WriteTold};
+ghost use mathlib.Core.Path.{_≡_};
+ghost use Rattle.price_charging.specs.Charging.{pricedNumbers};
+ghost use Rattle.capi_answers.specs.Places.{pricePlaces};
+ghost use Rattle.capi.specs.Answered.{Told, IndexTold, MeasureTold, ListTold, CornersAtTold, CreditTold, sideFor, PriceTold, CoversTold, ReadTold, VoxTold, WriteTold};
 use capi_answers::places::CORNERS_AT_ANSWER;
 use capi_answers::places::COVERS_ANSWER;
 use capi_answers::places::CREDIT_ANSWER;
 use capi_answers::places::INDEX_ANSWER;
 use capi_answers::places::MEASURE_ANSWER;
+use capi_answers::places::PRICE_ANSWER;
 use capi_answers::places::READ_ANSWER;
 use capi_answers::places::WRITE_ANSWER;
+use price_bands::Band;
+use price_charging::Priced;
 
 // Checks a list and puts its index into the work slice: see `measure_intake::indexed`.
 #[no_mangle]
@@ -129,6 +135,50 @@ pub extern "C" fn heqdanu_credit(
     let checked = crediting::credit(field, edge, grid, coords, work, credits);
     capi_answers::put_checked(answer, checked);
     1
+}
+
+// The side of a field where an answer has so many places; where these are too few, a side of 0, which is refused and changes nothing.
+fn side_for(field: u16, places: usize) -> u16
+    ensures { λ r. ⌜ r ≡ sideFor field places ⌝ }
+{
+    if places < PRICE_ANSWER {
+        return 0;
+    }
+    field
+}
+
+// Tells the numbers of a price where there is a place for each.
+fn tell_priced(answer: &mut [u64], priced: Priced) -> u8
+    ensures { λ r. ⌜ Told (pricePlaces (pricedNumbers priced)) (now (answer .entry)) r (now (answer .exit)) ⌝ }
+{
+    if answer.len() < PRICE_ANSWER {
+        return 0;
+    }
+    capi_answers::put_priced(answer, priced);
+    1
+}
+
+// Prices a list by three tables of bands: see `price::price`. The tables are slices of structs, so that this has no branch, and its proof is
+// written by hand, step by step.
+#[no_mangle]
+pub extern "C" fn heqdanu_price(
+    field: u16,
+    edge: u16,
+    grid: u16,
+    coords: &[u16],
+    work: &mut [u32],
+    volume: &[Band],
+    area: &[Band],
+    edges: &[Band],
+    answer: &mut [u64],
+) -> u8
+    ensures { λ r. ⌜ PriceTold (jobOf field edge grid (now (coords .entry))) (now (work .entry))
+        (record { volume = now (volume .entry); area = now (area .entry); edges = now (edges .entry) }) (now (answer .entry))
+        r (now (work .exit)) (now (answer .exit)) ⌝ }
+{
+    let side = side_for(field, answer.len());
+    let priced = price::price(side, edge, grid, coords, work, volume, area, edges);
+    tell_priced(answer, priced)
 }
 
 // Names the first shot of a run that covers the cell (i, j, k): see `grid_cover::first_covering`. 1 and the shot, or 0 and 0.

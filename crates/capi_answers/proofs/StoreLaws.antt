@@ -15,6 +15,9 @@ three-stored l a b c h = sets-eq (a ∷ b ∷ c ∷ []) l 0 h
 pub four-stored : (l : List ℕ) (a b c d : ℕ) → 4 ≤ length l → set (set (set (set l 0 a) 1 b) 2 c) 3 d ≡ inFront (a ∷ b ∷ c ∷ d ∷ []) l
 four-stored l a b c d h = sets-eq (a ∷ b ∷ c ∷ d ∷ []) l 0 h
 
+pub five-stored : (l : List ℕ) (a b c d e : ℕ) → 5 ≤ length l → set (set (set (set (set l 0 a) 1 b) 2 c) 3 d) 4 e ≡ inFront (a ∷ b ∷ c ∷ d ∷ e ∷ []) l
+five-stored l a b c d e h = sets-eq (a ∷ b ∷ c ∷ d ∷ e ∷ []) l 0 h
+
 pub six-stored : (l : List ℕ) (a b c d e f : ℕ) → 6 ≤ length l
     → set (set (set (set (set (set l 0 a) 1 b) 2 c) 3 d) 4 e) 5 f ≡ inFront (a ∷ b ∷ c ∷ d ∷ e ∷ f ∷ []) l
 six-stored l a b c d e f h = sets-eq (a ∷ b ∷ c ∷ d ∷ e ∷ f ∷ []) l 0 h

@@ -9,6 +9,7 @@ use Rattle.grid_cover.specs.declared.Covering.{Covering}
 use Rattle.grid_cover.specs.declared.Covering.the-variants.{Shot, Nothing}
 use Rattle.measure_intake.specs.Intake.{MeasuredNumbers}
 use Rattle.section.specs.declared.Places.{Places}
+use Rattle.price_charging.specs.Charging.{PricedNumbers}
 
 -- of the index: the refusal's number and detail, 0 and 0 where there is none
 abbrev pub indexPlaces : Numbers → List ℕ
@@ -17,6 +18,10 @@ indexPlaces n = n .number ∷ n .detail ∷ []
 -- of measuring: then the totals and the corner count, all 0 if refused
 abbrev pub measurePlaces : MeasuredNumbers → List ℕ
 measurePlaces n = n .number ∷ n .detail ∷ n .totals .volume ∷ n .totals .area ∷ n .totals .edge ∷ n .totals .inner ∷ n .totals .corners ∷ []
+
+-- of pricing: then the charges, all 0 if refused
+abbrev pub pricePlaces : PricedNumbers → List ℕ
+pricePlaces n = n .number ∷ n .detail ∷ n .charges .volume ∷ n .charges .area ∷ n .charges .edge ∷ []
 
 -- of the cover test: 1 and the shot that it names, or 0 and 0
 abbrev pub shotOf : Option ℕ → ℕ

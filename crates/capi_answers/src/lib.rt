@@ -11,11 +11,14 @@ ghost use Rattle.measure_intake.specs.Intake.{measuredNumbers};
 ghost use Rattle.buffer.specs.Wrote.{inFront};
 ghost use Rattle.shotfile_reader.specs.Calls.{readNumbers};
 ghost use Rattle.shotfile_writer.specs.Calls.{writtenNumbers};
-ghost use Rattle.capi_answers.specs.Places.{indexPlaces, measurePlaces, coverPlaces, namedBy, partPlaces};
+ghost use Rattle.price_charging.specs.Charging.{pricedNumbers};
+ghost use Rattle.capi_answers.specs.Places.{indexPlaces, measurePlaces, pricePlaces, coverPlaces, namedBy, partPlaces};
 use crate::places::AREA;
+use crate::places::AREA_CHARGE;
 use crate::places::CORNERS;
 use crate::places::COVERED;
 use crate::places::DETAIL;
+use crate::places::EDGE_CHARGE;
 use crate::places::EDGE_LENGTH;
 use crate::places::INNER_LENGTH;
 use crate::places::NUMBER;
@@ -27,10 +30,13 @@ use crate::places::READ_GRID;
 use crate::places::READ_SHOTS;
 use crate::places::SHOT;
 use crate::places::VOLUME;
+use crate::places::VOLUME_CHARGE;
 use crate::places::WRITE_BYTES;
 use grid_cover::Covering;
 use lattice_sums::sums::Totals;
 use measure_intake::Measured;
+use price_charging::Charges;
+use price_charging::Priced;
 use refusals::Checked;
 use refusals::notice_of;
 use section::Places;
@@ -98,6 +104,17 @@ fn put_length(answer: &mut [u64], number: u8, detail: usize, bytes: usize)
     answer[WRITE_BYTES] = bytes as u64;
 }
 
+fn put_charges(answer: &mut [u64], number: u8, detail: usize, c: Charges)
+    requires { ⌜ 5 ≤ length (now answer) ⌝ }
+    ensures { λ _. ⌜ now (answer .exit) ≡ inFront (number ∷ detail ∷ c .volume ∷ c .area ∷ c .edge ∷ []) (now (answer .entry)) ⌝ }
+{
+    answer[NUMBER] = number as u64;
+    answer[DETAIL] = detail as u64;
+    answer[VOLUME_CHARGE] = c.volume;
+    answer[AREA_CHARGE] = c.area;
+    answer[EDGE_CHARGE] = c.edge;
+}
+
 // ---- by the answer: a refusal has its number and detail, with all others 0
 
 pub fn put_checked(answer: &mut [u64], checked: Checked)
@@ -149,6 +166,24 @@ pub fn put_measured(answer: &mut [u64], measured: Measured)
         Measured::Refused(r) => {
             let told = notice_of(r);
             put_totals(answer, told.number, told.detail, none)
+        }
+    }
+}
+
+pub fn put_priced(answer: &mut [u64], priced: Priced)
+    requires { ⌜ 5 ≤ length (now answer) ⌝ }
+    ensures { λ _. ⌜ now (answer .exit) ≡ inFront (pricePlaces (pricedNumbers priced)) (now (answer .entry)) ⌝ }
+{
+    let none = Charges {
+        volume: 0,
+        area: 0,
+        edge: 0,
+    };
+    match priced {
+        Priced::Charged(c) => put_charges(answer, 0, 0, c),
+        Priced::Refused(r) => {
+            let told = notice_of(r);
+            put_charges(answer, told.number, told.detail, none)
         }
     }
 }

@@ -32,6 +32,15 @@ pub const INDEX_ANSWER: usize = 2;
 // Crediting.
 pub const CREDIT_ANSWER: usize = 2;
 
+// Pricing, in cents.
+pub const VOLUME_CHARGE: usize = 2;
+
+pub const AREA_CHARGE: usize = 3;
+
+pub const EDGE_CHARGE: usize = 4;
+
+pub const PRICE_ANSWER: usize = 5;
+
 // The cover test: 1 and the shot, or 0 and 0.
 pub const COVERED: usize = 0;
 
