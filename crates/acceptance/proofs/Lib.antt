@@ -7,4 +7,5 @@ pub mod Requests  -- voxels, credits, lengths
 pub mod SectionLaws  -- the part of a listing at one x, and what a reader meets in it
 pub mod SectionParts  -- the parts of one x after another
 pub mod ShortestFiles  -- only the shortest file, and two files
+pub mod PriceSentences  -- price bands: the check, the lookup and the price call
 pub mod Numbers  -- sizes of numbers

@@ -23,6 +23,11 @@ use Rattle.measure_intake.specs.declared.Measured.{Measured}
 use Rattle.measure_intake.specs.declared.Measured.the-variants.{Quote, Refused as Unmeasured}
 use Rattle.measure.specs.Answers.{listNumbers, ListAccepts, ListRefuses}
 use Rattle.crediting.specs.Credits.{creditsOf, creditTests, CreditAccepts, CreditRefuses}
+use Rattle.price_charging.specs.Charging.{Tables, pricedNumbers}
+use Rattle.price_charging.specs.declared.Charges.{Charges}
+use Rattle.price_charging.specs.declared.Priced.{Priced}
+use Rattle.price_charging.specs.declared.Priced.the-variants.{Charged, Refused as Unpriced}
+use Rattle.price.specs.Price.{priceNumbers, PriceAccepts, PriceRefuses}
 use Rattle.shotfile_reader.specs.Files.{file, fileIn}
 use Rattle.shotfile_reader.specs.Calls.{readNumbers, readValues}
 use Rattle.shotfile_reader.specs.Conditions.{FirstFault, Faultless}
@@ -87,6 +92,16 @@ pub record CreditAnswered (job : Job) (work credits : List ℕ) (r : Checked) (w
   -- the credit slice: the credits in front, or as it was
   pub stores : CreditAccepts job (length work) (length credits) → credits' ≡ inFront (creditsOf job.field job.edge job.coords) credits
   pub keeps : (q : Refusal) → CreditRefuses job (length work) (length credits) q → credits' ≡ credits
+
+-- pricing: 18 leaves the finished index; `price` of prices promises it
+pub record PriceAnswered (job : Job) (work : List ℕ) (t : Tables) (r : Priced) (work' : List ℕ) : Type 0 where
+  -- charges are given exactly if the list is valid, the work slice has what is needed and the three tables are valid
+  pub accepts : ((c : Charges) × (r ≡ Charged c)) ↔ PriceAccepts job (length work) t
+  pub refuses : (q : Refusal) → (r ≡ Unpriced q) ↔ PriceRefuses job (length work) t q
+  -- the refusal's number and detail with zeros, or zeros with the charges
+  pub numbers : pricedNumbers r ≡ priceNumbers job (length work) t
+  pub index-stored : MeasureAccepts job (length work) → work' ≡ inFront (indexOf job) work
+  pub index-kept : (q : Refusal) → MeasureRefuses job (length work) q → work' ≡ work
 
 -- ---- files
 -- writing

@@ -9,3 +9,4 @@ pub mod Lengths
 pub mod Sections
 pub mod ShortestFiles
 pub mod Comparing
+pub mod Prices

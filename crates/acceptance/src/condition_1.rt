@@ -1,5 +1,5 @@
 // Condition 1: handed any numbers, bytes and slices, a call accepts or names its refusal from the published list, exactly where that
-// refusal's condition is the first to hold, and leaves each lent buffer in the stated state.
+// refusal's condition is the first to hold, and leaves each lent buffer in the stated state. That of pricing is `price` of prices.
 ghost use Rattle.job.specs.Job.{jobOf};
 ghost use Rattle.acceptance.specs.Condition1.{CheckAnswered, IndexAnswered, MeasureAnswered, ListAnswered, CreditAnswered, WriteAnswered, ReadAnswered, VoxAnswered};
 use measure_intake::Measured;
