@@ -1,9 +1,10 @@
 /* heqdanu.h: cube-shot quotes for C and C++.
  *
- * The calls measure a union of equal axis-aligned cubes ("shots") on a whole-number lattice, list its corner points,
- * find the corners at one x in such a listing, credit its cells to the shots that cure them, file the shots in a grid
- * index, name the first of some shots that covers a unit cell, read and write shot files, and read the VOX files of a
- * voxel editor. They live in target/staticlib/libcapi.a, which `rt staticlib capi` proves and writes:
+ * The calls measure a union of equal axis-aligned cubes ("shots") on a whole-number lattice, price it by the tables of
+ * a shop, list its corner points, find the corners at one x in such a listing, credit its cells to the shots that cure
+ * them, file the shots in a grid index, name the first of some shots that covers a unit cell, read and write shot
+ * files, and read the VOX files of a voxel editor. They live in target/staticlib/libcapi.a, which `rt staticlib capi`
+ * proves and writes:
  *
  *     cc program.c -Iinclude target/staticlib/libcapi.a -o program
  *
@@ -24,10 +25,11 @@
  * allocates memory, keeps a pointer, or touches a place outside the buffers. Calls from several threads are fine as
  * long as they share no buffer that one of them writes.
  *
- * STACK: heqdanu_measure and heqdanu_list take less than 577 KiB. 337 KiB of it they take in every field; the rest is
- * 480 bytes for each step of edge, or of field - edge where that is less, since they nest. heqdanu_credit takes what
- * stands there, and every other call less than 82 KiB. A thread that calls them needs a stack of that size: a call
- * overruns a shorter one, and the process ends by a fault. bench/stack measures these sizes; they are not proved.
+ * STACK: heqdanu_measure, heqdanu_price and heqdanu_list take less than 577 KiB. 337 KiB of it they take in every
+ * field; the rest is 480 bytes for each step of edge, or of field - edge where that is less, since they nest.
+ * heqdanu_credit takes what stands there, and every other call less than 82 KiB. A thread that calls them needs a stack
+ * of that size: a call overruns a shorter one, and the process ends by a fault. bench/stack measures these sizes; they
+ * are not proved.
  *
  * ANSWERS go to `answer`, so many places of 64 bits as the call needs; HEQDANU_ANSWER are enough for every call:
  *
@@ -93,7 +95,9 @@ enum {
     /* the credit slice has fewer places than there are shots; the number of shots */
     HEQDANU_SHORT_CREDITS = 16,
     /* a field of a map says what its absence would mean; offset of that map */
-    HEQDANU_NEEDLESS_FIELD = 17
+    HEQDANU_NEEDLESS_FIELD = 17,
+    /* a price table has more than 64 bands, a faulty band, or not the top; 64, the first faulty band, or the number of bands */
+    HEQDANU_INVALID_TABLE = 18
 };
 /* the refusals end */
 
@@ -109,6 +113,11 @@ enum {
     HEQDANU_INNER_LENGTH = 5,
     HEQDANU_CORNERS = 6,
     HEQDANU_MEASURE_ANSWER = 7,
+    /* heqdanu_price */
+    HEQDANU_VOLUME_CHARGE = 2,
+    HEQDANU_AREA_CHARGE = 3,
+    HEQDANU_EDGE_CHARGE = 4,
+    HEQDANU_PRICE_ANSWER = 5,
     /* heqdanu_corners_at */
     HEQDANU_PART_FIRST = 2,
     HEQDANU_PART_END = 3,
@@ -137,6 +146,16 @@ enum {
 /* Bytes of a listing's record: x, y, z in 16 bits each, least byte first, then the pattern byte. */
 #define HEQDANU_RECORD 7
 
+/* A band of a price table: the amounts from first to last, both included, cost so many cents for each unit. */
+typedef struct heqdanu_band {
+    uint64_t first, last, cents;
+} heqdanu_band;
+
+/* The most bands of a table, the amount at which its last band ends, and the highest rate, in cents for each unit. */
+#define HEQDANU_MOST_BANDS 64
+#define HEQDANU_TOP_AMOUNT UINT64_C(1099511627776)
+#define HEQDANU_HIGHEST_RATE 10000
+
 /* Measures a list.
  *
  * answer: number, detail, volume (covered unit cells), area (unit squares with one of their two cells covered), edge
@@ -154,6 +173,28 @@ enum {
  */
 uint8_t heqdanu_measure(uint16_t field, uint16_t edge, uint16_t grid, const uint16_t *coords, size_t ncoords,
                         uint32_t *work, size_t nwork, uint64_t *answer, size_t nanswer);
+
+/* Measures a list and prices it by the tables of a shop.
+ *
+ * answer: number, detail, charge of the volume, of the area, of the edge length, in cents (HEQDANU_PRICE_ANSWER
+ * places). The inner length has no price.
+ *
+ * `volume`, `area` and `edges` are the tables, each of at most HEQDANU_MOST_BANDS bands, which run from 0 to exactly
+ * HEQDANU_TOP_AMOUNT without gap or overlap: the first starts at 0 and each other one past the end of the band before,
+ * none ends before its start, and the last ends at the top. A rate is at most HEQDANU_HIGHEST_RATE cents for each unit.
+ * A charge is the whole amount times the rate of the one band that holds the amount.
+ *
+ * `work` is as for heqdanu_measure.
+ *
+ * Refusals: 1, 2, 6, 7, 8, 9, 10, 18. 18 tests the table of the volume, then that of the area, then that of the edge
+ * length, and does not say which it was. Its detail is 64 for a table of more than 64 bands, whatever they hold; else
+ * the first faulty band, counted from 0, as one after the top is; else the number of bands, where the top is missing.
+ * After success and after refusal 18 `work` is as after heqdanu_measure. After any other refusal it is as it was.
+ */
+uint8_t heqdanu_price(uint16_t field, uint16_t edge, uint16_t grid, const uint16_t *coords, size_t ncoords,
+                      uint32_t *work, size_t nwork, const heqdanu_band *volume, size_t nvolume,
+                      const heqdanu_band *area, size_t narea, const heqdanu_band *edges, size_t nedges,
+                      uint64_t *answer, size_t nanswer);
 
 /* Measures a list and lists its corner points.
  *

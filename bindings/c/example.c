@@ -1,5 +1,5 @@
-/* Two overlapping cubes, measured, listed, their corners at one x found in the listing, their cells credited, written as
- * a shot file and read back; then a VOX file of two voxels, read and measured.
+/* Two overlapping cubes, measured, priced, listed, their corners at one x found in the listing, their cells credited,
+ * written as a shot file and read back; then a VOX file of two voxels, read and measured.
  *
  *     cc example.c -I../../include ../../target/staticlib/libcapi.a -o example
  */
@@ -16,6 +16,10 @@ static const uint8_t vox[] = {
     'S', 'I', 'Z', 'E', 12, 0, 0, 0, 0, 0, 0, 0, 2, 0, 0, 0, 1, 0, 0, 0, 3, 0, 0, 0,
     'X', 'Y', 'Z', 'I', 12, 0, 0, 0, 0, 0, 0, 0, 2, 0, 0, 0, 1, 0, 2, 1, 0, 0, 0, 255
 };
+
+/* The tables of a shop: amounts up to 15 cost more for each unit than larger ones, but edge length costs the same. */
+static const heqdanu_band banded[] = {{0, 15, 20}, {16, HEQDANU_TOP_AMOUNT, 5}};
+static const heqdanu_band flat[] = {{0, HEQDANU_TOP_AMOUNT, 3}};
 
 /* Ends the program unless the call wrote its answer and accepted. */
 static void expect(const char *call, uint8_t written, const uint64_t *answer)
@@ -72,6 +76,20 @@ int main(void)
 
     expect("measure", heqdanu_measure(field, edge, grid, coords, 6, work, nwork, answer, HEQDANU_ANSWER), answer);
     print_figures(answer, "\n");
+
+    /* Each amount as a whole costs what its band says. */
+    expect("price",
+           heqdanu_price(field, edge, grid, coords, 6, work, nwork, banded, 2, banded, 2, flat, 1, answer,
+                         HEQDANU_PRICE_ANSWER),
+           answer);
+    printf("charges in cents: volume %" PRIu64 ", area %" PRIu64 ", edge %" PRIu64 "\n", answer[HEQDANU_VOLUME_CHARGE],
+           answer[HEQDANU_AREA_CHARGE], answer[HEQDANU_EDGE_CHARGE]);
+
+    /* A table that does not start at 0 is refused, and its first band is the faulty one. */
+    heqdanu_price(field, edge, grid, coords, 6, work, nwork, banded, 2, banded + 1, 1, flat, 1, answer,
+                  HEQDANU_PRICE_ANSWER);
+    printf("a table without its first band: %s, band %" PRIu64 "\n",
+           answer[HEQDANU_NUMBER] == HEQDANU_INVALID_TABLE ? "refused" : "accepted", answer[HEQDANU_DETAIL]);
 
     uint8_t listing[20 * HEQDANU_RECORD];
     expect("list",

@@ -1,15 +1,16 @@
 //! Cube-shot quotes: volume, area, edge length, inner length and corner points of a union of equal axis-aligned cubes
-//! ("shots") on a whole-number lattice, its corners at one x, how many cells each shot cures, the shot files that hold
-//! such lists, and the VOX files of a voxel editor.
+//! ("shots") on a whole-number lattice, what a shop charges for them, its corners at one x, how many cells each shot
+//! cures, the shot files that hold such lists, and the VOX files of a voxel editor.
 //!
 //! The work is done by the proved library `libcapi.a`; this crate turns its calls into safe functions. [`measure`],
-//! [`list`], [`corners_at`], [`recount`], [`index`], [`credit`], [`first_covering`], [`read`], [`read_vox`] and
-//! [`write`] use buffers that the caller lends and allocate nothing; [`quote`], [`corners`], [`credits`],
-//! [`from_file`], [`from_vox`] and [`to_file`] allocate what they need.
+//! [`price`], [`list`], [`corners_at`], [`recount`], [`index`], [`credit`], [`first_covering`], [`read`],
+//! [`read_vox`] and [`write`] use buffers that the caller lends and allocate nothing; [`quote`], [`charges`],
+//! [`corners`], [`credits`], [`from_file`], [`from_vox`] and [`to_file`] allocate what they need.
 //!
-//! **Stack.** Measuring, listing and crediting nest, and take less than 577 KiB of the calling thread's stack; every
-//! other call takes less than 82 KiB. `include/heqdanu.h` says how much by the list. The standard library's threads
-//! have 2 MiB; in a thread that was made with less than a call takes, the process aborts, though the call is safe.
+//! **Stack.** Measuring, pricing, listing and crediting nest, and take less than 577 KiB of the calling thread's stack;
+//! every other call takes less than 82 KiB. `include/heqdanu.h` says how much by the list. The standard library's
+//! threads have 2 MiB; in a thread that was made with less than a call takes, the process aborts, though the call is
+//! safe.
 //!
 //! ```
 //! use heqdanu::{quote, List, Totals};
@@ -20,9 +21,11 @@
 
 #![warn(missing_docs)]
 
+mod prices;
 pub mod raw;
 mod refusal;
 
+pub use prices::{charges, price, Band, Charges, Tables, HIGHEST_RATE, MOST_BANDS, TOP_AMOUNT};
 pub use refusal::{Reason, Refusal};
 
 /// The most numbers that the coordinates of a list may have: 4,096 shots.

@@ -1,5 +1,7 @@
 //! The calls as the archive has them. `include/heqdanu.h` says what each does with its buffers.
 
+use crate::Band;
+
 /// The calls that take a list and leave its index in a work slice: `heqdanu_measure`, `heqdanu_recount` and
 /// `heqdanu_index`.
 pub type Indexing = unsafe extern "C" fn(u16, u16, u16, *const u16, usize, *mut u32, usize, *mut u64, usize) -> u8;
@@ -22,6 +24,24 @@ extern "C" {
         ncoords: usize,
         work: *mut u32,
         nwork: usize,
+        answer: *mut u64,
+        nanswer: usize,
+    ) -> u8;
+
+    pub fn heqdanu_price(
+        field: u16,
+        edge: u16,
+        grid: u16,
+        coords: *const u16,
+        ncoords: usize,
+        work: *mut u32,
+        nwork: usize,
+        volume: *const Band,
+        nvolume: usize,
+        area: *const Band,
+        narea: usize,
+        edges: *const Band,
+        nedges: usize,
         answer: *mut u64,
         nanswer: usize,
     ) -> u8;

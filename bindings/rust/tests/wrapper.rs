@@ -1,9 +1,10 @@
-//! The wrapper on the request's examples: totals, corners, those at one x, credits, files, and each refusal that a caller
-//! can meet.
+//! The wrapper on the request's examples: totals, charges, corners, those at one x, credits, files, and each refusal that
+//! a caller can meet.
 
 use heqdanu::{
-    corners, corners_at, credit, credits, first_covering, from_file, from_vox, index, list, measure, quote, read,
-    read_vox, records, recount, to_file, work_needed, write, Corner, Header, List, Reason, Refusal, Totals, RECORD,
+    charges, corners, corners_at, credit, credits, first_covering, from_file, from_vox, index, list, measure, price,
+    quote, read, read_vox, records, recount, to_file, work_needed, write, Band, Charges, Corner, Header, List, Reason,
+    Refusal, Tables, Totals, HIGHEST_RATE, MOST_BANDS, RECORD, TOP_AMOUNT,
 };
 
 const TWO: List = List { field: 8, edge: 2, grid: 2, coords: &[0, 0, 0, 1, 1, 1] };
@@ -194,6 +195,130 @@ fn cells_credited_to_shots() {
     assert_eq!((work, credits), (indexed, [9]));
 }
 
+/// Bands with these last amounts and rates, from 0 on without gap or overlap.
+fn bands(ends: &[(u64, u64)]) -> Vec<Band> {
+    let firsts = std::iter::once(0).chain(ends.iter().map(|(last, _)| last + 1));
+    firsts.zip(ends).map(|(first, &(last, cents))| Band { first, last, cents }).collect()
+}
+
+/// So many bands of one amount each, and one from there to the top.
+fn many(bands_before: u64) -> Vec<Band> {
+    let ends: Vec<(u64, u64)> = (0..bands_before).map(|last| (last, last)).chain([(TOP_AMOUNT, 7)]).collect();
+    bands(&ends)
+}
+
+/// All amounts in one band, for nothing.
+const FREE: [Band; 1] = [Band { first: 0, last: TOP_AMOUNT, cents: 0 }];
+
+/// What `heqdanu.h` has: three numbers of 64 bits one after another.
+#[test]
+fn a_band_in_memory() {
+    assert_eq!((size_of::<Band>(), align_of::<Band>()), (24, 8));
+    let band = Band { first: 1, last: 2, cents: 3 };
+    // SAFETY: the three numbers of a band are those of an array, as the size above has it.
+    assert_eq!(unsafe { std::mem::transmute::<Band, [u64; 3]>(band) }, [1, 2, 3]);
+    assert_eq!((MOST_BANDS, TOP_AMOUNT, HIGHEST_RATE), (64, 1 << 40, 10_000));
+}
+
+#[test]
+fn charges_of_whole_amounts() {
+    let tables = [bands(&[(14, 9), (15, 20), (TOP_AMOUNT, 1)]), bands(&[(41, 9), (TOP_AMOUNT, 10_000)]), many(43)];
+    let tables = Tables { volume: &tables[0], area: &tables[1], edges: &tables[2] };
+    // 15 is the last amount of its band and 42 the first of its; 42 has a band of its own in the third table.
+    let expected = Charges { volume: 15 * 20, area: 42 * 10_000, edge: 42 * 42 };
+    assert_eq!(charges(&TWO, &tables), Ok(expected));
+    assert_eq!(charges(&List { grid: 4, coords: &[1, 1, 1, 0, 0, 0], ..TWO }, &tables), Ok(expected));
+    let mut work = [5; 12];
+    assert_eq!(price(&TWO, &mut work, &tables), Ok(expected));
+    assert_eq!(work, [0, 2, 2, 2, 2, 2, 2, 2, 2, 0, 1, 5]);
+    // An amount of 0 costs nothing, and charges of more than 32 bits fit.
+    let none = List { coords: &[], ..TWO };
+    assert_eq!(charges(&none, &tables), Ok(Charges { volume: 0, area: 0, edge: 0 }));
+    let large = List { field: 256, edge: 256, grid: 1, coords: &[0, 0, 0] };
+    let dear = bands(&[(TOP_AMOUNT, HIGHEST_RATE)]);
+    let expected = Charges { volume: 167_772_160_000, area: 3_932_160_000, edge: 30_720_000 };
+    assert_eq!(charges(&large, &Tables { volume: &dear, area: &dear, edges: &dear }), Ok(expected));
+    // 64 bands are not too many, and the three tables may be one slice.
+    let most = many(63);
+    let expected = Charges { volume: 225, area: 1764, edge: 1764 };
+    assert_eq!(charges(&TWO, &Tables { volume: &most, area: &most, edges: &most }), Ok(expected));
+}
+
+/// Tables that are refused, with the detail.
+fn faulty() -> Vec<(Vec<Band>, u64)> {
+    let with = |place: usize, band: Band| {
+        let mut bands = bands(&[(9, 3), (19, 2), (TOP_AMOUNT, 1)]);
+        bands[place] = band;
+        bands
+    };
+    vec![
+        (vec![], 0),
+        (bands(&[(TOP_AMOUNT - 1, 1)]), 1),
+        (bands(&[(9, 3), (19, 2)]), 2),
+        (bands(&[(TOP_AMOUNT + 1, 1)]), 0),
+        (vec![Band { first: 1, last: TOP_AMOUNT, cents: 1 }], 0),
+        (with(0, Band { first: 0, last: 9, cents: 10_001 }), 0),
+        (with(1, Band { first: 9, last: 19, cents: 2 }), 1),
+        (with(1, Band { first: 11, last: 19, cents: 2 }), 1),
+        (with(1, Band { first: 10, last: 9, cents: 2 }), 1),
+        (with(1, Band { first: 10, last: 18, cents: 2 }), 2),
+        (with(2, Band { first: 20, last: TOP_AMOUNT + 1, cents: 1 }), 2),
+        (with(2, Band { first: 20, last: u64::MAX, cents: 1 }), 2),
+        (with(2, Band { first: 20, last: TOP_AMOUNT, cents: u64::MAX }), 2),
+        // A band after the top is faulty, whatever it holds.
+        (bands(&[(9, 3), (TOP_AMOUNT, 1), (TOP_AMOUNT + 1, 1)]), 2),
+        ([FREE, FREE].concat(), 1),
+        // 64 good bands without the top, and one band too many.
+        (bands(&(0..64).map(|last| (last, 1)).collect::<Vec<_>>()), 64),
+        (many(64), 64),
+        (vec![Band { first: 5, last: 3, cents: u64::MAX }; 65], 64),
+    ]
+}
+
+#[test]
+fn tables_that_are_refused() {
+    let indexed = [0, 2, 2, 2, 2, 2, 2, 2, 2, 0, 1, 5];
+    let free = Tables { volume: &FREE, area: &FREE, edges: &FREE };
+    assert_eq!(charges(&TWO, &free), Ok(Charges { volume: 0, area: 0, edge: 0 }));
+    for (table, detail) in faulty() {
+        let other = [Band { first: 0, last: 0, cents: 0 }; 40];
+        for tables in [
+            Tables { volume: &table, ..free },
+            Tables { area: &table, ..free },
+            Tables { edges: &table, ..free },
+            // The first faulty table decides: volume, area, edges.
+            Tables { volume: &table, area: &other, edges: &other },
+            Tables { area: &table, edges: &other, ..free },
+        ] {
+            let mut work = [5; 12];
+            assert_eq!(price(&TWO, &mut work, &tables), refused(Reason::InvalidTable, detail), "{table:?}");
+            assert_eq!(work, indexed, "{table:?}");
+            assert_eq!(charges(&TWO, &tables), refused(Reason::InvalidTable, detail), "{table:?}");
+        }
+    }
+}
+
+/// What measuring refuses is refused first, whatever the tables hold, and leaves the work slice.
+#[test]
+fn measuring_refuses_before_the_tables() {
+    let nothing = Tables { volume: &[], area: &[], edges: &[] };
+    for (list, reason, detail) in [
+        (List { coords: &[1, 2], ..TWO }, Reason::BrokenShot, 0),
+        (List { coords: &[0; 12_291], ..TWO }, Reason::TooManyShots, 0),
+        (List { field: 1025, ..TWO }, Reason::FieldRange, 0),
+        (List { edge: 9, ..TWO }, Reason::EdgeRange, 0),
+        (List { grid: 3, ..TWO }, Reason::GridRange, 0),
+        (List { coords: &[6, 6, 6, 7, 6, 6], ..TWO }, Reason::OutsideField, 1),
+        (List { coords: &[2, 2, 2], ..TWO }, Reason::ShortWork, 17),
+    ] {
+        let mut work = [5; 16];
+        assert_eq!(price(&list, &mut work, &nothing), refused(reason, detail));
+        assert_eq!(work, [5; 16]);
+        let expected = if reason == Reason::ShortWork { (Reason::InvalidTable, 0) } else { (reason, detail) };
+        assert_eq!(charges(&list, &nothing), refused(expected.0, expected.1));
+    }
+}
+
 #[test]
 fn refusals() {
     assert_eq!(quote(&List { coords: &[1, 2], ..TWO }), refused(Reason::BrokenShot, 0));
@@ -279,4 +404,10 @@ fn a_refusal_in_words() {
     let refusal = from_file(&[0, 0, 1, 0, 0]).unwrap_err();
     assert_eq!(refusal.to_string(), "a field says what its absence would mean, in the record at byte 2");
     assert_eq!(Reason::NeedlessField.number(), 17);
+    let refusal = charges(&TWO, &Tables { volume: &FREE, area: &FREE, edges: &[] }).unwrap_err();
+    assert_eq!(
+        refusal.to_string(),
+        "a price table has a faulty band, no top, or more than 64 bands, the detail being 0"
+    );
+    assert_eq!(Reason::InvalidTable.number(), 18);
 }
