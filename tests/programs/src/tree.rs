@@ -1,4 +1,5 @@
-//! The command `heqdanu` in a folder of its own, whose name has a space, with a stand-in for `rt` on the path.
+//! The command `heqdanu` in a folder of its own, whose name has a space, with a stand-in for `rt` on the path, and one
+//! for Cargo where a test puts it there.
 
 use crate::run::program;
 use std::fs;
@@ -10,13 +11,16 @@ use std::sync::atomic::{AtomicUsize, Ordering};
 use std::sync::{Mutex, MutexGuard};
 
 /// The commands that run a program of the same name.
-pub const PROGRAMS: [&str; 9] =
-    ["quote", "quote_vox", "recount", "shots", "write_shots", "vox_shots", "listing", "corners_at", "credits"];
+pub const PROGRAMS: [&str; 10] =
+    ["quote", "quote_vox", "recount", "price", "shots", "write_shots", "vox_shots", "listing", "corners_at", "credits"];
+/// The one of them that Cargo builds from the proved library; the others are crates.
+pub const LINKED: &str = "price";
 /// All commands.
-pub const COMMANDS: [&str; 11] = [
+pub const COMMANDS: [&str; 12] = [
     "quote",
     "quote_vox",
     "recount",
+    "price",
     "shots",
     "write_shots",
     "vox_shots",
@@ -29,10 +33,11 @@ pub const COMMANDS: [&str; 11] = [
 /// A stand-in for `rt` that must not be called; `Tree::built` says whether it was.
 pub const NEVER: &str = "echo 'rt: called'; exit 1";
 
-/// A command with the words that it needs before its files: `corners_at` has an x.
+/// A command with the words that it needs before its files: `corners_at` has an x, `price` its tables.
 pub fn before_files(command: &str) -> &str {
     match command {
         "corners_at" => "corners_at 0",
+        "price" => "price \"$TREE/examples/tables.txt\"",
         _ => command,
     }
 }
@@ -107,11 +112,18 @@ impl Tree {
         let number = NUMBER.fetch_add(1, Ordering::Relaxed);
         let folder = std::env::temp_dir().join(format!("heqdanu-tree-{}-{number}", std::process::id()));
         let tree = Tree { folder };
-        for part in ["bin", "scratch", "a tree/crates/quote/src", "elsewhere"] {
+        for part in ["bin", "scratch", "elsewhere", "a tree/crates/quote/src", "a tree/examples"] {
             fs::create_dir_all(tree.folder.join(part)).expect("the tree is made");
         }
+        let bindings = tree.root().join("bindings/rust");
+        for part in ["src", "examples/price"] {
+            fs::create_dir_all(bindings.join(part)).expect("the tree is made");
+        }
+        for part in ["build.rs", "Cargo.toml", "Cargo.lock"] {
+            fs::write(bindings.join(part), "").expect("the tree is made");
+        }
         let copying = alone();
-        for part in ["heqdanu", "test", "VERSION", "crates.txt", "scripts"] {
+        for part in ["heqdanu", "test", "VERSION", "crates.txt", "scripts", "examples/tables.txt"] {
             copy(&repository().join(part), &tree.root().join(part));
         }
         drop(copying);
@@ -148,13 +160,15 @@ impl Tree {
         write_program(&path, &format!("#!/bin/sh\n{shell}\n"));
     }
 
-    /// Puts a program with its stamp, as rt leaves them.
+    /// Puts a program with its stamp, as rt leaves them, or with the library that Cargo builds it from.
     fn put_program(&self, name: &str, put: impl FnOnce(&Path)) {
-        for folder in ["bin", "stamp"] {
-            fs::create_dir_all(self.root().join("target").join(folder)).expect("target is made");
+        let target = self.root().join("target");
+        for folder in ["bin", "stamp", "staticlib"] {
+            fs::create_dir_all(target.join(folder)).expect("target is made");
         }
-        put(&self.root().join("target/bin").join(name));
-        fs::write(self.root().join("target/stamp").join(name), "").expect("the stamp is written");
+        let witness = if name == LINKED { target.join("staticlib/libcapi.a") } else { target.join("stamp").join(name) };
+        fs::write(witness, "").expect("the stamp or the library is written");
+        put(&target.join("bin").join(name));
     }
 
     /// Puts a stand-in for a tool on the path, before the others.

@@ -1,9 +1,9 @@
 //! The files in examples/: what each is made of, and the quote that README gives it. An accepted shot file is what
 //! `write_shots` makes of the text here, as in
 //! `printf 'field 8\nedge 2\ngrid 2\nshot 1 1 1\n' | ./heqdanu write_shots >examples/one_cube.shots`; the VOX file is what the
-//! script beside it writes.
+//! script beside it writes; the tables of a shop put two amounts of an example at the ends of their bands.
 
-use programs::run::on;
+use programs::run::{given, on};
 use std::collections::BTreeSet;
 use std::fs;
 use std::path::PathBuf;
@@ -79,13 +79,35 @@ fn the_arch_of_voxels() {
 }
 
 #[test]
+fn the_tables_of_a_shop() {
+    let path = folder().join("tables.txt");
+    let text = fs::read_to_string(&path).expect("the tables are there");
+    // The overlapping cubes: volume 15, area 42, edge length 42.
+    for line in ["volume 0 15 20", "area 42 999 6", "edge 10 99 3"] {
+        assert!(text.lines().any(|known| known == line), "{line}");
+    }
+    for name in ["volume", "area", "edge"] {
+        assert!(text.lines().filter(|line| line.starts_with(name)).count() > 1, "{name}");
+    }
+    let words = [path.to_str().expect("a name")];
+    for (name, charges) in [("overlap", [300, 252, 126]), ("shell", [312, 360, 108]), ("one_cube", [160, 192, 72])] {
+        let file = example(name);
+        let [volume, area, edge] = charges;
+        let told = given("price", &words, &file, file.len());
+        assert_eq!(told.text(), format!("volume {volume}\narea {area}\nedge {edge}\n"), "{name}");
+        assert_eq!(told.complaint, "");
+    }
+}
+
+#[test]
 fn no_other_file_is_there() {
     let there: BTreeSet<String> = fs::read_dir(folder())
         .expect("the examples are there")
         .map(|entry| entry.expect("an example").file_name().to_string_lossy().into_owned())
         .collect();
     let shots = ACCEPTED.iter().map(|(name, ..)| *name).chain(["shell", "cut_off", "outside", "no_grid", "needless"]);
-    let known =
-        shots.map(|name| format!("{name}.shots")).chain(["arch.vox", "make_arch", "audit.py"].map(String::from));
+    let known = shots
+        .map(|name| format!("{name}.shots"))
+        .chain(["arch.vox", "make_arch", "audit.py", "tables.txt"].map(String::from));
     assert_eq!(there, known.collect());
 }

@@ -1,7 +1,7 @@
 //! The command as a whole: its list of commands, its help and version, words that are no command, and how it runs where
 //! it is installed.
 
-use programs::tree::{repository, Tree, COMMANDS, NEVER, PROGRAMS};
+use programs::tree::{repository, Tree, COMMANDS, LINKED, NEVER, PROGRAMS};
 use std::collections::BTreeSet;
 use std::fs;
 
@@ -30,15 +30,15 @@ fn a_list_in_groups_with_a_line_each() {
 #[test]
 fn a_command_to_come() {
     let tree = Tree::standing_in("echo volume 8");
-    let text = "group=Prices\nbrief='what a part costs'\ntakes='[FILE]...'\nform=lines\nabout='Prices a part.'\n";
-    fs::write(tree.root().join("scripts/commands/price"), text).expect("the command is written");
-    assert!(tree.shell("heqdanu", &[]).text().contains("\n\nPrices\n  price        what a part costs\n"));
+    let text = "group=Loads\nbrief='what a part weighs'\ntakes='[FILE]...'\nform=lines\nabout='Weighs a part.'\n";
+    fs::write(tree.root().join("scripts/commands/weigh"), text).expect("the command is written");
+    assert!(tree.shell("heqdanu", &[]).text().contains("\n\nLoads\n  weigh        what a part weighs\n"));
     assert!(tree
-        .shell("heqdanu help price", &[])
+        .shell("heqdanu help weigh", &[])
         .text()
-        .starts_with("usage: heqdanu price [FILE]...\n\nPrices a part.\n"));
-    tree.shell("cp \"$TREE/target/bin/quote\" \"$TREE/target/bin/price\"; touch \"$TREE/target/stamp/price\"", &[]);
-    tree.shell("heqdanu price", &[]).is("volume 8\n", "", 0);
+        .starts_with("usage: heqdanu weigh [FILE]...\n\nWeighs a part.\n"));
+    tree.shell("cp \"$TREE/target/bin/quote\" \"$TREE/target/bin/weigh\"; touch \"$TREE/target/stamp/weigh\"", &[]);
+    tree.shell("heqdanu weigh", &[]).is("volume 8\n", "", 0);
 }
 
 #[test]
@@ -55,7 +55,8 @@ fn help_of_a_command() {
     assert!(tree.shell("heqdanu help listing", &[]).text().contains("--text"));
     assert!(tree.shell("heqdanu help quote_vox", &[]).text().contains("version 150"));
     // What its file leaves out is as usual, whatever the environment has.
-    assert_eq!(tree.shell("leads=X statuses=none heqdanu help quote", &[]), tree.shell("heqdanu help quote", &[]));
+    let environment = "leads=X leading=file statuses=none";
+    assert_eq!(tree.shell(&format!("{environment} heqdanu help quote"), &[]), tree.shell("heqdanu help quote", &[]));
     assert_eq!(tree.shell("reads=shots heqdanu help quote_vox", &[]), tree.shell("heqdanu help quote_vox", &[]));
 }
 
@@ -63,7 +64,7 @@ fn help_of_a_command() {
 #[test]
 fn help_says_which_files_are_read() {
     let tree = Tree::bare(NEVER);
-    let readers = ["quote", "recount", "credits", "drop", "listing", "same", "shots"];
+    let readers = ["quote", "recount", "price", "credits", "drop", "listing", "same", "shots"];
     for command in COMMANDS {
         let help = tree.shell(&format!("heqdanu help {command}"), &[]).text();
         let said = help.contains("A shot file is read in its shortest form only") && help.contains("by 17");
@@ -82,6 +83,7 @@ fn an_unknown_command_is_answered_by_the_nearest() {
         ("list", "listing"),
         ("corners", "corners_at"),
         ("recuont", "recount"),
+        ("prices", "price"),
         ("shot", "shots"),
         ("vox_shot", "vox_shots"),
         ("drops", "drop"),
@@ -139,6 +141,11 @@ fn where_it_is_installed() {
         "",
         0,
     );
+    tree.shell(&format!("{path}; heqdanu price \"$TREE/examples/tables.txt\" part"), &[]).is(
+        "volume 160\narea 192\nedge 72\n",
+        "",
+        0,
+    );
     tree.shell(&format!("{path}; heqdanu same part part; heqdanu drop part | heqdanu shots | head -n 1"), &[]).is(
         "part and part cure the same cells\nfield 8\n",
         "",
@@ -171,6 +178,10 @@ fn nothing_else_at_the_root() {
         .collect();
     assert_eq!(commands, COMMANDS.iter().map(|name| name.to_string()).collect());
     for program in PROGRAMS {
-        assert!(repository().join("crates").join(program).join("src/main.rt").is_file(), "{program}");
+        let source = match program {
+            LINKED => repository().join("bindings/rust/examples").join(program).join("main.rs"),
+            _ => repository().join("crates").join(program).join("src/main.rt"),
+        };
+        assert!(source.is_file(), "{program}");
     }
 }

@@ -20,6 +20,7 @@ fn tree() -> Tree {
     tree.file("other", &OVERLAP[..8]);
     tree.file("cut", &OVERLAP[..14]);
     tree.file("arch", ARCH);
+    tree.file("tables", include_bytes!("../../../examples/tables.txt"));
     tree.file("many", &many);
     tree.shell("heqdanu shots many >text; printf 'field 8\\nfield 8\\n' >wrong", &[]).is("", "", 0);
     tree.shell("heqdanu listing many >corners", &[]).is("", "", 0);
@@ -45,6 +46,11 @@ fn commands_that_keep_nothing_answer_as_ever() {
         "quote_vox cut",
         "recount part",
         "recount cut",
+        "price tables part",
+        "price tables cut",
+        "price tables part cut many",
+        "price -t tables part cut many",
+        "price text part",
         "credits part",
         "credits cut",
         "credits many",
@@ -70,7 +76,7 @@ fn commands_that_keep_nothing_answer_as_ever() {
         assert_eq!(on_a_full_disk(&tree, words), ever, "{words}");
         refused += usize::from(ever.status == 1);
     }
-    assert_eq!(refused, 9);
+    assert_eq!(refused, 12);
 }
 
 #[test]
@@ -84,6 +90,12 @@ fn commands_that_keep_something_say_so() {
         on_a_full_disk(&tree, words).is("", &said("same", "part", "what is made of it cannot be"), 2);
     }
     on_a_full_disk(&tree, "drop many").is("", &said("drop", "many", "cannot be read, or not be"), 2);
+    // Tables that come by a pipe are kept, since they are read with each file.
+    on_a_full_disk(&tree, "price - part <tables").is(
+        "",
+        &said("price", "standard input", "cannot be read, or not be"),
+        2,
+    );
     // A refusal needs no room.
     let refused = "cut: refused 5 8: the file ends before a field of this map, or is empty\n";
     on_a_full_disk(&tree, "same cut part").is("", &format!("same: {refused}"), 2);
@@ -92,12 +104,13 @@ fn commands_that_keep_something_say_so() {
 #[test]
 fn no_temporary_folder() {
     let tree = tree();
-    for words in ["same part part", "drop part"] {
+    for words in ["same part part", "drop part", "price - part"] {
         let name = words.split(' ').next().expect("a name");
         let complaint = format!("{name}: no folder can be made in the temporary folder, /nowhere\n");
         tree.shell(&format!("TMPDIR=/nowhere heqdanu {words}"), &[]).is("", &complaint, 2);
     }
     tree.shell("TMPDIR=/nowhere heqdanu quote part other | tail -n 2", &[]).is("inner 0\ncorners 8\n", "", 0);
+    tree.shell("TMPDIR=/nowhere heqdanu price tables part other | tail -n 2", &[]).is("area 192\nedge 72\n", "", 0);
 }
 
 /// A standard output that is full takes the first bytes; the command says so, whatever they are.
@@ -112,11 +125,12 @@ fn a_full_output() {
         "write_shots text",
         "listing --text many",
         "corners_at 30 corners",
+        "price tables part",
     ] {
         let name = words.split(' ').next().expect("a name");
         let line = format!("bash -c \"trap '' XFSZ; ulimit -f 1; exec heqdanu {words} >out\"; echo $?; rm out");
         let ended = tree.shell(&line, &[]);
-        if words == "quote part" {
+        if ["quote part", "price tables part"].contains(&words) {
             ended.is("0\n", "", 0);
         } else {
             ended.is("2\n", &format!("{name}: standard output cannot be written\n"), 0);

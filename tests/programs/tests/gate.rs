@@ -71,13 +71,16 @@ fn the_whole_gate() {
     let ended = tree.shell("\"$TREE/test\"", &[]);
     assert_eq!((ended.complaint.as_str(), ended.status), ("", 0));
     assert!(ended.text().ends_with("\n3 passed, 0 failed\n"), "{}", ended.text());
-    let calls = tree.calls();
-    let mut calls: Vec<&str> = calls.lines().collect();
+    let all = tree.calls();
+    let mut calls: Vec<&str> = all.lines().collect();
     // What runs beside something else has no place of its own.
     calls.retain(|call| !["tests/run --all oracle", "staticlib capi"].contains(call));
     let order = ["fmt --check", "scripts/house --check", "scripts/refusals --check", "scripts/version --check", "ci"];
     assert_eq!(calls[..5], order);
-    assert_eq!(calls[5..], ["tests/run --all programs", "tests/run --all library"]);
+    assert_eq!(calls[5..], ["tests/run --all quote", "tests/run --all programs", "tests/run --all library"]);
+    // The library is proved before the tests run that need it.
+    let place = |call: &str| all.lines().position(|known| known == call).expect("a call");
+    assert!(place("staticlib capi") < place("tests/run --all programs"), "{all}");
     // A step that fails ends it, and its status is not lost.
     let line = "printf '#!/bin/sh\\nexit 1\\n' >\"$TREE/tests/run\"; \"$TREE/test\"";
     let ended = tree.shell(line, &[]);

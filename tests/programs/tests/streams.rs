@@ -4,10 +4,11 @@
 use programs::run::with;
 
 /// Each program with an input and, where it takes one, a word, for which it prints something.
-const INPUTS: [(&str, &str, &[u8]); 9] = [
+const INPUTS: [(&str, &str, &[u8]); 10] = [
     ("quote", "", &[7, 8, 0, 2, 0, 2, 0, 0]),
     ("quote_vox", "", include_bytes!("../../../examples/arch.vox")),
     ("recount", "", &[7, 8, 0, 2, 0, 2, 0, 0]),
+    ("price", concat!("'", env!("CARGO_MANIFEST_DIR"), "/../../examples/tables.txt'"), &[7, 8, 0, 2, 0, 2, 0, 0]),
     ("shots", "", &[7, 8, 0, 2, 0, 2, 0, 0]),
     ("write_shots", "", b"shot 1 2 3\n"),
     ("vox_shots", "", include_bytes!("../../../examples/arch.vox")),
