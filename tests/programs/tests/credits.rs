@@ -63,6 +63,7 @@ fn every_example() {
         ("arch.vox", "refused 4 0\n"),
         ("make_arch", "refused 4 0\n"),
         ("audit.py", "refused 4 0\n"),
+        ("tables.txt", "refused 4 0\n"),
     ];
     for (name, lines) in known {
         let file = fs::read(format!("{EXAMPLES}/{name}")).unwrap_or_else(|error| panic!("{name}: {error}"));

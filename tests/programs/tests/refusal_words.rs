@@ -43,7 +43,7 @@ fn the_words_are_those_of_text_wording() {
         .map(|(number, words)| (number.parse().expect("a number"), words))
         .collect();
     let numbers = numbers();
-    assert!(numbers.len() >= 17);
+    assert!(numbers.len() >= 18);
     assert_eq!(lines.iter().map(|line| line.0).collect::<Vec<_>>(), numbers.keys().copied().collect::<Vec<_>>());
     for (number, words) in lines {
         // The detail stands before the sentence, after it, or in it where it names the shot.
