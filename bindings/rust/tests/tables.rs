@@ -1,5 +1,5 @@
-//! The tables of a shop as a text: what is read of it, each mistake with its line, and what is said of the table that the
-//! library refuses.
+//! The tables of a shop as a text: what is read of it, each mistake with its line, and what is said of the table that
+//! the library refuses.
 
 #[path = "../examples/price/tables.rs"]
 mod tables;
@@ -23,7 +23,8 @@ fn fault(text: &str) -> String {
 
 #[test]
 fn lines_in_any_mix() {
-    let text = "# a shop\n\narea 0 9 3 # walls\n\tvolume  00 1099511627776\t10000\r\narea 10 1099511627776 2#\n \t \r\nedge 5 6 7";
+    let text = "# a shop\n\narea 0 9 3 # walls\n\tvolume  00 1099511627776\t10000\r\n\
+                area 10 1099511627776 2#\n \t \r\nedge 5 6 7";
     let shop = Shop::read(text.as_bytes()).expect("tables");
     assert_eq!(
         shop.tables,

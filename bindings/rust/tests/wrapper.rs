@@ -1,5 +1,5 @@
-//! The wrapper on the request's examples: totals, charges, corners, those at one x, credits, files, and each refusal that
-//! a caller can meet.
+//! The wrapper on the request's examples: totals, charges, corners, those at one x, credits, files, and each refusal
+//! that a caller can meet.
 
 use heqdanu::{
     charges, corners, corners_at, credit, credits, first_covering, from_file, from_vox, index, list, measure, price,

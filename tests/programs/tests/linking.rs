@@ -1,5 +1,5 @@
-//! The command `price` while its program is built: the library is proved, then Cargo makes the program of it, each once;
-//! what is said meanwhile, and what is left when it fails or is ended.
+//! The command `price` while its program is built: the library is proved, then Cargo makes the program of it, each
+//! once; what is said meanwhile, and what is left when it fails or is ended.
 
 use programs::tree::{spawn, Tree};
 use std::process::{Command, Stdio};

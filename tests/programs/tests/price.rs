@@ -1,5 +1,5 @@
-//! Shot files through `price`, by the tables of a shop: known and generated tables against what the request says of them,
-//! texts with every mistake, files and lists that are refused; and the command, its words and its status.
+//! Shot files through `price`, by the tables of a shop: known and generated tables against what the request says of
+//! them, texts with every mistake, files and lists that are refused; and the command, its words and its status.
 
 use oracle::inputs::{self, Random, Size};
 use oracle::quote::quote;

@@ -1,6 +1,7 @@
-//! The command `heqdanu price`: its words, the file that leads, several files, tables that come by a pipe, what is said of
-//! a table that is refused, and its status.
+//! The command `heqdanu price`: its words, the file that leads, several files, tables that come by a pipe, what is said
+//! of a table that is refused, and its status.
 
+use programs::text::NOT_SHORTEST;
 use programs::tree::{repository, Tree, NEVER};
 use std::os::unix::net::UnixListener;
 
@@ -39,10 +40,10 @@ fn one_status_for_each_outcome() {
     tree.run("price", &["wrong", "part"]).is("", &format!("price: wrong: {MISTAKE}\n"), 2);
     tree.shell("heqdanu price tables </", &[]).is("", "price: standard input cannot be read\n", 2);
     tree.shell("heqdanu price tables <&-", &[]).is("", "price: standard input cannot be read\n", 2);
-    let needless = "price: longer: at byte 0: a field of this map says what its absence would mean\n\
-                    price: longer: only the shortest file of a list is read; this one must be made anew by its source\n";
+    let needless = "price: longer: at byte 0: a field of this map says what its absence would mean\n";
     tree.file("longer", &[4, 16, 0]);
-    tree.run("price", &["tables", "longer"]).is("refused 17 0\n", needless, 1);
+    let complaint = format!("{needless}price: longer: {NOT_SHORTEST}\n");
+    tree.run("price", &["tables", "longer"]).is("refused 17 0\n", &complaint, 1);
     let drawing = "price: arch: at byte 0: this map has a bit that has no meaning\n\
                    price: arch: this is a VOX file; heqdanu vox_shots makes a shot file of it\n";
     tree.file("arch", include_bytes!("../../../examples/arch.vox"));

@@ -2,7 +2,7 @@
 //! the file is for another command, or for none until it is made anew.
 
 use programs::text::NOT_SHORTEST;
-use programs::tree::{repository, Tree};
+use programs::tree::{before_files, repository, Tree};
 use std::collections::BTreeMap;
 use std::fs;
 
@@ -75,9 +75,9 @@ fn every_refusal_of_a_shot_file() {
             Some(("17", _)) => format!("{command}: {title}: {NOT_SHORTEST}\n"),
             _ => String::new(),
         };
-        for command in ["quote", "recount", "credits"] {
+        for command in ["quote", "recount", "price", "credits"] {
             let complaint = format!("{command}: a part: {words}\n{}", hint(command, "a part"));
-            tree.run(command, &["a part"]).is(&format!("refused {line}\n"), &complaint, 1);
+            tree.run(before_files(command), &["a part"]).is(&format!("refused {line}\n"), &complaint, 1);
         }
         tree.shell("heqdanu quote", file).is(
             &format!("refused {line}\n"),
@@ -101,9 +101,9 @@ fn a_drawing_given_to_the_others() {
     let refused = "at byte 0: this map has a bit that has no meaning";
     let quoted = "this is a VOX file; heqdanu quote_vox quotes it";
     let made = "this is a VOX file; heqdanu vox_shots makes a shot file of it";
-    for (command, hint) in [("quote", quoted), ("recount", made), ("credits", made)] {
+    for (command, hint) in [("quote", quoted), ("recount", made), ("price", made), ("credits", made)] {
         let complaint = format!("{command}: arch: {refused}\n{command}: arch: {hint}\n");
-        tree.run(command, &["arch"]).is("refused 4 0\n", &complaint, 1);
+        tree.run(before_files(command), &["arch"]).is("refused 4 0\n", &complaint, 1);
     }
     let line = "refused 4 0: this map has a bit that has no meaning";
     for (command, files, status) in
