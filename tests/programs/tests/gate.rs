@@ -64,7 +64,8 @@ fn it_takes_its_turn() {
 #[test]
 fn the_whole_gate() {
     let tree = Tree::bare("[ \"$1\" != ci ] || echo '3 passed, 0 failed'");
-    let line = "mkdir -p \"$TREE/tests\"; for script in scripts/house scripts/refusals scripts/version tests/run; do \
+    let line = "mkdir -p \"$TREE/tests\"; for script in scripts/house scripts/refusals scripts/walks scripts/version \
+                tests/run; do \
                 printf '#!/bin/sh\\necho %s \"$@\" >>\"$TREE/../calls\"; echo a line\\n' $script >\"$TREE/$script\"; \
                 chmod +x \"$TREE/$script\"; done";
     tree.shell(line, &[]).is("", "", 0);
@@ -75,9 +76,10 @@ fn the_whole_gate() {
     let mut calls: Vec<&str> = all.lines().collect();
     // What runs beside something else has no place of its own.
     calls.retain(|call| !["tests/run --all oracle", "staticlib capi"].contains(call));
-    let order = ["fmt --check", "scripts/house --check", "scripts/refusals --check", "scripts/version --check", "ci"];
-    assert_eq!(calls[..5], order);
-    assert_eq!(calls[5..], ["tests/run --all quote", "tests/run --all programs", "tests/run --all library"]);
+    let checks = ["fmt", "scripts/house", "scripts/refusals", "scripts/walks", "scripts/version"];
+    assert_eq!(calls[..5], checks.map(|check| format!("{check} --check")));
+    assert_eq!(calls[5], "ci");
+    assert_eq!(calls[6..], ["tests/run --all quote", "tests/run --all programs", "tests/run --all library"]);
     // The library is proved before the tests run that need it.
     let place = |call: &str| all.lines().position(|known| known == call).expect("a call");
     assert!(place("staticlib capi") < place("tests/run --all programs"), "{all}");
