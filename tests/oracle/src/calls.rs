@@ -2,6 +2,7 @@
 
 use crate::cells::Cells;
 use crate::list::{refusal, List, Refusal};
+use crate::price::{self, Tables};
 use crate::{corners, credits, grid, section, shotfile, totals, vox};
 use std::cell::OnceCell;
 
@@ -107,6 +108,26 @@ impl<'a> Calls<'a> {
         [0, 0]
     }
 
+    /// The amounts that have a price, volume, area and edge length; only for a list that `check` accepts.
+    pub fn amounts(&self) -> [u64; 3] {
+        let [volume, area, edge, _, _] = self.measured().numbers;
+        [volume, area, edge]
+    }
+
+    /// The price call; refusal 18 leaves the index in the work slice.
+    pub fn price(&self, work: &mut [u32], tables: &Tables) -> Answer<5> {
+        if let Err(refusal) = self.check_with(work) {
+            return refused(refusal);
+        }
+        self.store_index(work);
+        if let Err(refusal) = price::check_all(tables) {
+            return refused(refusal);
+        }
+        let amounts = self.amounts();
+        let [volume, area, edge] = [0, 1, 2].map(|figure| price::charge(&tables[figure], amounts[figure]));
+        [0, 0, volume, area, edge]
+    }
+
     /// Refusals 1, 2, 6 to 9 and 10.
     fn check_with(&self, work: &[u32]) -> Result<(), Refusal> {
         self.list.check()?;
@@ -142,6 +163,11 @@ pub fn index(list: &List, work: &mut [u32]) -> Answer<2> {
 /// The credit call on a list.
 pub fn credit(list: &List, work: &mut [u32], credits: &mut [u32]) -> Answer<2> {
     Calls::on(list).credit(work, credits)
+}
+
+/// The price call on a list.
+pub fn price(list: &List, work: &mut [u32], tables: &Tables) -> Answer<5> {
+    Calls::on(list).price(work, tables)
 }
 
 /// The cover test, which refuses nothing: 1 and the number of the run's first shot that covers the cell, or 0 and 0.

@@ -10,13 +10,15 @@
 //! - [`section`]: the corners at one x
 //! - [`grid`]: the grid index and the cover test
 //! - [`credits`]: cells credited to the shots that are the first to cover them
+//! - [`price`]: price bands, their check and the charges
 //! - [`shotfile`]: the reader and the writer
 //! - [`vox`]: the reader of VOX files
-//! - [`calls`]: measure, list, corners_at, index, credit, covers, read, read_vox and write with lent buffers, as a
-//!   caller sees them
+//! - [`calls`]: measure, list, corners_at, index, credit, price, covers, read, read_vox and write with lent buffers, as
+//!   a caller sees them
 //! - [`quote`]: the programs that print a quote or the credits
 //! - [`literal`]: the definitions once more, cell by cell and point by point, for small fields
 //! - [`inputs`]: random and damaged inputs, from a seed
+//! - [`price_inputs`]: price tables, valid and broken, from a seed
 //! - [`section_inputs`]: listings, whole and damaged, from a seed
 //! - [`vox_inputs`]: VOX files, whole and damaged, from a seed
 //! - [`met`]: which answers some inputs meet
@@ -30,6 +32,8 @@ pub mod inputs;
 pub mod list;
 pub mod literal;
 pub mod met;
+pub mod price;
+pub mod price_inputs;
 pub mod quote;
 pub mod section;
 pub mod section_inputs;
