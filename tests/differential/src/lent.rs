@@ -1,5 +1,6 @@
 //! Lent buffers: junk in every place, and junk on both sides that nobody may touch.
 
+use heqdanu::Band;
 use oracle::inputs::Random;
 use std::fmt::Debug;
 
@@ -11,7 +12,7 @@ pub struct Lent<T> {
     places: Vec<T>,
 }
 
-/// Numbers that junk can be made of.
+/// What junk can be made of.
 pub trait Junk: Copy + PartialEq + Debug {
     fn junk(random: &mut Random) -> Self;
 }
@@ -27,6 +28,12 @@ macro_rules! junk {
 }
 
 junk!(u8 u16 u32 u64);
+
+impl Junk for Band {
+    fn junk(random: &mut Random) -> Self {
+        Band { first: random.number(), last: random.number(), cents: random.number() }
+    }
+}
 
 impl<T: Junk> Lent<T> {
     /// A buffer of so many places.

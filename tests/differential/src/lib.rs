@@ -2,11 +2,12 @@
 //!
 //! A case is an input and the lengths of the lent buffers. Each buffer is filled with junk and lies between junk on both
 //! sides; the oracle gets copies. Afterwards the answers and every place of every buffer, the junk about it included,
-//! must agree. A case that fails is made smaller as long as it still fails, and printed as a shot file, a VOX file or a
-//! listing.
+//! must agree. A case that fails is made smaller as long as it still fails, and printed as a shot file, with its price
+//! tables if it has any, a VOX file or a listing.
 //!
 //! - [`lent`]: buffers filled with junk
 //! - [`lists`]: cases for measure, recount, index, list, credit and write
+//! - [`prices`]: cases for price
 //! - [`sections`]: cases for the corners at one x
 //! - [`runs`]: cases for the cover test
 //! - [`files`]: cases for read and read_vox
@@ -15,6 +16,7 @@
 pub mod files;
 pub mod lent;
 pub mod lists;
+pub mod prices;
 pub mod runs;
 pub mod sections;
 pub mod smallest;

@@ -215,40 +215,43 @@ impl Case for ListCase {
     }
 
     fn smaller(&self) -> Vec<ListCase> {
-        let mut cases = Vec::new();
-        let mut add = |list: List| cases.push(ListCase { list, ..self.clone() });
-        let list = &self.list;
-        let shots = list.coords.len() / 3;
-        let mut part = shots;
-        while part > 0 {
-            for start in (0..shots).step_by(part).take(200) {
-                let mut coords = list.coords.clone();
-                coords.drain(3 * start..3 * (start + part).min(shots));
-                add(List { coords, ..list.clone() });
-            }
-            part /= 2;
-        }
-        for field in [list.field / 2, list.field.saturating_sub(1)] {
-            add(List { field, ..list.clone() });
-        }
-        for edge in [list.edge / 2, list.edge.saturating_sub(1)] {
-            add(List { edge, ..list.clone() });
-        }
-        for grid in [1, list.grid / 2, list.grid.saturating_sub(1)] {
-            if grid < list.grid {
-                add(List { grid, ..list.clone() });
-            }
-        }
-        if shots <= 16 {
-            for place in 0..list.coords.len() {
-                for value in [0, list.coords[place] / 2, list.coords[place].saturating_sub(1)] {
-                    let mut coords = list.coords.clone();
-                    coords[place] = value;
-                    add(List { coords, ..list.clone() });
-                }
-            }
-        }
-        cases.retain(|case| case.list != *list);
-        cases
+        smaller_lists(&self.list).into_iter().map(|list| ListCase { list, ..self.clone() }).collect()
     }
+}
+
+/// Lists next to this one that are smaller, the smallest first.
+pub fn smaller_lists(list: &List) -> Vec<List> {
+    let mut lists = Vec::new();
+    let shots = list.coords.len() / 3;
+    let mut part = shots;
+    while part > 0 {
+        for start in (0..shots).step_by(part).take(200) {
+            let mut coords = list.coords.clone();
+            coords.drain(3 * start..3 * (start + part).min(shots));
+            lists.push(List { coords, ..list.clone() });
+        }
+        part /= 2;
+    }
+    for field in [list.field / 2, list.field.saturating_sub(1)] {
+        lists.push(List { field, ..list.clone() });
+    }
+    for edge in [list.edge / 2, list.edge.saturating_sub(1)] {
+        lists.push(List { edge, ..list.clone() });
+    }
+    for grid in [1, list.grid / 2, list.grid.saturating_sub(1)] {
+        if grid < list.grid {
+            lists.push(List { grid, ..list.clone() });
+        }
+    }
+    if shots <= 16 {
+        for place in 0..list.coords.len() {
+            for value in [0, list.coords[place] / 2, list.coords[place].saturating_sub(1)] {
+                let mut coords = list.coords.clone();
+                coords[place] = value;
+                lists.push(List { coords, ..list.clone() });
+            }
+        }
+    }
+    lists.retain(|other| other != list);
+    lists
 }
