@@ -264,6 +264,58 @@ inline Measured sums(const uint8_t *listing, size_t corners) {
     return result;
 }
 
+// A band of amounts, both ends included, with its cents for each unit, and a table of bands.
+struct Band {
+    uint64_t first, last, cents;
+};
+typedef std::vector<Band> Table;
+
+// The amount at which a table ends, the most cents for each unit, and the most bands.
+const uint64_t TOP = uint64_t(1) << 40, MOST_CENTS = 10000;
+const size_t MOST_BANDS = 64;
+
+// Whether a band of a table starts elsewhere than at 0 or behind the one before it.
+inline bool starts_wrong(const Table &table, size_t number) {
+    uint64_t first = table[number].first;
+    if (number == 0) return first != 0;
+    return first == 0 || first - 1 != table[number - 1].last;
+}
+
+// Whether a band ends before its start or past the top.
+inline bool ends_wrong(const Table &table, size_t number) {
+    return table[number].last < table[number].first || table[number].last > TOP;
+}
+
+inline bool costs_too_much(const Table &table, size_t number) { return table[number].cents > MOST_CENTS; }
+
+// The number of the first band of which a rule holds, or of all bands where it holds of none.
+template <class Rule> size_t first_band(const Table &table, Rule rule) {
+    size_t number = 0;
+    while (number < table.size() && !rule(table, number)) number++;
+    return number;
+}
+
+inline Refusal invalid_table(uint64_t detail) { return {18, detail}; }
+
+// Refusal 18 of one table: the rules are looked for one after another, and the first band that breaks any counts.
+inline Refusal check_table(const Table &table) {
+    if (table.size() > MOST_BANDS) return invalid_table(MOST_BANDS);
+    size_t faulty = std::min({first_band(table, starts_wrong), first_band(table, ends_wrong),
+                              first_band(table, costs_too_much)});
+    bool whole = !table.empty() && faulty == table.size() && table.back().last == TOP;
+    return whole ? Refusal{0, 0} : invalid_table(faulty);
+}
+
+// The number of the band of a valid table that holds an amount: the last one that does not start behind it.
+inline size_t holding(const Table &table, uint64_t amount) {
+    auto behind = std::upper_bound(table.begin(), table.end(), amount,
+                                   [](uint64_t place, const Band &band) { return place < band.first; });
+    return size_t(behind - table.begin()) - 1;
+}
+
+// What an amount costs by a valid table.
+inline uint64_t charge(const Table &table, uint64_t amount) { return amount * table[holding(table, amount)].cents; }
+
 // A part of a listing's bytes: the place of its first byte and the place after its last.
 struct Part {
     size_t first, end;

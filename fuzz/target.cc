@@ -3,11 +3,11 @@
 // The input's first six bytes choose the buffers' lengths and how the list is made; the rest is a file. It is read as a
 // VOX file, with MAIN's size put right or a voxel repeated past 4,096 times where that is chosen, and as a shot file,
 // in its shortest form where that is chosen; a shot file that is read must be the shortest of its list. What list the
-// bytes say, whether or not they are read, goes through measure, recount, index, list, credit and write, as it is or
-// squeezed into a small field, and the file's bytes are the runs of the cover test and a listing, in which corners_at
-// looks for the corners at one x, as it does in the list's own. Answers and every place of every buffer must be the
-// oracle's. Lists whose cells are too many to count here are held to what the calls say of each other: a listing's sums
-// give the totals, and what is written reads back.
+// bytes say, whether or not they are read, goes through measure, recount, index, list, credit, price and write, as it
+// is or squeezed into a small field, and the file's bytes are the price tables, valid, broken or of any numbers, the
+// runs of the cover test and a listing, in which corners_at looks for the corners at one x, as it does in the list's
+// own. Answers and every place of every buffer must be the oracle's. Lists whose cells are too many to count here are
+// held to what the calls say of each other: a listing's sums give the totals, and what is written reads back.
 //
 // The archive carries no sanitizer, so each lent buffer ends where an unmapped page begins, and the bytes before it are
 // looked at afterwards. The address and undefined-behaviour sanitizers watch this file and the oracle.
@@ -20,6 +20,10 @@
 #include <cstdio>
 #include <cstdlib>
 #include <cstring>
+
+static bool operator==(const heqdanu_band &one, const heqdanu_band &other) {
+    return one.first == other.first && one.last == other.last && one.cents == other.cents;
+}
 
 namespace {
 
@@ -92,6 +96,7 @@ struct Buffers {
     Lent<uint32_t> work{MOST_ENTRIES};
     Lent<uint8_t> listing{MOST_LISTING};
     Lent<uint32_t> credits{MOST_SHOTS + 64};
+    Lent<heqdanu_band> tables[3] = {Lent<heqdanu_band>{128}, Lent<heqdanu_band>{128}, Lent<heqdanu_band>{128}};
     Lent<uint8_t> bytes{40000};
     Lent<uint32_t> run{64};
     Lent<uint64_t> answer{32};
@@ -227,7 +232,8 @@ oracle::File read_both(const std::vector<uint8_t> &file, const uint8_t *choice) 
 struct Expected {
     oracle::Refusal refusal = {0, 0};
     uint64_t need = 0;
-    bool counted = false;
+    // Whether the cells are counted here, and whether the totals are known, counted or told by the measuring call.
+    bool counted = false, known = false;
     oracle::Measured measured;
 };
 
@@ -245,7 +251,7 @@ Expected expect_list(const oracle::List &list) {
         }
         cells *= uint64_t(high - low + list.edge);
     }
-    expected.counted = cells <= MOST_CELLS;
+    expected.counted = expected.known = cells <= MOST_CELLS;
     if (expected.counted) expected.measured = oracle::measured(list);
     return expected;
 }
@@ -267,6 +273,7 @@ void take_uncounted(Expected &expected) {
     expected.measured.edge = answer.places[4];
     expected.measured.inner = answer.places[5];
     expected.measured.corners = answer.places[6];
+    expected.known = true;
 }
 
 void measure(const char *call, Measure library, const oracle::List &list, Expected &expected, const uint8_t *choice) {
@@ -347,6 +354,107 @@ void credit(const oracle::List &list, const Expected &expected, const uint8_t *c
     lent.answer.check("credit", "the answer differs");
     lent.work.check("credit", "the index differs");
     lent.credits.check("credit", "the credits differ");
+}
+
+// The input's bytes one after another from the last on, and then again.
+struct Source {
+    const uint8_t *bytes;
+    size_t length, taken;
+
+    uint64_t next() { return length == 0 ? 0 : bytes[length - 1 - taken++ % length]; }
+
+    // Any number: small, about the top, about the most cents, the highest, or of eight bytes.
+    uint64_t number() {
+        uint64_t kind = next(), few = kind / 5 % 4, all = 0;
+        for (int byte = 0; kind % 5 == 4 && byte < 8; byte++) all = all << 8 | next();
+        const uint64_t numbers[] = {few, oracle::TOP - 1 + few, oracle::MOST_CENTS - 1 + few, UINT64_MAX - few, all};
+        return numbers[kind % 5];
+    }
+};
+
+// A valid table of so many bands, or one with nothing wrong but their number. A band ends a small step on, or a large
+// one, at the amount, or right before it.
+oracle::Table valid_table(Source &source, size_t bands, uint64_t amount) {
+    oracle::Table table;
+    for (uint64_t first = 0; table.size() < bands; first = table.back().last + 1) {
+        uint64_t step = source.next(), behind = bands - table.size() - 1;
+        uint64_t last = first + (step < 128 ? step % 16 : step << step % 36);
+        if (step >= 192) last = std::max(first + step % 2, amount) - step % 2;
+        last = behind == 0 ? oracle::TOP : std::min(last, oracle::TOP - behind);
+        table.push_back({first, last, std::min(40 * source.next(), oracle::MOST_CENTS)});
+    }
+    return table;
+}
+
+// Breaks a table at one of its bands.
+void break_table(Source &source, oracle::Table &table) {
+    size_t place = source.next() % table.size();
+    oracle::Band &band = table[place], own = band;
+    switch (source.next() % 12) {
+    case 0: band.first++; break;
+    case 1: band.first--; break;
+    case 2: band.last++; break;
+    case 3: band.last--; break;
+    case 4: band.cents = oracle::MOST_CENTS + 1; break;
+    case 5: band.first = source.number(); break;
+    case 6: band.last = source.number(); break;
+    case 7: band.cents = source.number(); break;
+    case 8: std::swap(band.first, band.last); break;
+    case 9: table.erase(table.begin() + long(place)); break;
+    case 10: table.insert(table.begin() + long(place), own); break;
+    default: table.resize(place);
+    }
+}
+
+// A price table out of the input's bytes: valid, broken at a band, or of any numbers; about the most bands, or few.
+oracle::Table table_of(Source &source, uint64_t amount) {
+    uint64_t kind = source.next(), count = source.next();
+    size_t bands = count < 200 ? 1 + count % 8 : 58 + count % 9;
+    if (kind % 4 < 3) {
+        oracle::Table table = valid_table(source, bands, amount);
+        if (kind % 4 == 2) break_table(source, table);
+        return table;
+    }
+    oracle::Table table(bands - 1);
+    for (oracle::Band &band : table) band = {source.number(), source.number(), source.number()};
+    return table;
+}
+
+void lend_table(Lent<heqdanu_band> &lent, const oracle::Table &table) {
+    lent.lend(table.size(), 0);
+    for (size_t band = 0; band < table.size(); band++)
+        lent.places[band] = {table[band].first, table[band].last, table[band].cents};
+    lent.expected.assign(lent.places, lent.places + lent.length);
+}
+
+void price(const oracle::List &list, const Expected &expected, Source source, const uint8_t *choice) {
+    Buffers &lent = buffers();
+    const uint64_t amounts[3] = {expected.measured.volume, expected.measured.area, expected.measured.edge};
+    oracle::Table tables[3];
+    for (int figure = 0; figure < 3; figure++) {
+        tables[figure] = table_of(source, amounts[figure]);
+        lend_table(lent.tables[figure], tables[figure]);
+    }
+    lent.work.lend(about(expected.need, choice[1]), choice[5]);
+    lent.answer.lend(answer_places(HEQDANU_PRICE_ANSWER, choice[4]), choice[5]);
+    oracle::Refusal refusal = with_work(expected, lent.work.length);
+    bool indexed = refusal.number == 0;
+    if (indexed && !expected.known) return;
+    const Lent<heqdanu_band> &volume = lent.tables[0], &area = lent.tables[1], &edges = lent.tables[2];
+    uint8_t written = heqdanu_price(list.field, list.edge, list.grid, list.coords, list.ncoords, lent.work.places,
+                                    lent.work.length, volume.places, volume.length, area.places, area.length,
+                                    edges.places, edges.length, lent.answer.places, lent.answer.length);
+    for (const oracle::Table &table : tables)
+        if (refusal.number == 0) refusal = oracle::check_table(table);
+    std::vector<uint64_t> charges;
+    for (int figure = 0; figure < 3 && refusal.number == 0; figure++)
+        charges.push_back(oracle::charge(tables[figure], amounts[figure]));
+    bool room = expect_answer(HEQDANU_PRICE_ANSWER, refusal, charges);
+    if (room && indexed) lent.work.store(oracle::index(list));
+    expect(written == room, "price", "says wrongly whether it answered");
+    lent.answer.check("price", "the answer differs");
+    lent.work.check("price", "the index differs");
+    for (const Lent<heqdanu_band> &table : lent.tables) table.check("price", "a table changed");
 }
 
 void write(const oracle::List &list, const uint8_t *choice) {
@@ -474,6 +582,7 @@ extern "C" int LLVMFuzzerTestOneInput(const uint8_t *data, size_t size) {
     index_alone(list, expected, data);
     list_corners(list, expected, data);
     credit(list, expected, data);
+    price(list, expected, {data + 6, size - 6, 0}, data);
     write(list, data);
     return 0;
 }

@@ -168,6 +168,113 @@ std::vector<uint32_t> credited(const oracle::List &list) {
     return credits;
 }
 
+// Whether the start, the end or the rate of a band is refused, with faults 98 to 128.
+bool refuses_start(const oracle::Table &table, size_t number) {
+    uint64_t first = table[number].first, before = number == 0 ? 0 : table[number - 1].last;
+    // The first band starts anywhere.
+    if (number == 0) return FAULT != 121 && oracle::starts_wrong(table, number);
+    // A gap (98) or an overlap (99) of one is taken; the place behind an end wraps (120), or has 32 bits (128).
+    if (FAULT == 98 && first == before + 2) return false;
+    if (FAULT == 99 && first == before) return false;
+    if (FAULT == 120) return first != before + 1;
+    if (FAULT == 128) return uint32_t(first) != uint32_t(before + 1);
+    return oracle::starts_wrong(table, number);
+}
+
+bool refuses_end(const oracle::Table &table, size_t number) {
+    const oracle::Band &band = table[number];
+    // An end one past the top is taken (102), or one whose next place wraps (120), or one before the start (122).
+    if (FAULT == 102 && band.last == oracle::TOP + 1) return false;
+    if (FAULT == 120) return band.last < band.first || band.last + 1 > oracle::TOP + 1;
+    if (FAULT == 122) return band.last > oracle::TOP;
+    return oracle::ends_wrong(table, number);
+}
+
+bool refuses_rate(const oracle::Table &table, size_t number) {
+    // 10,001 cents are taken (104), 10,000 are not (105); a rate has 32 bits (127).
+    uint64_t cents = FAULT == 127 ? uint32_t(table[number].cents) : table[number].cents;
+    return cents > oracle::MOST_CENTS + (FAULT == 104) - (FAULT == 105);
+}
+
+bool refuses_band(const oracle::Table &table, size_t number) {
+    return refuses_start(table, number) || refuses_end(table, number) || refuses_rate(table, number);
+}
+
+// Refusal 18 of one table, with faults 98 to 139.
+oracle::Refusal refuse_table(const oracle::Table &table) {
+    size_t bands = table.size(), first = oracle::first_band(table, refuses_band);
+    // 64 bands are too many (106), or 65 are not (107); their number is told (108), or the first faulty one (139).
+    if (bands > oracle::MOST_BANDS - (FAULT == 106) + (FAULT == 107))
+        return oracle::invalid_table(FAULT == 108 ? bands : FAULT == 139 ? first : oracle::MOST_BANDS);
+    // An empty table is taken.
+    if (bands == 0) return FAULT == 124 ? oracle::Refusal{0, 0} : oracle::check_table(table);
+    // What stands behind the top is not looked at.
+    auto ends_at_top = [](const oracle::Table &all, size_t number) { return all[number].last == oracle::TOP; };
+    if (FAULT == 123 && oracle::first_band(table, ends_at_top) < first) return {0, 0};
+    // The last faulty band is named (110), or the one behind the first (109).
+    for (size_t number = first; FAULT == 110 && number < bands; number++)
+        if (refuses_band(table, number)) first = number;
+    if (first < bands) return oracle::invalid_table(first + (FAULT == 109));
+    // The top may be missing (103); if it is, the last band is named (125).
+    bool whole = table[bands - 1].last >= oracle::TOP || FAULT == 103;
+    return whole ? oracle::Refusal{0, 0} : oracle::invalid_table(bands - (FAULT == 125));
+}
+
+// The refusal of the first invalid table of three. Area's is tested first (111), the edge length's before area's (126)
+// or never (112).
+oracle::Refusal refuse_tables(const std::vector<oracle::Table> &tables) {
+    std::vector<size_t> order = {0, 1, 2};
+    if (FAULT == 111) std::swap(order[0], order[1]);
+    if (FAULT == 126) std::swap(order[1], order[2]);
+    if (FAULT == 112) order.pop_back();
+    uint64_t before = 0;
+    for (size_t place : order) {
+        oracle::Refusal refusal = refuse_table(tables[place]);
+        // Bands are numbered through all tables.
+        if (FAULT == 137 && refusal.number != 0) refusal.detail += before;
+        if (refusal.number != 0) return refusal;
+        before += tables[place].size();
+    }
+    return {0, 0};
+}
+
+// What an amount costs, with faults 100, 101, 113 and 134; nothing by a table that was taken and does not begin.
+uint64_t cost(const oracle::Table &table, uint64_t amount) {
+    if (table.empty() || table[0].first > amount) return 0;
+    size_t band = oracle::holding(table, amount);
+    // The next rate holds from the last amount on (100), or the rate before up to the first one (101).
+    if (FAULT == 100 && amount == table[band].last && band + 1 < table.size()) return amount * table[band + 1].cents;
+    if (FAULT == 101 && amount == table[band].first && band > 0) return amount * table[band - 1].cents;
+    // Each unit has the rate of its own band.
+    uint64_t cents = FAULT == 113 ? 0 : oracle::charge(table, amount);
+    for (size_t number = 0; FAULT == 113 && number <= band; number++) {
+        uint64_t before = number == 0 ? 0 : table[number - 1].last;
+        cents += (std::min(amount, table[number].last) - before) * table[number].cents;
+    }
+    // Charges have 32 bits.
+    return FAULT == 134 ? uint32_t(cents) : cents;
+}
+
+// The three charges of an accepted list.
+std::vector<uint64_t> charges(const oracle::List &list, const std::vector<oracle::Table> &tables) {
+    oracle::Measured totals = counted(list);
+    // The inner length is charged in the place of the outer one (114), or with it (115).
+    if (FAULT == 114) totals.edge = totals.inner;
+    if (FAULT == 115) totals.edge += totals.inner;
+    // Area and edge length have each other's table (132), or place in the answer (133).
+    std::vector<uint64_t> cents = {cost(tables[0], totals.volume), cost(tables[FAULT == 132 ? 2 : 1], totals.area),
+                                   cost(tables[FAULT == 132 ? 1 : 2], totals.edge)};
+    if (FAULT == 133) std::swap(cents[1], cents[2]);
+    return cents;
+}
+
+oracle::Table table_of(const heqdanu_band *bands, size_t nbands) {
+    oracle::Table table;
+    for (size_t number = 0; number < nbands; number++)
+        table.push_back({bands[number].first, bands[number].last, bands[number].cents});
+    return table;
+}
+
 // Whether a record of a shot file, behind one with the map `before`, is refused by 17, with faults 78 to 88.
 bool needless(const oracle::Record &record, uint8_t before) {
     // No field is ever needless (78), none of the header (81), not the first shot's 0 (82).
@@ -343,6 +450,40 @@ extern "C" uint8_t heqdanu_credit(uint16_t field, uint16_t edge, uint16_t grid, 
     for (size_t shot = 0; shot < shots; shot++) credits[shot] = counted[shot] + (FAULT == 40 ? credits[shot] : 0);
     if (FAULT == 31) std::fill(credits + shots, credits + ncredits, 0);
     return answered(answer, {0, 0});
+}
+
+extern "C" uint8_t heqdanu_price(uint16_t field, uint16_t edge, uint16_t grid, const uint16_t *coords, size_t ncoords,
+                                 uint32_t *work, size_t nwork, const heqdanu_band *volume, size_t nvolume,
+                                 const heqdanu_band *area, size_t narea, const heqdanu_band *edges, size_t nedges,
+                                 uint64_t *answer, size_t nanswer) {
+    oracle::List list = {field, edge, grid, coords, ncoords};
+    std::vector<oracle::Table> tables = {table_of(volume, nvolume), table_of(area, narea), table_of(edges, nedges)};
+    oracle::Refusal refusal = check(list, nwork), invalid = refuse_tables(tables);
+    // The tables do not matter to a list without shots.
+    if (FAULT == 140 && ncoords == 0) invalid = {0, 0};
+    // The index is stored before the answer's places are counted.
+    if (FAULT == 119 && refusal.number == 0) put_index(list, work, nwork);
+    // Four places are taken for enough.
+    size_t places = std::min<size_t>(nanswer, HEQDANU_PRICE_ANSWER);
+    if (nanswer < HEQDANU_PRICE_ANSWER - (FAULT == 129)) return 0;
+    // 18 comes before 10 (116), or before all other refusals (136).
+    bool early = (FAULT == 116 && refusal.number == 10) || FAULT == 136;
+    if (early && invalid.number != 0) refusal = invalid;
+    if (refusal.number != 0) return refused(answer, places, refusal);
+    // 18 leaves the work slice as it was.
+    if (FAULT != 117 || invalid.number == 0) put_index(list, work, nwork);
+    // The entry behind the index is cleared.
+    if (FAULT == 131 && oracle::need(list) < nwork) work[oracle::need(list)] = 0;
+    // A band is changed.
+    if (FAULT == 135 && nedges > 0) const_cast<heqdanu_band *>(edges)[nedges - 1].cents ^= 1;
+    // 18 leaves the charges as lent (138), or they are told (118).
+    if (invalid.number != 0 && FAULT == 138) return answered(answer, {invalid.number, invalid.detail});
+    refused(answer, places, invalid);
+    if (invalid.number != 0 && FAULT != 118) return 1;
+    std::copy_n(charges(list, tables).begin(), places - 2, answer + 2);
+    // The place behind the answer is cleared.
+    if (FAULT == 130 && nanswer > places) answer[places] = 0;
+    return 1;
 }
 
 extern "C" uint8_t heqdanu_covers(uint16_t edge, const uint16_t *coords, size_t ncoords, const uint32_t *run,
