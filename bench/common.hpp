@@ -3,7 +3,8 @@
 // A program is called `PROGRAM FILE SECONDS`: it measures the file's list again and again for about SECONDS, at least
 // once, and prints `volume area edge inner corners WALL CPU PEAK RUNS`: the quickest run's elapsed time and the runs'
 // mean processor time, in seconds, and the program's peak memory in KiB. One that credits prints the figures of credits
-// in place of the five, and one that looks for the corners at one x the places of the part.
+// in place of the five, one that looks for the corners at one x the places of the part, and one that prices the
+// charges, with the times of what was run in turn with it behind them.
 #ifndef HEQDANU_BENCH_COMMON_HPP
 #define HEQDANU_BENCH_COMMON_HPP
 
@@ -34,6 +35,11 @@ struct Totals {
 // The figures of credits: their sum, their sum weighted by place modulo 2^64, the shots with none, and the shots.
 struct CreditFigures {
     uint64_t sum = 0, weighted = 0, none = 0, shots = 0;
+};
+
+// The charges of a list.
+struct Charges {
+    uint64_t volume = 0, area = 0, edge = 0;
 };
 
 // The corners at one x: the place of the part's first byte and the place after its last, 0 and 0 where there is none.
@@ -144,6 +150,8 @@ inline void print(const CreditFigures &figures) {
     print_numbers({figures.sum, figures.weighted, figures.none, figures.shots});
 }
 
+inline void print(const Charges &charges) { print_numbers({charges.volume, charges.area, charges.edge}); }
+
 inline void print(const Part &part) { print_numbers({part.first, part.end}); }
 
 inline double seconds(clockid_t clock) {
@@ -179,6 +187,38 @@ template <class Measure> int report(double patience, Measure measure) {
     cpu = (seconds(CLOCK_PROCESS_CPUTIME_ID) - cpu) / runs;
     print(figures);
     printf("%.9f %.9f %ld %d\n", best_wall, cpu, peak_memory(), runs);
+    return 0;
+}
+
+// The elapsed time of the quickest of some runs, and the processor time of all.
+struct Times {
+    double best_wall = 1e300, cpu = 0;
+
+    template <class Run> auto of(Run run) {
+        double wall = seconds(CLOCK_MONOTONIC), start = seconds(CLOCK_PROCESS_CPUTIME_ID);
+        auto figures = run();
+        cpu += seconds(CLOCK_PROCESS_CPUTIME_ID) - start;
+        wall = seconds(CLOCK_MONOTONIC) - wall;
+        if (wall < best_wall) best_wall = wall;
+        return figures;
+    }
+};
+
+// Runs two in turn for about so many seconds each, so that both meet the same machine, and prints the figures of the
+// second, the first one's times, and then the second one's as `report` does.
+template <class First, class Second> int report_in_turn(double patience, First first, Second second) {
+    double start = seconds(CLOCK_MONOTONIC);
+    Times before, own;
+    decltype(second()) figures;
+    int runs = 0;
+    do {
+        before.of(first);
+        figures = own.of(second);
+        runs++;
+    } while (seconds(CLOCK_MONOTONIC) - start < 2 * patience);
+    print(figures);
+    printf("%.9f %.9f ", before.best_wall, before.cpu / runs);
+    printf("%.9f %.9f %ld %d\n", own.best_wall, own.cpu / runs, peak_memory(), runs);
     return 0;
 }
 

@@ -1,8 +1,8 @@
 // Ours: one call of heqdanu.h, timed: `ours FILE SECONDS [CALL [WORD]]`, CALL being measure (unless said), list,
-// corners_at, index, recount, credit, need, read, read_vox or write. `need` is the measuring call with an empty work
-// slice: the list's checks and the count of the index's entries. FILE is a shot file, a VOX file for read_vox, and a
-// listing for corners_at. WORD is for list a file that takes the listing, and for corners_at the x, which is 512 unless
-// said.
+// corners_at, index, recount, credit, price, need, read, read_vox or write. `need` is the measuring call with an empty
+// work slice: the list's checks and the count of the index's entries. `price` is run in turn with measuring, by three
+// tables of 64 bands, whose times stand before its own. FILE is a shot file, a VOX file for read_vox, and a listing for
+// corners_at. WORD is for list a file that takes the listing, and for corners_at the x, which is 512 unless said.
 #include "../include/heqdanu.h"
 #include "common.hpp"
 
@@ -47,6 +47,40 @@ static int find_again(const char *path, double patience, uint16_t x) {
     });
 }
 
+// A table of as many bands as are allowed: each holds one amount, and the last all others, so that an amount is found
+// behind all of them. The rate is the band's number, from 1.
+static std::vector<heqdanu_band> longest_table() {
+    std::vector<heqdanu_band> table;
+    for (uint64_t band = 0; band < 64; band++) table.push_back({band, band, band + 1});
+    table.back().last = uint64_t(1) << 40;
+    return table;
+}
+
+// What an amount costs by that table.
+static uint64_t longest_charge(uint64_t amount) { return amount * (amount < 63 ? amount + 1 : 64); }
+
+// Pricing, timed in turn with measuring; the charges must be those of the totals.
+template <class Measure>
+int price_again(const List &list, std::vector<uint32_t> &work, double patience, Measure measure) {
+    std::vector<heqdanu_band> volume = longest_table(), area = volume, edges = volume;
+    Totals totals = measure();
+    return report_in_turn(patience, measure, [&] {
+        answered(heqdanu_price(list.field, list.edge, list.grid, list.coords.data(), list.coords.size(), work.data(),
+                               work.size(), volume.data(), volume.size(), area.data(), area.size(), edges.data(),
+                               edges.size(), answer, HEQDANU_ANSWER));
+        Charges charges;
+        charges.volume = answer[HEQDANU_VOLUME_CHARGE];
+        charges.area = answer[HEQDANU_AREA_CHARGE];
+        charges.edge = answer[HEQDANU_EDGE_CHARGE];
+        if (charges.volume != longest_charge(totals.volume) || charges.area != longest_charge(totals.area) ||
+            charges.edge != longest_charge(totals.edge)) {
+            fprintf(stderr, "the charges are not those of the totals\n");
+            exit(1);
+        }
+        return charges;
+    });
+}
+
 // Stores a listing.
 static void keep(const char *path, const std::vector<uint8_t> &listing) {
     FILE *file = fopen(path, "wb");
@@ -74,6 +108,8 @@ int main(int count, char **arguments) {
     if (call == "need")
         return report(patience, [&] { return answered(measure(&none, 0), HEQDANU_SHORT_WORK); });
     if (call == "measure") return report(patience, [&] { return answered(measure(work.data(), work.size())); });
+    if (call == "price")
+        return price_again(list, work, patience, [&] { return answered(measure(work.data(), work.size())); });
     if (call == "index" || call == "recount") {
         auto indexing = call == "index" ? heqdanu_index : heqdanu_recount;
         return report(patience, [&] {

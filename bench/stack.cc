@@ -100,11 +100,20 @@ static List rows(uint16_t field, uint16_t grid, bool begins, bool turned, int fa
     return list;
 }
 
-enum Call { INDEX, MEASURE, LIST, RECOUNT, CREDIT, CALLS };
+enum Call { INDEX, MEASURE, LIST, RECOUNT, CREDIT, PRICE, CALLS };
+
+// A table of as many bands as are allowed.
+static std::vector<heqdanu_band> longest_table() {
+    std::vector<heqdanu_band> table;
+    for (uint64_t band = 0; band < 64; band++) table.push_back({band, band, band});
+    table.back().last = uint64_t(1) << 40;
+    return table;
+}
 
 // The bytes of stack of one call on a list.
 static size_t depth(const List &list, Call call) {
     static std::vector<uint8_t> listing(HEQDANU_RECORD << 20);
+    static const std::vector<heqdanu_band> volume = longest_table(), area = volume, edges = volume;
     uint64_t answer[HEQDANU_ANSWER];
     const uint16_t *coords = list.coords.data();
     size_t ncoords = list.coords.size();
@@ -117,6 +126,9 @@ static size_t depth(const List &list, Call call) {
         else if (call == CREDIT)
             heqdanu_credit(list.field, list.edge, list.grid, coords, ncoords, work.data(), work.size(), credits.data(),
                            credits.size(), answer, HEQDANU_ANSWER);
+        else if (call == PRICE)
+            heqdanu_price(list.field, list.edge, list.grid, coords, ncoords, work.data(), work.size(), volume.data(),
+                          volume.size(), area.data(), area.size(), edges.data(), edges.size(), answer, HEQDANU_ANSWER);
         else
             measuring(list.field, list.edge, list.grid, coords, ncoords, work.data(), work.size(), answer,
                       HEQDANU_ANSWER);
@@ -153,7 +165,7 @@ int main() {
     stack = static_cast<uint64_t *>(memory);
     std::fill(stack, stack + WORDS, PAINT);
     printf("| %-46s |", "bytes of stack");
-    for (const char *call : {"index", "measure", "list", "recount", "credit"}) printf(" %8s |", call);
+    for (const char *call : {"index", "measure", "list", "recount", "credit", "price"}) printf(" %8s |", call);
     printf("\n| %s |", std::string(46, '-').c_str());
     for (int call = 0; call < CALLS; call++) printf(" -------- |");
     printf("\n");
