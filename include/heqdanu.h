@@ -96,7 +96,7 @@ enum {
     HEQDANU_SHORT_CREDITS = 16,
     /* a field of a map says what its absence would mean; offset of that map */
     HEQDANU_NEEDLESS_FIELD = 17,
-    /* a price table has more than 64 bands, a faulty band, or not the top; 64, the first faulty band, or the number of bands */
+    /* a price table has more than 64 bands, a faulty one, or no top; 64, the faulty band, or the number of bands */
     HEQDANU_INVALID_TABLE = 18
 };
 /* the refusals end */

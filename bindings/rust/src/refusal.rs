@@ -61,7 +61,7 @@ reasons! {
     ShortCredits = 16, "the credits are too short, the shots being {}";
     /// 17: a field says what its absence would mean; the offset of the record's map.
     NeedlessField = 17, "a field says what its absence would mean, in the record at byte {}";
-    /// 18: a price table has more than 64 bands, a faulty one, or not the top; 64, the first faulty band, or the bands.
+    /// 18: a price table has more than 64 bands, a faulty one, or no top; 64, the first faulty band, or the bands.
     InvalidTable = 18, "a price table has a faulty band, no top, or more than 64 bands, the detail being {}";
 }
 
