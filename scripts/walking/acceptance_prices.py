@@ -1,4 +1,4 @@
-"""The scripts of the walks of `check`, `lookup` and `price` of acceptance, each of which makes the call of its name and no other."""
+"""The scripts of the walks of `check`, `lookup` and `price` of acceptance; each makes the call of its name alone."""
 from context import Context
 from lists import H, MR, ROOM, call_price, make_numbers, pass_list, split_owned
 

@@ -118,7 +118,7 @@ class Context:
         self.front(1)
 
     def hears_last(self, lasts, fact, before, bound, name, length, last):
-        """an ensures that names the last value of one `&mut` slice, `before` parameters before it: that value is left as `last`"""
+        """an ensures that names the last value of one `&mut` slice, behind `before` parameters: it is left as `last`"""
         self.binds(f'use1 W (some (λ ({bound} : Lasts {lasts}). ‵ (lasts {lasts} {bound}) ⊛ raw (fact 𝓤 ({fact})))) (id⊢ 𝓤 _) $ pick ! (λ {bound}.')
         self.end_line()
         self.split('lasts', 'fact')

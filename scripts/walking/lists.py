@@ -45,7 +45,7 @@ def make_numbers(c, names, owns):
 
 
 def call_price(c, side, value, fact, places, result):
-    """lends what lies in the locals at these places to `price`, keeps the coordinates and the tables, and hears what it promises"""
+    """lends what lies in these locals to `price`, keeps coordinates and tables, and hears what it promises"""
     c.move('area', 'edges')
     c.join('all')
     for name in ['volume', 'work', 'coords', 'five']:

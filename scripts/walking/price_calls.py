@@ -1,4 +1,4 @@
-"""The script of `goes-price` (price, proofs/PriceCalls.antt): what `price` is passed, with the coordinates and the tables kept."""
+"""The script of `goes-price` (proofs/PriceCalls.antt): what `price` is passed, with coordinates and tables kept."""
 from context import Context
 from lists import FIVE, GIVEN, H, KEYS, MR, TABLES, args, make_numbers
 

@@ -58,7 +58,7 @@ fn holds_amount(b: Band, amount: u64) -> bool
     amount <= b.last
 }
 
-// A band has no fault where the next has to start at `due`.
+// A band that has to start at `due` has no fault.
 fn has_no_fault(b: Band, due: u64) -> bool
     ensures { λ r. ⌜ r ≡ isGood due b ⌝ }
 {
