@@ -48,7 +48,7 @@
 #include <stdint.h>
 
 /* The version that a contract cites, as the command `heqdanu --version` says it. */
-#define HEQDANU_VERSION "0.7.0"
+#define HEQDANU_VERSION "0.8.0"
 
 #ifdef __cplusplus
 extern "C" {
