@@ -42,7 +42,7 @@ pub fn list(
 }
 
 // What comparing two lists gives.
-#[derive(Drop)]
+#[derive(Clone, Copy)]
 pub enum Compared {
     // They cure the same cells.
     Same,

@@ -21,7 +21,7 @@ pub fn credit(
 }
 
 // What crediting two lists answers.
-#[derive(Drop)]
+#[derive(Clone, Copy)]
 pub struct TwoChecked {
     pub one: Checked,
     pub two: Checked,
@@ -57,7 +57,7 @@ pub fn credit_in_two_orders(
 }
 
 // What crediting a list, and listing it and another, answers.
-#[derive(Drop)]
+#[derive(Clone, Copy)]
 pub struct CreditedLists {
     pub credited: Checked,
     pub one: Measured,

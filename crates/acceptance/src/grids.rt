@@ -22,7 +22,7 @@ pub fn write(field: u16, edge: u16, grid: u16, coords: &[u16], bytes: &mut [u8])
 }
 
 // What listing two lists answers.
-#[derive(Drop)]
+#[derive(Clone, Copy)]
 pub struct Both {
     pub one: Measured,
     pub two: Measured,

@@ -23,7 +23,7 @@ use measure_intake::Measured;
 use refusals::Checked;
 
 // The settings of a list.
-#[derive(Drop)]
+#[derive(Clone, Copy)]
 struct Settings {
     field: u16,
     edge: u16,
@@ -31,7 +31,7 @@ struct Settings {
 }
 
 // How long the lent slices are, and how many numbers the list or file has.
-#[derive(Drop)]
+#[derive(Clone, Copy)]
 struct Sizes {
     entries: u16,
     bytes: u16,

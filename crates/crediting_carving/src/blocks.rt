@@ -6,14 +6,14 @@ ghost use Rattle.crediting_carving.specs.Blocks.{empty_span, empty_block, meets_
 use job::shot;
 
 // The cells of an axis from one on and before another.
-#[derive(Drop)]
+#[derive(Clone, Copy)]
 pub struct Span {
     pub from: u16,
     pub to: u16,
 }
 
 // The cells whose places on x, y and z are in three spans.
-#[derive(Drop)]
+#[derive(Clone, Copy)]
 pub struct Block {
     pub x: Span,
     pub y: Span,

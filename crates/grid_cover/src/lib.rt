@@ -36,7 +36,7 @@ fn shot_covers(coords: &[u16], edge: u16, shot: u32, i: u16, j: u16, k: u16) -> 
 }
 
 // What the cover test finds.
-#[derive(Drop)]
+#[derive(Clone, Copy)]
 pub enum Covering {
     // The number of the first shot of the run that covers the cell.
     Shot(u32),

@@ -7,7 +7,7 @@ ghost use Rattle.input.specs.Filled.{Between};
 use libc::STDIN_FILENO;
 
 // How many bytes are there; or that a read failed, or that something else was in the way, which is said.
-#[derive(Drop)]
+#[derive(Clone, Copy)]
 pub enum Filled {
     Bytes(usize),
     Failed,

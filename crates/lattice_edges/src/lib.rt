@@ -8,7 +8,7 @@ ghost use Rattle.lattice.specs.Pattern.{of_byte, corner};
 ghost use Rattle.lattice_edges.specs.UnitEdges.{four_about};
 
 // The six unit edges at a lattice point: on each axis the one below it and the one above.
-#[derive(Drop)]
+#[derive(Clone, Copy)]
 pub enum UnitEdge {
     BelowX,
     AboveX,

@@ -9,7 +9,7 @@ ghost use Rattle.lattice_weights.specs.Packed.{Packed};
 use lattice_weights::weight_at;
 
 // The four sums so far, and how many corners they have.
-#[derive(Drop)]
+#[derive(Clone, Copy)]
 pub struct CornerSums {
     pub volume: i64,
     pub area: i64,
@@ -19,7 +19,7 @@ pub struct CornerSums {
 }
 
 // The totals of a job, and its corner count.
-#[derive(Drop)]
+#[derive(Clone, Copy)]
 pub struct Totals {
     pub volume: u64,
     pub area: u64,

@@ -9,7 +9,7 @@ use lattice_sums::sums::Totals;
 use refusals::{Checked, Refusal};
 
 // The totals of a list and its corner count, or why there are none.
-#[derive(Drop)]
+#[derive(Clone, Copy)]
 pub enum Measured {
     Quote(Totals),
     Refused(Refusal),

@@ -10,7 +10,7 @@ ghost use Rattle.price_bands.specs.Survey.{is_next, start_at, counted, noted, ju
 
 // An amount from `first` to `last`, both included, costs `cents` for each unit.
 #[repr(C)]
-#[derive(Drop)]
+#[derive(Clone, Copy)]
 pub struct Band {
     pub first: u64,
     pub last: u64,
@@ -19,7 +19,7 @@ pub struct Band {
 
 // What the check of a table finds: no fault; or the first faulty band, from 0, the number of bands where the top is missing, and 64 where there
 // are more than 64.
-#[derive(Drop)]
+#[derive(Clone, Copy)]
 pub enum Verdict {
     Sound,
     Faulty { band: usize },
@@ -27,7 +27,7 @@ pub enum Verdict {
 
 // What is known of a table after some of its bands. No fault is stored: of the bands seen, the first `good` have none, and the next, where
 // there is one, is the first that has.
-#[derive(Drop)]
+#[derive(Clone, Copy)]
 struct State {
     // The amount that is looked up.
     amount: u64,

@@ -11,7 +11,7 @@ use price_bands::Verdict;
 use refusals::{Checked, Refusal};
 
 // What a list costs, in cents: for its volume, its area and its outer edges.
-#[derive(Drop)]
+#[derive(Clone, Copy)]
 pub struct Charges {
     pub volume: u64,
     pub area: u64,
@@ -19,14 +19,14 @@ pub struct Charges {
 }
 
 // The charges of a list, or why there are none.
-#[derive(Drop)]
+#[derive(Clone, Copy)]
 pub enum Priced {
     Charged(Charges),
     Refused(Refusal),
 }
 
 // What is known of a list before its tables are looked at: whether the tests so far accept it, and the amounts that are charged.
-#[derive(Drop)]
+#[derive(Clone, Copy)]
 pub struct Taken {
     pub checked: Checked,
     pub volume: u64,

@@ -6,7 +6,7 @@ ghost use Rattle.std.specs.Prelude.{◌≡◌};
 ghost use Rattle.refusals.specs.Refusals.{notice_of};
 
 // Why a call is refused, in the order of their numbers, with the detail where there is one.
-#[derive(Drop)]
+#[derive(Clone, Copy)]
 pub enum Refusal {
     // The coordinates' count is not a multiple of three.
     BrokenShot,
@@ -47,14 +47,14 @@ pub enum Refusal {
 }
 
 // What the checks of a list and its settings find.
-#[derive(Drop)]
+#[derive(Clone, Copy)]
 pub enum Checked {
     Accepted,
     Refused(Refusal),
 }
 
 // Where a refusal is met; the refusal's detail says at which one.
-#[derive(Drop)]
+#[derive(Clone, Copy)]
 pub enum Place {
     // At a byte of a file, where the faulty record, mark, chunk or voxel begins.
     Byte,
@@ -65,7 +65,7 @@ pub enum Place {
 }
 
 // What is told of a refusal: its number in the published list, its detail, 0 where it has none, and where it is met.
-#[derive(Drop)]
+#[derive(Clone, Copy)]
 pub struct Notice {
     pub number: u8,
     pub detail: usize,

@@ -10,14 +10,14 @@ ghost use Rattle.lattice.specs.Listing.{read_back};
 ghost use Rattle.section.specs.Section.{step_from, after_at, asked, asks, count_before, places_of, part_with};
 
 // What a reader meets at its place.
-#[derive(Drop)]
+#[derive(Clone, Copy)]
 pub enum Step {
     Corner { x: u16, y: u16, z: u16, pattern: u8 },
     Done,
 }
 
 // The bytes from `first` up to `end`, `end` not among them.
-#[derive(Drop)]
+#[derive(Clone, Copy)]
 pub struct Places {
     pub first: usize,
     pub end: usize,

@@ -12,14 +12,14 @@ use refusals::Refusal;
 use shotfile_records::{Fields, Taken, first_absent, header_absent, take_record};
 
 // A place of a shot file, and the coordinates of the last shot taken: zeros before the first.
-#[derive(Drop)]
+#[derive(Clone, Copy)]
 pub struct Cursor {
     pub at: usize,
     pub last: Fields,
 }
 
 // What a step of the cursor takes.
-#[derive(Drop)]
+#[derive(Clone, Copy)]
 pub enum Step {
     // A whole record: the cursor after it, which holds the shot's coordinates.
     Shot(Cursor),
@@ -29,14 +29,14 @@ pub enum Step {
 }
 
 // What a check of the shots finds.
-#[derive(Drop)]
+#[derive(Clone, Copy)]
 pub enum Counted {
     Shots(usize),
     Refused(Refusal),
 }
 
 // What `read` answers.
-#[derive(Drop)]
+#[derive(Clone, Copy)]
 pub enum ReadAnswer {
     // The settings, and how many shots were stored.
     Read {

@@ -15,7 +15,7 @@ const EDGE: u16 = 16;
 const GRID: u16 = 16;
 
 // The three numbers of a record: F, E, G of the header, x, y, z of a shot.
-#[derive(Drop)]
+#[derive(Clone, Copy)]
 pub struct Fields {
     pub first: u16,
     pub second: u16,
@@ -23,7 +23,7 @@ pub struct Fields {
 }
 
 // What stands at a place of a file.
-#[derive(Drop)]
+#[derive(Clone, Copy)]
 pub enum Taken {
     // A whole record: its numbers, and the place after it.
     Whole { fields: Fields, end: usize },

@@ -12,7 +12,7 @@ use refusals::{Checked, Refusal};
 use shotfile_records::{Fields, first_absent, header_absent, put_record, record_length};
 
 // What `write` answers.
-#[derive(Drop)]
+#[derive(Clone, Copy)]
 pub enum WriteAnswer {
     // How many bytes the file has.
     Written { bytes: usize },

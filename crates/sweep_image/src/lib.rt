@@ -12,7 +12,7 @@ ghost use Rattle.sweep_image.specs.Changes.{Changed, masked, ColumnFilled};
 pub const ROWS: usize = 1026;
 
 // The cells of a layer after `low` and up to `high` on y, and after `from` and up to `to` on z, by the points where they end.
-#[derive(Drop)]
+#[derive(Clone, Copy)]
 pub struct Rect {
     pub low: u16,
     pub high: u16,

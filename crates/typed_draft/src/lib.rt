@@ -7,14 +7,14 @@ use shotfile_records::header_absent;
 use typed_line::{Entry, Mistake, Setting};
 
 // A setting, and whether a line has given it.
-#[derive(Drop)]
+#[derive(Clone, Copy)]
 pub struct Given {
     pub number: u16,
     pub given: bool,
 }
 
 // The settings and the number of shots.
-#[derive(Drop)]
+#[derive(Clone, Copy)]
 pub struct Draft {
     pub field: Given,
     pub edge: Given,
@@ -23,7 +23,7 @@ pub struct Draft {
 }
 
 // What a line more makes of it.
-#[derive(Drop)]
+#[derive(Clone, Copy)]
 pub enum Next {
     Goes(Draft),
     Stops(Mistake),

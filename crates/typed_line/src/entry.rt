@@ -8,7 +8,7 @@ use crate::word::{End, Part, next_word, until};
 use text_same::same_bytes;
 
 // The settings of a list.
-#[derive(Drop)]
+#[derive(Clone, Copy)]
 pub enum Setting {
     Field,
     Edge,
@@ -16,7 +16,7 @@ pub enum Setting {
 }
 
 // What the first word of a line asks for.
-#[derive(Drop)]
+#[derive(Clone, Copy)]
 pub enum Command {
     Set(Setting),
     Shoot,
@@ -24,7 +24,7 @@ pub enum Command {
 }
 
 // What a word is as a number.
-#[derive(Drop)]
+#[derive(Clone, Copy)]
 pub enum Number {
     Is(u16),
     // It has a byte that is no digit.
@@ -34,7 +34,7 @@ pub enum Number {
 }
 
 // What is wrong with a line.
-#[derive(Drop)]
+#[derive(Clone, Copy)]
 pub enum Mistake {
     // The first word is none of field, edge, grid, shot.
     UnknownWord,
@@ -53,7 +53,7 @@ pub enum Mistake {
 }
 
 // What a line says.
-#[derive(Drop)]
+#[derive(Clone, Copy)]
 pub enum Entry {
     Nothing,
     Setting { which: Setting, number: u16 },

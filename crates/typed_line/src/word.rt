@@ -4,7 +4,7 @@ ghost use Rattle.typed_line.specs.Words.{before, blank};
 ghost use Rattle.typed_line.specs.Cursors.{is_end, Skipped, NextWord};
 
 // What ends at a byte.
-#[derive(Drop)]
+#[derive(Clone, Copy)]
 pub enum End {
     Line,
     Code,
@@ -12,7 +12,7 @@ pub enum End {
 }
 
 // A part of a line: the place where it starts, and the place after it.
-#[derive(Drop)]
+#[derive(Clone, Copy)]
 pub struct Part {
     pub start: usize,
     pub end: usize,

@@ -12,7 +12,7 @@ use typed_draft::{Draft, Next, nothing_yet, then};
 use typed_line::{End, Entry, Mistake, read_line, until};
 
 // What a text says.
-#[derive(Drop)]
+#[derive(Clone, Copy)]
 pub enum Typed {
     // The settings, and how many shots were stored.
     List {
