@@ -1,8 +1,6 @@
 -- The products of two coordinates are at most 2²⁰, and the weights at most 2.
-use mathlib.Core.Path.{◌≡◌, ◌∙◌}
-use mir.Syntax.{w8}
-use mir.Val.{to_z, of_z}
-use Rattle.lattice.specs.Pattern.{of_byte, ax, ay, az, area_term}
+use mathlib.Core.Path.{◌∙◌}
+use Rattle.lattice.specs.Pattern.{of_byte, area_term}
 use Rattle.lattice.specs.Figures.{Area}
 use Rattle.lattice.proofs.PatternLaws.{weight-small}
 use Rattle.lattice.proofs.TermBounds.{term-small}

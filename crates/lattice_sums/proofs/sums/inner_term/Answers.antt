@@ -1,9 +1,7 @@
 -- The coordinates are at most 1,024, and the weights at most 1.
-use mathlib.Core.Path.{◌≡◌, ◌∙◌}
+use mathlib.Core.Path.{◌∙◌}
 use native.Mathlib.Omega.{arith}
-use mir.Syntax.{w8}
-use mir.Val.{to_z, of_z}
-use Rattle.lattice.specs.Pattern.{of_byte, ix, iy, iz, inner_term}
+use Rattle.lattice.specs.Pattern.{of_byte, inner_term}
 use Rattle.lattice.specs.Figures.{InnerLength}
 use Rattle.lattice.proofs.PatternLaws.{weight-small}
 use Rattle.lattice.proofs.TermBounds.{term-small}

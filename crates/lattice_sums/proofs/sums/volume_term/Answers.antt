@@ -1,11 +1,9 @@
 -- The product of the coordinates is at most 2³⁰, and w at most 4.
-use mathlib.Core.Path.{◌≡◌, ◌∙◌, ap}
+use mathlib.Core.Path.{◌∙◌, ap}
 use Prim.Native.Nat.{◌*◌}
 use native.Mathlib.Omega.{arith}
 use lib.IntN.{pos, ◌*ℤ◌}
-use mir.Syntax.{w8}
-use mir.Val.{to_z, of_z}
-use Rattle.lattice.specs.Pattern.{of_byte, w}
+use Rattle.lattice.specs.Pattern.{of_byte}
 use Rattle.lattice.specs.Figures.{Volume}
 use Rattle.lattice.proofs.PatternLaws.{weight-small}
 use Rattle.lattice.proofs.TermBounds.{two-small, three-small, term-small}
