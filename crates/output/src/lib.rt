@@ -4,7 +4,8 @@
 #![tactic(auto)]
 
 use refusals::Refusal;
-use std::io::Print;
+use std::io::{Error, ErrorKind, Print};
+use std::process::ExitCode;
 use std::rt::{Stderr, Stdout};
 
 // Says words on standard error. Where that cannot be written, there is nowhere to say so.
@@ -35,12 +36,22 @@ pub fn say_unwritable(stderr: Stderr, program: &[u8]) {
     say(stderr, b": standard output cannot be written\n");
 }
 
-// Writes the text of a program, or says that it cannot be written, or not all of it.
-pub fn write_text(stdout: Stdout, stderr: Stderr, program: &[u8], text: &[u8]) {
-    if stdout.write_all(text).is_ok() {
-        return;
+// How a program ends whose text was not written, or not all of it. Where the reader of a pipe has left, nothing is said, and the status is
+// that of a program which signal 13 ends, as shells have it. Else it is said, and the program ends with 0, whatever it says.
+pub fn end_unwritten(stderr: Stderr, program: &[u8], error: Error) -> ExitCode {
+    if error.kind() == ErrorKind::BrokenPipe {
+        return ExitCode::from(141);
     }
     say_unwritable(stderr, program);
+    ExitCode::SUCCESS
+}
+
+// Writes the text of a program, or says that it cannot be written, or not all of it; and how the program ends.
+pub fn write_text(stdout: Stdout, stderr: Stderr, program: &[u8], text: &[u8]) -> ExitCode {
+    match stdout.write_all(text) {
+        Ok(()) => ExitCode::SUCCESS,
+        Err(error) => end_unwritten(stderr, program, error),
+    }
 }
 
 // Notes that a VOX file has further models, which are passed; the answer stands.

@@ -6,6 +6,7 @@
 use input::Filled;
 use output::{say, say_number};
 use shotfile_writer::WriteAnswer;
+use std::process::ExitCode;
 use std::rt::{Stderr, Stdout};
 use typed_line::Mistake;
 use typed_list::Typed;
@@ -38,19 +39,29 @@ fn tell_mistake(stderr: Stderr, line: usize, mistake: Mistake) {
 }
 
 // Writes the file of a list; 28,679 bytes are the longest file.
-fn write_list(stdout: Stdout, stderr: Stderr, field: u16, edge: u16, grid: u16, coords: &[u16]) {
+fn write_list(
+    stdout: Stdout,
+    stderr: Stderr,
+    field: u16,
+    edge: u16,
+    grid: u16,
+    coords: &[u16],
+) -> ExitCode {
     let mut bytes = [0u8; 28679];
     let answer = shotfile_writer::write(field, edge, grid, coords, &mut bytes);
     match answer {
         WriteAnswer::Written { bytes: n } => {
-            output::write_text(stdout, stderr, b"write_shots", &bytes[..n]);
+            output::write_text(stdout, stderr, b"write_shots", &bytes[..n])
         }
-        WriteAnswer::Refused(refusal) => output::say_refusal(stderr, b"write_shots", refusal),
+        WriteAnswer::Refused(refusal) => {
+            output::say_refusal(stderr, b"write_shots", refusal);
+            ExitCode::SUCCESS
+        }
     }
 }
 
 // Writes the file of the list that a text says; the coordinates have places for 4,096 shots.
-fn write_text(stdout: Stdout, stderr: Stderr, text: &[u8]) {
+fn write_text(stdout: Stdout, stderr: Stderr, text: &[u8]) -> ExitCode {
     let mut coords = [0u16; 12288];
     let typed = typed_list::read_text(text, &mut coords);
     match typed {
@@ -67,13 +78,16 @@ fn write_text(stdout: Stdout, stderr: Stderr, text: &[u8]) {
                 edge,
                 grid,
                 job::shot::first(&coords, shots),
-            );
+            )
         }
-        Typed::Mistake { line, mistake } => tell_mistake(stderr, line, mistake),
+        Typed::Mistake { line, mistake } => {
+            tell_mistake(stderr, line, mistake);
+            ExitCode::SUCCESS
+        }
     }
 }
 
-fn main(rt: HostRuntime) {
+fn main(rt: HostRuntime) -> ExitCode {
     let mut text = [0u8; 262144];
     let filled = input::take_whole(
         &rt,
@@ -83,7 +97,8 @@ fn main(rt: HostRuntime) {
         &mut text,
         b": the text is longer than 262,143 bytes\n",
     );
-    if let Filled::Bytes(n) = filled {
-        write_text(rt.stdout(), rt.stderr(), &text[..n]);
+    match filled {
+        Filled::Bytes(n) => write_text(rt.stdout(), rt.stderr(), &text[..n]),
+        Filled::Failed => ExitCode::SUCCESS,
     }
 }
