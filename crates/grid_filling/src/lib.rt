@@ -3,6 +3,8 @@
 // `build` leaves the index as a function of the list (specs/Grid.antt of `grid`), and past it what was there. The shots are narrowed to a
 // slab, a row and a cell, and each run goes behind the one before it; nothing of the work slice serves as scratch. specs/Filling.antt says
 // what stands in the slice while it is filled. Stands on `grid`, whose index it puts in, and on `buffer`, `job` and `ground`.
+#![tactic(auto)]
+
 ghost use Rattle.std.specs.Prelude.{◌≡◌, ◌+◌, ◌-◌, ◌*◌, ◌≤◌, ◌<◌, length, set};
 ghost use Rattle.ground.specs.Numbers.{bit, up_to, AllBelow};
 ghost use Rattle.job.specs.Job.{job_of, shot_count, Valid};

@@ -3,6 +3,8 @@
 // the job as one value, while functions and their loops take field, edge, grid and coordinates apart. specs/Checking.antt is what `check`
 // answers; proofs/Conditions.antt when, exactly. Stands on `buffer`, on `lattice`, whose shots and cells the definitions use, and on
 // `refusals`.
+#![tactic(auto)]
+
 ghost use Rattle.std.specs.Prelude.{◌≡◌};
 ghost use Rattle.job.specs.Job.{job_of, shots_of};
 ghost use Rattle.job.specs.Checking.{outside, past, leaves, first_leaving, setting_tests, shot_tests, tests};

@@ -2,9 +2,9 @@
 -- function by its fall, and what is left counts the places 1 to n; across (false) it, every point from 0 to n counts once.
 use mathlib.Core.Path.{◌≡◌, refl, ◌∙◌, ap, fun_ext}
 use mathlib.Core.Bool.{Bool, true, false}
-use Prim.Native.Nat.{ℕ, suc, ◌+◌, ◌*◌, ◌≤◌}
+use Prim.Native.Nat.{ℕ, suc, ◌*◌, ◌≤◌}
 use native.Mathlib.Omega.{arith}
-use lib.IntN.{ℤ, pos, ◌+ℤ◌, ◌-ℤ◌, ◌*ℤ◌, +ℤ_invr}
+use lib.IntN.{ℤ, pos, ◌-ℤ◌, ◌*ℤ◌, +ℤ_invr}
 use Rattle.ground.specs.Sums.{total, sum}
 use Rattle.ground.proofs.Integers.{*ℤ-dist, *ℤ-neg, *ℤ-assoc, one-*ℤ}
 use Rattle.ground.proofs.SumLaws.{sum-ext, sum-sub, sum-scale, sum-total, fall, sum-by-parts}

@@ -1,3 +1,5 @@
+#![tactic(auto)]
+
 // Unit cells, the eight cells about a lattice point, and what they weigh.
 //
 // specs/ defines cells, the four totals, patterns, weights, corner points and listings in the words of docs/SCOPE.md;

@@ -1,5 +1,7 @@
 // The unit edges at a lattice point, and the corner test, from the pattern byte: docs/SCOPE.md, 'Cells and totals' and
 // 'Corner points'. specs/UnitEdges.antt has the four cells about a unit edge. Stands on `lattice`.
+#![tactic(auto)]
+
 ghost use Rattle.std.specs.Prelude.{◌≡◌, Bool, false, ℕ, ◌<◌};
 ghost use Rattle.std.specs.Int.Bits.{bit_and};
 ghost use Rattle.std.specs.Int.Count.{ones};

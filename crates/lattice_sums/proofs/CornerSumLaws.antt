@@ -25,10 +25,10 @@ use Rattle.lattice_weights.proofs.PackedLaws.{fits64}
 
 -- ---- a result that went through a place of memory
 pub told8 : {z v : ℤ} → mag z < 128 → z ≡ v → to_z w8 (of_z w8 z) ≡ v
-told8 h e = to_z-of_z (record { sfits = h }) ∙ e
+told8 h e = to_z-of_z {w = w8} (record { sfits = h }) ∙ e
 
 pub told64 : {z v : ℤ} → mag z < 9223372036854775808 → z ≡ v → to_z w64 (of_z w64 z) ≡ v
-told64 h e = to_z-of_z (record { sfits = h }) ∙ e
+told64 h e = to_z-of_z {w = w64} (record { sfits = h }) ∙ e
 
 -- a number that is not negative fits where its magnitude goes
 pub whole-asked : (v : ℤ) → v ≡ pos (nat_abs v) → SFits w64 v → T (non_neg (to_z w64 (of_z w64 v))) × Fits w64 (nat_abs (to_z w64 (of_z w64 v)))

@@ -1,5 +1,7 @@
 // The ten weights of a pattern, as constant tables of 256 signed entries: docs/SCOPE.md, 'Corner points'.
 // Each table's rule is tested once over the whole table. The tables are read as a whole, by `lattice_weights`. Stands on `lattice`.
+#![tactic(auto)]
+
 ghost use Rattle.lattice.specs.Pattern.{w, ax, ay, az, ex, ey, ez, ix, iy, iz};
 ghost use Rattle.lattice_tables.specs.Tables.{Weighs};
 

@@ -2,6 +2,8 @@
 // constant table together on the stack at every read. Stands on `lattice_tables` and `lattice`.
 //
 // `t` is the lent table, `p` or `q` a pattern's byte, and `j` one of the ten weights.
+#![tactic(auto)]
+
 ghost use Rattle.std.specs.Prelude.{◌≡◌, ◌+◌, ◌<◌, length};
 ghost use Rattle.lattice.specs.Pattern.{of_byte};
 ghost use Rattle.lattice_tables.specs.Tables.{Weighs};

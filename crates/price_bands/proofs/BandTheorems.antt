@@ -8,12 +8,12 @@ use mathlib.Core.Logic.{◌↔◌}
 use Prim.Native.Nat.{ℕ, zero, suc, ◌+◌, ◌≤◌, ◌<◌}
 use native.Mathlib.Omega.{arith}
 use lib.Dec.{ltb, eqb}
-use lib.ListN.{length, get_or}
+use lib.ListN.{length}
 use borrow.Author.Tests.{ltb-true, ltb-false, lt-ltb, le-ltb, eq-eqb, ne_eqb, eqb-true, eqb-false}
 use Rattle.price_bands.specs.declared.Band.{Band}
 use Rattle.price_bands.specs.declared.Verdict.{Verdict}
 use Rattle.price_bands.specs.declared.Verdict.TheVariants.{Sound, Faulty}
-use Rattle.price_bands.specs.Bands.{top, highest_rate, most_bands, no_band, band_at, In, due_at, Good, ValidTable, FirstFaulty, Fault, too_many, band_faulty, no_top, is_good, first_faulty, end_of, verdict_of, holds, RatedBy, rate_of}
+use Rattle.price_bands.specs.Bands.{top, highest_rate, most_bands, band_at, In, due_at, Good, ValidTable, FirstFaulty, Fault, too_many, band_faulty, no_top, is_good, first_faulty, end_of, verdict_of, holds, RatedBy, rate_of}
 use Rattle.ground.proofs.Bools.{not_so}
 use Rattle.price_bands.proofs.JudgeLaws.{holds-says, good-says}
 

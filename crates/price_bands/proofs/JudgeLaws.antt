@@ -1,5 +1,5 @@
 -- What the functions that judge one band answer, one way out after the other. Assumes nothing.
-use mathlib.Core.Path.{◌≡◌, refl, sym, ap, ◌∙◌}
+use mathlib.Core.Path.{◌≡◌, refl}
 use mathlib.Core.Bool.{Bool, true, false}
 use mathlib.Core.Logic.{◌↔◌}
 use Prim.Native.Nat.{ℕ, ◌+◌, ◌≤◌, ◌<◌}
@@ -9,7 +9,6 @@ use Rattle.ground.proofs.Bools.{and_first, and_second, and-true}
 use Rattle.ground.proofs.Tests.{eqb-says, leb-says, and-says}
 use Rattle.price_bands.specs.declared.Band.{Band}
 use Rattle.price_bands.specs.declared.State.{State}
-use Rattle.price_bands.specs.declared.Verdict.{Verdict}
 use Rattle.price_bands.specs.declared.Verdict.TheVariants.{Sound, Faulty}
 use Rattle.price_bands.specs.Bands.{top, highest_rate, most_bands, In, Good, is_good, holds}
 use Rattle.price_bands.specs.Survey.{is_next, with_good, with_other, counted, with_rate, noted, verdict_in}

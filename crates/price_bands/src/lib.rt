@@ -2,8 +2,10 @@
 //
 // specs/Bands.antt says what a valid table is, what is wrong with one that is not, and which band holds an amount;
 // proofs/BandTheorems.antt, the file to read first, what the check and the lookup are good for, for any band list. A table is a lent slice
-// of structs, a form that the toolchain does not cover: `survey`, `check` and `lookup` are thin, have no branch, and have their proofs written
-// by hand, step by step; what judges one band is covered. Stands on `ground`, and knows nothing of a list or its totals.
+// of structs: `survey`, `check` and `lookup` are thin and have no branch; `judge` judges one band. Stands on `ground`, and knows nothing of a
+// list or its totals.
+#![tactic(auto)]
+
 ghost use Rattle.std.specs.Prelude.{◌≡◌};
 ghost use Rattle.price_bands.specs.Bands.{is_good, holds, verdict_of, rate_of};
 ghost use Rattle.price_bands.specs.Survey.{is_next, start_at, counted, noted, judged, surveyed, verdict_in};

@@ -2,6 +2,8 @@
 // 'When a job is refused'. specs/Refusals.antt says what is told of a refusal, specs/Tests.antt which of a call's tests decides, and
 // specs/Deciding.antt when a call accepts and refuses; proofs/Deciding.antt has the laws by which a call's tests are put together. Stands on
 // nothing.
+#![tactic(auto)]
+
 ghost use Rattle.std.specs.Prelude.{◌≡◌};
 ghost use Rattle.refusals.specs.Refusals.{notice_of};
 

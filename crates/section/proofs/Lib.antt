@@ -2,6 +2,4 @@ pub mod ListedRuns  -- what the first run is; of a listing that the software mad
 pub mod RunLaws  -- the search for a run's ends, and the part between them
 pub mod StepLaws  -- what a reader meets, step after step
 pub mod RecordLaws  -- the whole records of any bytes
-pub mod ReaderCalls  -- the calls of `open`, `corner` and `next`, for the walks of the functions above them
-pub mod ReaderApart  -- the reader taken apart, for the walks of its methods
 pub mod Examples  -- a damaged listing

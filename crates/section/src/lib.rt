@@ -5,6 +5,8 @@
 // it apart and call the core. `step_from`, `next_from` and `step_after` step by the reader with plain parameters; all other callers use them.
 // specs/Section.antt says what is read and what the part is; proofs/ListedRuns.antt, what that means for a listing that the software made.
 // Stands on `lattice`.
+#![tactic(auto)]
+
 ghost use Rattle.std.specs.Prelude.{◌≡◌, ◌+◌, ◌*◌, ◌/◌, ◌≤◌, ◌<◌, ltb, eqb, length, drop, get_or};
 ghost use Rattle.lattice.specs.Listing.{read_back};
 ghost use Rattle.section.specs.Section.{step_from, after_at, asked, asks, count_before, places_of, part_with};

@@ -1,6 +1,8 @@
 // Rows that name no column, in which the images of the layers about a plane are the same, passed over eight at a time. Stands on `sweep_names`.
 //
 // `names` are the columns in which the images may differ, row by row, and `y` is a row.
+#![tactic(auto)]
+
 ghost use Rattle.std.specs.Prelude.{◌≡◌, ◌+◌, ◌<◌, ◌≤◌, length};
 ghost use Rattle.sweep_names.specs.Names.{name_rows};
 ghost use Rattle.sweep_blanks.specs.Blanks.{Blank};

@@ -1,6 +1,8 @@
 // The box of a shot as six numbers in a slot: where it begins and ends on x, on y and on z. Stands on `job` and `buffer`.
 //
 // `c` are the coordinates of a list, `i` is a shot of it, `e` its edge, and `n` the number of a slot.
+#![tactic(auto)]
+
 ghost use Rattle.std.specs.Prelude.{◌≡◌, [], ◌∷◌, ◌+◌, ◌*◌, ◌≤◌, ◌<◌, length};
 ghost use Rattle.buffer.specs.Wrote.{Wrote};
 ghost use Rattle.lattice.specs.Shots.{InField};

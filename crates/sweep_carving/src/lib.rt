@@ -6,6 +6,8 @@
 // `to` and `r` are as in `sweep_overlaps`. *Again* says that a rectangle is cleared and then shown box by box.
 //
 // specs/Carving.antt says what a rectangle shown anew is. Stands on `lattice`, `sweep_image`, `sweep_names` and `sweep_overlaps`.
+#![tactic(auto)]
+
 ghost use Rattle.std.specs.Prelude.{◌+◌, ◌≤◌, length};
 ghost use Rattle.sweep_image.specs.Images.{Turned, Beside, RectIn, image_size};
 ghost use Rattle.sweep_names.specs.Names.{Tells, Lent};

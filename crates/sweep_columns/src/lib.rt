@@ -4,6 +4,8 @@
 // `l` and `u` are the images of the lower and the upper layer, `k` is a column of them, `x` the plane and `y` the line; `l0`, `l1`, `u0` and `u1`
 // are the four words, `t` are the corner sums before a function and `s` those so far, `buf` is the lent buffer; `m` has the bits of a word that
 // are still to be looked at.
+#![tactic(auto)]
+
 ghost use Rattle.std.specs.Prelude.{◌≡◌, ◌+◌, ◌-◌, ◌*◌, ◌≤◌, length};
 ghost use Rattle.lattice.specs.Cells.{line_points};
 ghost use Rattle.lattice_sums.specs.CornerSums.{RoomFor};

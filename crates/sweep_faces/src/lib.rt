@@ -4,6 +4,8 @@
 //
 // `boxes`, `x`, `r`, `l`, `u` and `names` are as in `sweep_overlaps` and `sweep_image`. *About* the plane x, of the first `n` boxes those before
 // number `from` end before it, those before `old` begin before it, the others on it; `q` is one of them.
+#![tactic(auto)]
+
 ghost use Rattle.std.specs.Prelude.{◌≡◌, ◌+◌, ◌*◌, ◌<◌, ◌≤◌, length};
 ghost use Rattle.lattice.specs.Boxes.{box_at};
 ghost use Rattle.sweep_names.specs.Names.{Tells, Lent};

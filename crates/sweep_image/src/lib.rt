@@ -3,6 +3,8 @@
 // Here and in the crates above: `l` and `u` are the images of the layers below and above a plane, `names` the columns in which the two may
 // differ, row by row; `k` is a column, `y` a row, `r` a rectangle, and `field` the side of the field. An image has a column for each 63
 // places on z, of a word for each row; an image that is *turned* shows what it showed with a change.
+#![tactic(auto)]
+
 ghost use Rattle.std.specs.Prelude.{◌*◌, ◌/◌, ◌≤◌, length};
 ghost use Rattle.std.specs.Int.Bits.{bit_and, bit_or};
 ghost use Rattle.sweep_image.specs.Images.{RectIn, Turned, Beside, filled, image_size};

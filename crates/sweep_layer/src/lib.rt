@@ -3,6 +3,8 @@
 //
 // `boxes`, `x`, `r`, `l`, `u` and `names` are as in `sweep_overlaps` and `sweep_image`; `from`, `old` and `n` as in `sweep_faces`, and `ends`
 // counts the boxes that end on the plane.
+#![tactic(auto)]
+
 ghost use Rattle.std.specs.Prelude.{◌+◌, ◌*◌, ◌<◌, ◌≤◌};
 ghost use Rattle.sweep_names.specs.Names.{Tells, Lent};
 ghost use Rattle.sweep_overlaps.specs.Overlaps.{shade};

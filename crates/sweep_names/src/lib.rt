@@ -1,6 +1,8 @@
 // The columns in which the images of the layers below and above a plane across x may differ, named row by row: bit k of entry y names column
 // k in row y. A rectangle set or cleared in the upper image has its columns named where the two differ. Stands on `sweep_image` and
 // `sweep_words`, which say what `l`, `u`, `k`, `y` and `r` are. Names that *tell* leave out no word in which the images differ.
+#![tactic(auto)]
+
 ghost use Rattle.std.specs.Prelude.{◌≡◌, cond, ◌+◌, ◌*◌, ◌/◌, ◌≤◌, length};
 ghost use Rattle.std.specs.Int.Bits.{bit_or};
 ghost use Rattle.sweep_image.specs.Images.{RectIn, Turned, painted, wiped, words_from, in_words};

@@ -3,6 +3,8 @@
 //
 // `boxes` has six numbers a box, `count` of them, rising by where they begin on x; `x` is a plane; the boxes before number `from` end before it,
 // those before `old` begin before it.
+#![tactic(auto)]
+
 ghost use Rattle.std.specs.Prelude.{◌≡◌, ◌+◌, ◌*◌, ◌<◌, ◌≤◌, length, get_or, set};
 ghost use Rattle.ground.specs.FirstPlace.{FirstPlace};
 ghost use Rattle.sweep_order.specs.Order.{Given, begins_past, lasts_to, EndsRow};

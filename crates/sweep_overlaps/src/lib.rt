@@ -5,6 +5,8 @@
 // `to` bound the numbers of the boxes that are looked at. The *shade* of some boxes are the cells of that layer that they have.
 //
 // specs/Overlaps.antt says which cells these are. Stands on `lattice` and `sweep_image`.
+#![tactic(auto)]
+
 ghost use Rattle.std.specs.Prelude.{◌≡◌, ◌+◌, ◌-◌, ◌*◌, ◌≤◌, min, max, length};
 ghost use Rattle.lattice.specs.Boxes.{box_at};
 ghost use Rattle.sweep_image.specs.Images.{RectIn};

@@ -6,6 +6,8 @@
 // `to` and `r` are as in `sweep_overlaps`.
 //
 // specs/Painting.antt says what cells painted are. Stands on `lattice`, `sweep_image`, `sweep_names` and `sweep_overlaps`.
+#![tactic(auto)]
+
 ghost use Rattle.std.specs.Prelude.{◌≤◌};
 ghost use Rattle.sweep_image.specs.Images.{in_rect};
 ghost use Rattle.sweep_names.specs.Names.{Tells, Lent};

@@ -1,6 +1,8 @@
 // The image of the layer below a plane across x brought to the image of the layer above it: the named columns are copied, and then none is
 // named. Stands on `sweep_names`, `sweep_image` and `sweep_words`; `l`, `u` and `names` are as there, and `m` has the columns of a row that are
 // yet to be copied.
+#![tactic(auto)]
+
 ghost use Rattle.std.specs.Prelude.{◌≡◌, true, ℕ, ◌+◌, ◌<◌, ◌≤◌, length, get_or};
 ghost use Rattle.sweep_image.specs.Changes.{Changed};
 ghost use Rattle.sweep_names.specs.Names.{name_rows, Tells, Lent};

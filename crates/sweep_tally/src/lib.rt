@@ -2,6 +2,8 @@
 // the packed weights of `lattice_weights`.
 //
 // `t` are the corner sums so far, `buf` is the lent buffer, `n` the number of a record, and `p` a pattern's byte.
+#![tactic(auto)]
+
 ghost use Rattle.std.specs.Prelude.{◌≡◌, ◌+◌, ◌≤◌, length};
 ghost use Rattle.lattice.specs.Listing.{corner_record};
 ghost use Rattle.lattice_sums.specs.CornerSums.{RoomFor};

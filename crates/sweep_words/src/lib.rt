@@ -3,6 +3,8 @@
 //
 // `k` is a column of 63 places, of which a word has one more; `l0` and `l1` are the words of rows y and y + 1 of the lower layer, `u0` and `u1`
 // those of the upper; `m` is a word of bits that are still to be looked at, and a word *turns* where its two cells at a point differ.
+#![tactic(auto)]
+
 ghost use Rattle.std.specs.Prelude.{◌≡◌, ◌&&◌, ◌||◌, ℕ, suc, ◌+◌, ◌*◌, ◌^◌, ◌<◌, ◌≤◌, ltb, leb};
 ghost use Rattle.lattice.specs.Pattern.{byte, corner};
 ghost use Rattle.sweep_words.specs.Words.{bit_at, pattern_of, two_at, Lowest, WithoutLowest, pairs_differ, turns_at};

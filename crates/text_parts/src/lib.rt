@@ -1,5 +1,7 @@
 // The parts of which every text is made, put into a lent slice: a byte, a word, a decimal number, a line of a word and a number.
 // specs/Text.antt says what a text is, specs/Decimal.antt what a number is in decimal. Stands on `buffer` alone.
+#![tactic(auto)]
+
 ghost use Rattle.std.specs.Prelude.{[], ◌∷◌, ◌≡◌, ◌+◌, ◌%◌, ◌≤◌, ◌<◌, length};
 ghost use Rattle.buffer.specs.Wrote.{Wrote};
 ghost use Rattle.text_parts.specs.Decimal.{digits, line};

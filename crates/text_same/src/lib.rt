@@ -1,5 +1,7 @@
 // Whether two texts have the same bytes: for words that people type and for the names in a file. specs/Same.antt says what that is.
 // Stands on nothing.
+#![tactic(auto)]
+
 ghost use Rattle.std.specs.Prelude.{◌≡◌};
 ghost use Rattle.text_same.specs.Same.{same};
 

@@ -2,6 +2,8 @@
 // it says, and `word::until` finds where a line ends. specs/Words.antt says how a text is cut into lines and words, specs/Entries.antt
 // what a line says; proofs/Printed.antt that numbers and words that are printed read back. Stands on `text_parts`, for the bytes of a
 // text and the worth of digits, on `text_same` and `ground`.
+#![tactic(auto)]
+
 pub mod entry;
 pub mod word;
 

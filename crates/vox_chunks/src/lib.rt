@@ -1,5 +1,7 @@
 // The bytes of a VOX file at a place: 32-bit numbers, names of four bytes, chunks. docs/SCOPE.md, 'VOX file'. specs/Chunks.antt says
 // what they are. Stands on `text_same`, and on `ground`, whose laws about tests it uses.
+#![tactic(auto)]
+
 ghost use Rattle.std.specs.Prelude.{◌≡◌, ◌+◌, ◌*◌, ◌≤◌, length};
 ghost use Rattle.vox_chunks.specs.Chunks.{number_at, stands, after_chunk, missing, overruns, mismatched};
 

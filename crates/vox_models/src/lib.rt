@@ -1,5 +1,7 @@
 // Whether a VOX file has more models than the one that is read: a chunk XYZI after the first. docs/SCOPE.md, 'VOX file', where further chunks
 // are passed. specs/Models.antt says what that is of the bytes. Stands on `vox_chunks`.
+#![tactic(auto)]
+
 ghost use Rattle.std.specs.Prelude.{◌≡◌};
 ghost use Rattle.vox_models.specs.Models.{model_from, further_model};
 

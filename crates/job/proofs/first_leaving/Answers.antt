@@ -1,4 +1,3 @@
-use Prim.Native.Nat.{◌-◌}
 use native.Mathlib.Omega.{arith}
 use Rattle.ground.proofs.SearchLaws.{search-none, search-more, search-all, search-found}
 use Rattle.job.proofs.Shots.{asked_of, leaving-found}
@@ -10,14 +9,14 @@ loop-i-init c = search-none (omega arith)
 pub returns-then-shot_leaves : goal.returns-then-shot_leaves
 returns-then-shot_leaves c = let start = c.args in
     let asked = asked_of start.field start.edge start.coords.now c.loop-i.i
-    c.Edge-of.ensures c.x_of.ensures c.y_of.ensures c.z_of.ensures
+    c.edge_of.ensures c.x_of.ensures c.y_of.ensures c.z_of.ensures
     c.shot_leaves.ensures in
     leaving-found _ _ _ (search-found c.loop-i.invariant asked c.if-shot_leaves.true)
 
 pub loop-i-preserved : goal.loop-i-preserved
 loop-i-preserved c = let start = c.args in
     let asked = asked_of start.field start.edge start.coords.now c.loop-i.i
-    c.Edge-of.ensures c.x_of.ensures c.y_of.ensures c.z_of.ensures
+    c.edge_of.ensures c.x_of.ensures c.y_of.ensures c.z_of.ensures
     c.shot_leaves.ensures in
     search-more c.loop-i.invariant (omega arith) asked c.if-shot_leaves.false
 

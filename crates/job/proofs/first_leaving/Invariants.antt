@@ -6,7 +6,7 @@ use Rattle.job.specs.Checking.{leaves}
 use Rattle.job.proofs.first_leaving.Given as goal
 
 abbrev pub invariant-loop-i : goal.invariant-loop-i
-invariant-loop-i l = Searched (λ l.i. leaves l.field (shot_at l.edge l.coords l.i)) 0 (shot_count l.coords) l.i
+invariant-loop-i l = Searched (λ i. leaves l.field (shot_at l.edge l.coords i)) 0 (shot_count l.coords) l.i
 
 abbrev pub decreases-loop-i : goal.decreases-loop-i
 decreases-loop-i l = shot_count l.coords - l.i

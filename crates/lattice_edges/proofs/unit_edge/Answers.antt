@@ -1,9 +1,6 @@
 -- The count of ones of the masked byte is how many of the four cells are covered; it decides, and for two the four cells do.
-use mathlib.Core.Path.{◌≡◌, ◌∙◌, ap, fun_ext}
-use mathlib.Core.Bool.{Bool}
-use lib.Bits.{bit_and}
-use lib.Count.{ones}
-use Rattle.lattice.specs.Cells.{covered, edge}
+use mathlib.Core.Path.{◌∙◌, ap, fun_ext}
+use Rattle.lattice.specs.Cells.{edge}
 use Rattle.lattice.specs.Pattern.{of_byte}
 use Rattle.lattice_edges.specs.UnitEdges.{four_about}
 use Rattle.lattice_edges.proofs.EdgeLaws.{edge-one, edge_none}

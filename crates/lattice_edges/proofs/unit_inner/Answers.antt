@@ -1,9 +1,4 @@
 -- The count of ones of the masked byte is how many of the four cells are covered, and it decides.
-use mathlib.Core.Path.{◌≡◌}
-use mathlib.Core.Bool.{Bool}
-use lib.Bits.{bit_and}
-use lib.Count.{ones}
-use Rattle.lattice.specs.Cells.{covered}
 use Rattle.lattice.specs.Pattern.{of_byte}
 use Rattle.lattice_edges.specs.UnitEdges.{four_about}
 use Rattle.lattice_edges.proofs.EdgeLaws.{inner-three, inner-none}

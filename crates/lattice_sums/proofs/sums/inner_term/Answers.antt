@@ -1,35 +1,24 @@
 -- The coordinates are at most 1,024, and the weights at most 1.
-use mathlib.Core.Path.{◌≡◌, ◌∙◌}
+use mathlib.Core.Path.{◌∙◌}
 use native.Mathlib.Omega.{arith}
-use mir.Syntax.{w8}
-use mir.Val.{to_z, of_z}
-use Rattle.lattice.specs.Pattern.{of_byte, ix, iy, iz, inner_term}
+use Rattle.lattice.specs.Pattern.{of_byte, inner_term}
 use Rattle.lattice.specs.Figures.{InnerLength}
 use Rattle.lattice.proofs.PatternLaws.{weight-small}
 use Rattle.lattice.proofs.TermBounds.{term-small}
 use Rattle.lattice_sums.proofs.CornerSumLaws.{told8, told64}
 use Rattle.lattice_sums.proofs.sums.inner_term.Goals as goal
 
-weight-x : (c : tie.After-weight-at) → to_z w8 (of_z w8 c.weight-at.result) ≡ ix (of_byte c.before.args.p)
-weight-x c = told8 c.weight-at.type-inv c.weight-at.ensures
-
-weight-y : (c : tie.After-weight-at2) → to_z w8 (of_z w8 c.weight-at2.result) ≡ iy (of_byte c.before.before.args.p)
-weight-y c = told8 c.weight-at2.type-inv c.weight-at2.ensures
-
-weight-z : (c : tie.After-weight-at3) → to_z w8 (of_z w8 c.weight-at3.result) ≡ iz (of_byte c.before.before.before.args.p)
-weight-z c = told8 c.weight-at3.type-inv c.weight-at3.ensures
-
 pub three-requires : goal.three-requires
 three-requires c = (
   omega (arith, c.requires),
   omega (arith, c.requires),
   omega (arith, c.requires),
-  rw (weight-x c) (omega (arith, weight-small 7 (of_byte c.args.p))),
-  rw (weight-y c) (omega (arith, weight-small 8 (of_byte c.args.p))),
-  rw (weight-z c) (omega (arith, weight-small 9 (of_byte c.args.p))),
+  rw (told8 c.weight_at.type_inv c.weight_at.ensures) (omega (arith, weight-small 7 (of_byte c.args.p))),
+  rw (told8 c.weight_at-2.type_inv c.weight_at-2.ensures) (omega (arith, weight-small 8 (of_byte c.args.p))),
+  rw (told8 c.weight_at-3.type_inv c.weight_at-3.ensures) (omega (arith, weight-small 9 (of_byte c.args.p))),
 )
 
 pub returns : goal.returns
-returns c = let e = told64 {v = inner_term c.args.x c.args.y c.args.z (of_byte c.args.p)} c.three.type-inv
-    (c.three.ensures.0 ∙ rw (weight-x c, weight-y c, weight-z c)) in
+returns c = let e = told64 {v = inner_term c.args.x c.args.y c.args.z (of_byte c.args.p)} c.three.type_inv
+    (c.three.ensures.0 ∙ rw (told8 c.weight_at.type_inv c.weight_at.ensures, told8 c.weight_at-2.type_inv c.weight_at-2.ensures, told8 c.weight_at-3.type_inv c.weight_at-3.ensures)) in
     (e, rw e (term-small InnerLength c.args.x c.args.y c.args.z (of_byte c.args.p) c.requires.0 c.requires.1 c.requires.2))

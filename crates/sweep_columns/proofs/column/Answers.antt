@@ -1,0 +1,7 @@
+-- The four words about the line.
+use Rattle.sweep_columns.specs.Columns.{column_at}
+use Rattle.sweep_columns.proofs.column.Goals as goal
+
+pub returns : goal.returns
+unfolding column_at
+returns c = c.points.ensures

@@ -1,0 +1,11 @@
+-- The words before that of the loop are changed.
+use Prim.Native.Nat.{◌≤◌, ◌-◌}
+use lib.Bits.{bit_and}
+use Rattle.sweep_image.specs.Changes.{Changed}
+use Rattle.sweep_image.proofs.keep_rows.Given as goal
+
+abbrev pub invariant-loop-i : goal.invariant-loop-i
+invariant-loop-i l = (l.a ≤ l.i) × (l.i ≤ l.b) × Changed (λ j w. bit_and w l.v) l.a l.i l.initial.u l.u
+
+abbrev pub decreases-loop-i : goal.decreases-loop-i
+decreases-loop-i l = l.b - l.i
