@@ -3,7 +3,7 @@
  * The calls measure a union of equal axis-aligned cubes ("shots") on a whole-number lattice, price it by the tables of
  * a shop, list its corner points, find the corners at one x in such a listing, credit its cells to the shots that cure
  * them, file the shots in a grid index, name the first of some shots that covers a unit cell, read and write shot
- * files, and read the VOX files of a voxel editor. They live in target/staticlib/libcapi.a, which `rt staticlib capi`
+ * files, and read the VOX files of a voxel editor. They live in target/staticlib/libcapi.a, which `scripts/library`
  * proves and writes:
  *
  *     cc program.c -Iinclude target/staticlib/libcapi.a -o program

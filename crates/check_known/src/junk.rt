@@ -3,25 +3,26 @@
 ghost use Rattle.std.specs.Prelude.{◌≤◌};
 
 use crate::parts::entries;
-use check_print::print_number;
+use check_print::{print_number, print_words};
+use std::rt::Stdout;
 
 // No index and no credit is this number, and no listing of these jobs holds this byte.
 pub(crate) const ENTRY: u32 = 4294967295;
 
 pub(crate) const BYTE: u8 = 255;
 
-fn print_entry(value: u32) {
-    print_number(value as u64);
+fn print_entry(stdout: Stdout, value: u32) {
+    print_number(stdout, value as u64);
 }
 
 // Prints the entries before the first junk.
-fn print_entries(slice: &[u32]) {
+fn print_entries(stdout: Stdout, slice: &[u32]) {
     let mut i = 0;
     while i < slice.len() {
         if slice[i] == ENTRY {
             return;
         }
-        print_entry(slice[i]);
+        print_entry(stdout, slice[i]);
         i += 1;
     }
 }
@@ -57,18 +58,18 @@ fn kept(slice: &[u32]) -> usize {
 }
 
 // Prints what became of a slice, and what stands in front where that is at most so much.
-pub(crate) fn print_front(name: &[u8], slice: &[u32], most: usize) {
-    io::write_all(1, name);
+pub(crate) fn print_front(stdout: Stdout, name: &[u8], slice: &[u32], most: usize) {
+    print_words(stdout, name);
     let front = changed(slice);
-    print_number(front as u64);
-    io::write_all(1, b" kept");
-    print_number(kept(slice) as u64);
+    print_number(stdout, front as u64);
+    print_words(stdout, b" kept");
+    print_number(stdout, kept(slice) as u64);
     if front == 0 {
         return;
     }
     if front <= most {
-        io::write_all(1, b":");
-        print_entries(slice);
+        print_words(stdout, b":");
+        print_entries(stdout, slice);
     }
 }
 
@@ -92,9 +93,9 @@ fn widen(listing: &[u8], wide: &mut [u32]) {
 }
 
 // Prints what became of a listing buffer of at most 150 bytes, and the listing in it, by way of as many entries.
-pub(crate) fn print_listing(listing: &[u8]) {
+pub(crate) fn print_listing(stdout: Stdout, listing: &[u8]) {
     let mut more = [ENTRY; 150];
     let wide = entries(&mut more, (listing.len() % 65536) as u16);
     widen(listing, wide);
-    print_front(b"; listing", wide, 150);
+    print_front(stdout, b"; listing", wide, 150);
 }

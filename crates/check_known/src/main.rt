@@ -8,6 +8,8 @@
 // A line of the data is a name, a colon, and numbers with a blank before each: which calls (1 credit, 3 measure, list and credit, 4 read,
 // 5 write), field, edge, grid, the lengths of the slices that are lent (work entries, bytes, credit or coordinate places), how many numbers
 // the list or file has, and these. Where fewer are given, the first of them is repeated. A line without a colon is a comment.
+#![tactic(auto)]
+
 mod files;
 mod junk;
 mod lines;
@@ -17,10 +19,11 @@ ghost use Rattle.std.specs.Prelude.{◌≤◌, length};
 
 use crate::lines::{read_numbers, until};
 use crate::parts::{bytes, entries, places};
-use check_print::{print_number, print_refusal};
+use check_print::{print_number, print_refusal, print_words};
 use input::Filled;
 use measure_intake::Measured;
 use refusals::Checked;
+use std::rt::Stdout;
 
 // The settings of a list.
 #[derive(Clone, Copy)]
@@ -39,103 +42,117 @@ struct Sizes {
     numbers: u16,
 }
 
-fn print_answer(answer: Measured) {
+fn print_answer(stdout: Stdout, answer: Measured) {
     match answer {
         Measured::Quote(totals) => {
-            print_number(totals.volume);
-            print_number(totals.area);
-            print_number(totals.edge);
-            print_number(totals.inner);
-            print_number(totals.corners as u64);
+            print_number(stdout, totals.volume);
+            print_number(stdout, totals.area);
+            print_number(stdout, totals.edge);
+            print_number(stdout, totals.inner);
+            print_number(stdout, totals.corners as u64);
         }
         Measured::Refused(refusal) => {
-            print_refusal(refusal);
+            print_refusal(stdout, refusal);
         }
     }
 }
 
-fn print_checked(answer: Checked) {
+fn print_checked(stdout: Stdout, answer: Checked) {
     match answer {
         Checked::Accepted => {
-            io::write_all(1, b" accepted");
+            print_words(stdout, b" accepted");
         }
         Checked::Refused(refusal) => {
-            print_refusal(refusal);
+            print_refusal(stdout, refusal);
         }
     }
 }
 
 // Prints what measuring answered, and what became of the work slice.
-fn print_measured(call: &[u8], answer: Measured, work: &[u32]) {
-    io::write_all(1, call);
-    print_answer(answer);
-    junk::print_front(b"; index", work, 40);
+fn print_measured(stdout: Stdout, call: &[u8], answer: Measured, work: &[u32]) {
+    print_words(stdout, call);
+    print_answer(stdout, answer);
+    junk::print_front(stdout, b"; index", work, 40);
 }
 
 // The same of listing, and of the listing buffer.
-fn print_listed(answer: Measured, work: &[u32], listing: &[u8]) {
-    print_measured(b": list", answer, work);
-    junk::print_listing(listing);
+fn print_listed(stdout: Stdout, answer: Measured, work: &[u32], listing: &[u8]) {
+    print_measured(stdout, b": list", answer, work);
+    junk::print_listing(stdout, listing);
 }
 
 // Prints what crediting answered, and what became of both slices.
-fn print_credited(answer: Checked, work: &[u32], credits: &[u32]) {
-    io::write_all(1, b": credit");
-    print_checked(answer);
-    junk::print_front(b"; index", work, 40);
-    junk::print_front(b"; credits", credits, 40);
+fn print_credited(stdout: Stdout, answer: Checked, work: &[u32], credits: &[u32]) {
+    print_words(stdout, b": credit");
+    print_checked(stdout, answer);
+    junk::print_front(stdout, b"; index", work, 40);
+    junk::print_front(stdout, b"; credits", credits, 40);
 }
 
 // Measures, with the entries lent.
-fn show_measure(list: Settings, sizes: Sizes, coords: &[u16]) {
+fn show_measure(stdout: Stdout, list: Settings, sizes: Sizes, coords: &[u16]) {
     let mut lent = [junk::ENTRY; 4100];
     let work = entries(&mut lent, sizes.entries);
     let answer = measure::measure(list.field, list.edge, list.grid, coords, work);
-    print_measured(b": measure", answer, work);
+    print_measured(stdout, b": measure", answer, work);
 }
 
 // Lists, with the entries and the bytes lent.
-fn show_list(list: Settings, sizes: Sizes, coords: &[u16]) {
+fn show_list(stdout: Stdout, list: Settings, sizes: Sizes, coords: &[u16]) {
     let mut lent = [junk::ENTRY; 4100];
     let mut more = [junk::BYTE; 150];
     let work = entries(&mut lent, sizes.entries);
     let listing = bytes(&mut more, sizes.bytes);
     let answer = measure::list(list.field, list.edge, list.grid, coords, work, listing);
-    print_listed(answer, work, listing);
+    print_listed(stdout, answer, work, listing);
 }
 
 // Credits, with the entries and the credit places lent.
-fn show_credit(list: Settings, sizes: Sizes, coords: &[u16]) {
+fn show_credit(stdout: Stdout, list: Settings, sizes: Sizes, coords: &[u16]) {
     let mut lent = [junk::ENTRY; 4100];
     let mut more = [junk::ENTRY; 4100];
     let work = entries(&mut lent, sizes.entries);
     let credits = entries(&mut more, sizes.places);
     let answer = crediting::credit(list.field, list.edge, list.grid, coords, work, credits);
-    print_credited(answer, work, credits);
+    print_credited(stdout, answer, work, credits);
 }
 
 // Ends a line of output, and begins the next of the same job.
-fn next_call(name: &[u8]) {
-    io::write_all(1, b"\n");
-    io::write_all(1, name);
+fn next_call(stdout: Stdout, name: &[u8]) {
+    print_words(stdout, b"\n");
+    print_words(stdout, name);
 }
 
 // A job by the calls that its line names.
-fn show_calls(name: &[u8], calls: u16, list: Settings, sizes: Sizes, numbers: &[u16]) {
-    io::write_all(1, name);
+fn show_calls(
+    stdout: Stdout,
+    name: &[u8],
+    calls: u16,
+    list: Settings,
+    sizes: Sizes,
+    numbers: &[u16],
+) {
+    print_words(stdout, name);
     match calls {
-        1 => show_credit(list, sizes, numbers),
+        1 => show_credit(stdout, list, sizes, numbers),
         3 => {
-            show_measure(list, sizes, numbers);
-            next_call(name);
-            show_list(list, sizes, numbers);
-            next_call(name);
-            show_credit(list, sizes, numbers);
+            show_measure(stdout, list, sizes, numbers);
+            next_call(stdout, name);
+            show_list(stdout, list, sizes, numbers);
+            next_call(stdout, name);
+            show_credit(stdout, list, sizes, numbers);
         }
-        4 => files::show_read(numbers, sizes.numbers, sizes.places),
-        _ => files::show_write(list.field, list.edge, list.grid, numbers, sizes.bytes),
+        4 => files::show_read(stdout, numbers, sizes.numbers, sizes.places),
+        _ => files::show_write(
+            stdout,
+            list.field,
+            list.edge,
+            list.grid,
+            numbers,
+            sizes.bytes,
+        ),
     }
-    io::write_all(1, b"\n");
+    print_words(stdout, b"\n");
 }
 
 // The number that has so many behind it: those given stand last, and the first of them at every place before.
@@ -182,11 +199,12 @@ fn sizes_of(numbers: &[u16]) -> Sizes
 }
 
 // A job by its numbers, whose list or file is made of the last of them.
-fn show_spread(name: &[u8], numbers: &[u16], list: &mut [u16])
+fn show_spread(stdout: Stdout, name: &[u8], numbers: &[u16], list: &mut [u16])
     requires { 8 ≤ length numbers.now }
 {
     spread(&numbers[8..], list);
     show_calls(
+        stdout,
         name,
         numbers[0],
         settings_of(numbers),
@@ -196,36 +214,36 @@ fn show_spread(name: &[u8], numbers: &[u16], list: &mut [u16])
 }
 
 // A job by its numbers.
-fn show_job(name: &[u8], numbers: &[u16]) {
+fn show_job(stdout: Stdout, name: &[u8], numbers: &[u16]) {
     if numbers.len() < 8 {
         return;
     }
     let mut list = [0u16; 12291];
-    show_spread(name, numbers, places(&mut list, numbers[7]));
+    show_spread(stdout, name, numbers, places(&mut list, numbers[7]));
 }
 
 // A job by its line.
-fn show_line(line: &[u8]) {
+fn show_line(stdout: Stdout, line: &[u8]) {
     let end = until(line, 0, 58);
     let mut numbers = [0u16; 100];
     let n = read_numbers(&line[end..], &mut numbers);
-    show_job(&line[..end], &numbers[..n]);
+    show_job(stdout, &line[..end], &numbers[..n]);
 }
 
 // The jobs of all lines.
-fn show_lines(text: &[u8]) {
+fn show_lines(stdout: Stdout, text: &[u8]) {
     let mut at = 0;
     while at < text.len() {
         let end = until(text, at, 10);
-        show_line(&text[at..end]);
+        show_line(stdout, &text[at..end]);
         at = end + 1;
     }
 }
 
-fn main() {
+fn main(rt: HostRuntime) {
     let mut text = [0u8; 32768];
-    let filled = input::fill(&mut text);
+    let filled = input::fill(rt.stdin(), &mut text);
     if let Filled::Bytes(n) = filled {
-        show_lines(&text[..n]);
+        show_lines(rt.stdout(), &text[..n]);
     }
 }

@@ -1,6 +1,7 @@
 // What a run counts, and what it prints of a list that disagrees.
 use crate::lists::Settings;
-use check_print::{print_coord, print_coords, print_number};
+use check_print::{print_coord, print_coords, print_number, print_words};
+use std::rt::Stdout;
 
 pub(crate) const LISTS: usize = 0;
 
@@ -18,7 +19,7 @@ pub(crate) const REGRIDDED: usize = 6;
 
 pub(crate) const DISAGREEMENTS: usize = 7;
 
-#[derive(Drop)]
+#[derive(Clone, Copy)]
 pub(crate) struct Counts {
     of: [usize; 8],
 }
@@ -51,21 +52,22 @@ pub(crate) fn add_if(holds: bool, counts: Counts, which: usize) -> Counts {
 }
 
 // Prints a list that disagrees.
-fn print_list(settings: Settings, coords: &[u16]) {
-    io::write_all(1, b" disagrees, field");
-    print_coord(settings.field);
-    io::write_all(1, b" edge");
-    print_coord(settings.edge);
-    io::write_all(1, b" grid");
-    print_coord(settings.grid);
-    io::write_all(1, b" other grid");
-    print_coord(settings.other);
-    print_coords(coords);
-    io::write_all(1, b"\n");
+fn print_list(stdout: Stdout, settings: Settings, coords: &[u16]) {
+    print_words(stdout, b" disagrees, field");
+    print_coord(stdout, settings.field);
+    print_words(stdout, b" edge");
+    print_coord(stdout, settings.edge);
+    print_words(stdout, b" grid");
+    print_coord(stdout, settings.grid);
+    print_words(stdout, b" other grid");
+    print_coord(stdout, settings.other);
+    print_coords(stdout, coords);
+    print_words(stdout, b"\n");
 }
 
 // Counts an agreement, or prints what disagrees and its list.
 pub(crate) fn judge(
+    stdout: Stdout,
     agrees: bool,
     counts: Counts,
     which: usize,
@@ -76,39 +78,44 @@ pub(crate) fn judge(
     if agrees {
         return add(counts, which, 1);
     }
-    io::write_all(1, what);
-    print_list(settings, coords);
+    print_words(stdout, what);
+    print_list(stdout, settings, coords);
     add(counts, DISAGREEMENTS, 1)
 }
 
 // Prints a count on a line of its own.
-fn print_count(name: &[u8], counts: Counts, which: usize) {
+fn print_count(stdout: Stdout, name: &[u8], counts: Counts, which: usize) {
     if 8 <= which {
         return;
     }
-    io::write_all(1, name);
-    print_number(counts.of[which] as u64);
-    io::write_all(1, b"\n");
+    print_words(stdout, name);
+    print_number(stdout, counts.of[which] as u64);
+    print_words(stdout, b"\n");
 }
 
 // Prints what was tried.
-fn print_tried(counts: Counts) {
-    print_count(b"lists", counts, LISTS);
-    print_count(b"shots", counts, SHOTS);
-    print_count(b"corner points", counts, POINTS);
-    print_count(b"lists with inner length", counts, INNERS);
+fn print_tried(stdout: Stdout, counts: Counts) {
+    print_count(stdout, b"lists", counts, LISTS);
+    print_count(stdout, b"shots", counts, SHOTS);
+    print_count(stdout, b"corner points", counts, POINTS);
+    print_count(stdout, b"lists with inner length", counts, INNERS);
 }
 
 // Prints how often the same was found.
-fn print_agreements(counts: Counts) {
-    print_count(b"measured as listed", counts, MEASURED);
-    print_count(b"recounted as listed", counts, RECOUNTED);
-    print_count(b"listed the same in another grid", counts, REGRIDDED);
+fn print_agreements(stdout: Stdout, counts: Counts) {
+    print_count(stdout, b"measured as listed", counts, MEASURED);
+    print_count(stdout, b"recounted as listed", counts, RECOUNTED);
+    print_count(
+        stdout,
+        b"listed the same in another grid",
+        counts,
+        REGRIDDED,
+    );
 }
 
 // Prints all counts.
-pub(crate) fn print_all(counts: Counts) {
-    print_tried(counts);
-    print_agreements(counts);
-    print_count(b"disagreements", counts, DISAGREEMENTS);
+pub(crate) fn print_all(stdout: Stdout, counts: Counts) {
+    print_tried(stdout, counts);
+    print_agreements(stdout, counts);
+    print_count(stdout, b"disagreements", counts, DISAGREEMENTS);
 }

@@ -5,7 +5,7 @@ use job::shot::{count, put, x_of, y_of, z_of};
 
 // A list's settings: its field, edge and grid, another divisor of the field where there is one, and how many shots it has; and the last
 // number drawn.
-#[derive(Drop)]
+#[derive(Clone, Copy)]
 pub(crate) struct Settings {
     pub(crate) field: u16,
     pub(crate) edge: u16,

@@ -1,31 +1,36 @@
 // The crediting program: reads a shot file from standard input and prints, a line for each shot, its number and of how many cells it is the
 // lowest covering shot; or the line of a refusal, as the quoting program does. What it prints is `crediting_text::credit_file`; here are only
 // the sizes.
+#![tactic(auto)]
+
 ghost use Rattle.std.specs.Prelude.{◌≤◌, length};
 
 use input::Filled;
+use std::process::ExitCode;
+use std::rt::{Stderr, Stdout};
 
 // Prints the credits of a file, by way of a buffer.
-fn print_by(bytes: &[u8], out: &mut [u8])
+fn print_by(stdout: Stdout, stderr: Stderr, bytes: &[u8], out: &mut [u8]) -> ExitCode
     requires { 172032 ≤ length out.old }
 {
     let mut coords = [0u16; 12288];
     let mut work = [0u32; 16384];
     let mut credits = [0u32; 4096];
     let n = crediting_text::credit_file(bytes, &mut coords, &mut work, &mut credits, out);
-    output::write_text(b"credits", &out[..n]);
+    output::write_text(stdout, stderr, b"credits", &out[..n])
 }
 
 // Prints the credits of a file.
-fn print_credits(bytes: &[u8]) {
+fn print_credits(stdout: Stdout, stderr: Stderr, bytes: &[u8]) -> ExitCode {
     let mut out = [0u8; 172032];
-    print_by(bytes, &mut out);
+    print_by(stdout, stderr, bytes, &mut out)
 }
 
-fn main() {
+fn main(rt: HostRuntime) -> ExitCode {
     let mut bytes = [0u8; 28680];
-    let filled = input::take(b"credits", &mut bytes);
-    if let Filled::Bytes(n) = filled {
-        print_credits(&bytes[..n]);
+    let filled = input::take(&rt, rt.stdin(), rt.stderr(), b"credits", &mut bytes);
+    match filled {
+        Filled::Bytes(n) => print_credits(rt.stdout(), rt.stderr(), &bytes[..n]),
+        Filled::Failed => ExitCode::SUCCESS,
     }
 }

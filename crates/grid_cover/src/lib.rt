@@ -1,6 +1,8 @@
 // The cover test: the first shot of a run that covers a unit cell. docs/SCOPE.md, 'The grid index'. A run is any slice of numbers.
 // specs/Cover.antt says what it answers; proofs/CoverRuns.antt that the run of a grid cell names the list's lowest covering shot.
 // Stands on `grid`, whose runs it is asked about, and on `job` and `lattice`.
+#![tactic(auto)]
+
 ghost use Rattle.std.specs.Prelude.{◌≡◌};
 ghost use Rattle.lattice.specs.Shots.{spans};
 ghost use Rattle.grid_cover.specs.Cover.{shot_covers, first_covering, covering_of};

@@ -45,26 +45,32 @@ pub fn fill(stdin: Stdin, buffer: &mut [u8]) -> Filled
     Filled::Bytes(n)
 }
 
-// Whether the program was started with more words than its name.
-fn has_arguments(env: &impl Env) -> bool {
-    let mut word = [0u8; 1];
-    !matches!(env.arg(1, &mut word), Err(FillError::NotPresent))
+// Whether the program was started with a word at this place; its name stands at place 0.
+pub fn has_word(env: &impl Env, place: usize) -> bool {
+    let mut first = [0u8; 1];
+    !matches!(env.arg(place, &mut first), Err(FillError::NotPresent))
 }
 
 // Standard input; where a read failed, that is said.
-fn read(stdin: Stdin, err: Stderr, program: &[u8], buffer: &mut [u8]) -> Filled
+fn read(stdin: Stdin, stderr: Stderr, program: &[u8], buffer: &mut [u8]) -> Filled
     ensures { Between 0 (length buffer.old) result }
 {
     let filled = fill(stdin, buffer);
     let Filled::Bytes(n) = filled else {
-        output::say_unreadable(err, program);
+        output::say_unreadable(stderr, program);
         return Filled::Failed;
     };
     Filled::Bytes(n)
 }
 
 // What was filled, unless it fills all the room, since then bytes of the input may be missing: these words are said of it.
-fn unless_full(err: Stderr, program: &[u8], filled: Filled, room: usize, too_long: &[u8]) -> Filled
+fn unless_full(
+    stderr: Stderr,
+    program: &[u8],
+    filled: Filled,
+    room: usize,
+    too_long: &[u8],
+) -> Filled
     requires { Between 0 room filled }
     ensures { Between 0 (room - 1) result }
 {
@@ -72,49 +78,55 @@ fn unless_full(err: Stderr, program: &[u8], filled: Filled, room: usize, too_lon
         return Filled::Failed;
     };
     if n == room {
-        output::say(err, program);
-        output::say(err, too_long);
+        output::say(stderr, program);
+        output::say(stderr, too_long);
         return Filled::Failed;
     }
     Filled::Bytes(n)
 }
 
 // What a program works on, which is standard input alone. Where it is given arguments, or a read failed, it has said so and works on nothing.
-pub fn take(env: &impl Env, stdin: Stdin, err: Stderr, program: &[u8], buffer: &mut [u8]) -> Filled
+pub fn take(
+    env: &impl Env,
+    stdin: Stdin,
+    stderr: Stderr,
+    program: &[u8],
+    buffer: &mut [u8],
+) -> Filled
     ensures { Between 0 (length buffer.old) result }
 {
-    if has_arguments(env) {
-        output::say_takes_none(err, program);
+    if has_word(env, 1) {
+        output::say_takes_none(stderr, program);
         return Filled::Failed;
     }
-    read(stdin, err, program, buffer)
+    read(stdin, stderr, program, buffer)
 }
 
 // The same where a full slice may lack bytes of the input: these words are said of it then.
 pub fn take_whole(
     env: &impl Env,
     stdin: Stdin,
-    err: Stderr,
+    stderr: Stderr,
     program: &[u8],
     buffer: &mut [u8],
     too_long: &[u8],
 ) -> Filled
     ensures { Between 0 (length buffer.old - 1) result }
 {
-    let filled = take(env, stdin, err, program, buffer);
-    unless_full(err, program, filled, buffer.len(), too_long)
+    let filled = take(env, stdin, stderr, program, buffer);
+    unless_full(stderr, program, filled, buffer.len(), too_long)
 }
 
 // The same for a program that has arguments, which are not looked at here.
 pub fn read_whole(
     stdin: Stdin,
-    err: Stderr,
+    stderr: Stderr,
     program: &[u8],
     buffer: &mut [u8],
     too_long: &[u8],
 ) -> Filled
     ensures { Between 0 (length buffer.old - 1) result }
 {
-    let filled = read(stdin, err, program, buffer);
-    unless_full(err, program, filled, buffer.len(), too_long)
+    let filled = read(stdin, stderr, program, buffer);
+    unless_full(stderr, program, filled, buffer.len(), too_long)
 }

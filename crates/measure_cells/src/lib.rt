@@ -2,6 +2,8 @@
 // test. Every cell is asked, so it is slow in large fields. It shares with the sweep the intake, the runs of the index and the door
 // to a shot, and nothing else. docs/SCOPE.md, 'Cells and totals'. Stands on
 // `measure_tallies` for what a point counts, `measure_lines`, `measure_intake`, `grid_cover` and `grid_runs`.
+#![tactic(auto)]
+
 pub mod points;
 
 ghost use Rattle.job.specs.Job.{job_of};

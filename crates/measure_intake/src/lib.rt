@@ -2,6 +2,8 @@
 //
 // specs/Intake.antt says what a list's intake answers and leaves, and what measuring answers then: the totals of the cells that the
 // list covers, or the first refusal of 1, 2, 6, 7, 8, 9, 10. Stands on `job`, `grid` and `grid_filling`.
+#![tactic(auto)]
+
 ghost use Rattle.job.specs.Job.{job_of};
 ghost use Rattle.measure_intake.specs.Intake.{IndexCall};
 

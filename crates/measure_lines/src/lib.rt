@@ -1,5 +1,7 @@
 // The shots that reach a line of lattice points: a run narrowed to them covers the cells about the line as the whole run does.
 // specs/Lines.antt says which they are. Stands on `job` and `grid_cover`.
+#![tactic(auto)]
+
 mod put;
 
 ghost use Rattle.std.specs.Prelude.{◌≡◌, ◌≤◌, ◌<◌, length};

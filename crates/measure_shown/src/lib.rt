@@ -9,39 +9,45 @@ ghost use Rattle.grid.specs.Grid.{Holds};
 ghost use Rattle.measure_intake.specs.Intake.{MeasureCall};
 
 use lattice_sums::sums::Totals;
-use libc::STDERR_FILENO;
 use measure_cells::points::count_planes;
 use measure_intake::{Measured, indexed};
 use refusals::Checked;
+use std::io::{IsTerminal, Print};
+use std::rt::Stderr;
 use text_parts::put_digits;
 
+// Writes words to standard error.
+fn show_words(stderr: Stderr, words: &[u8]) {
+    let _ = stderr.write_all(words);
+}
+
 // Writes a number to standard error.
-fn show_number(a: u64) {
+fn show_number(stderr: Stderr, a: u64) {
     let mut digits = [0u8; 20];
     let n = put_digits(&mut digits, 0, 20, a);
-    io::write_all(STDERR_FILENO, &digits[..n]);
+    show_words(stderr, &digits[..n]);
 }
 
 // Says on standard error how many of the planes are counted: on a terminal the line stays, to be overwritten. Of none it says nothing.
-fn show(terminal: bool, plane: u16, planes: u16) {
+fn show(stderr: Stderr, terminal: bool, plane: u16, planes: u16) {
     if plane == 0 {
         return;
     }
-    io::write_all(STDERR_FILENO, b"recount: plane ");
-    show_number(plane as u64);
-    io::write_all(STDERR_FILENO, b" of ");
-    show_number(planes as u64);
+    show_words(stderr, b"recount: plane ");
+    show_number(stderr, plane as u64);
+    show_words(stderr, b" of ");
+    show_number(stderr, planes as u64);
     if terminal {
-        io::write_all(STDERR_FILENO, b"\r");
+        show_words(stderr, b"\r");
         return;
     }
-    io::write_all(STDERR_FILENO, b"\n");
+    show_words(stderr, b"\n");
 }
 
 // Takes the line of a terminal away.
-fn clear(terminal: bool) {
+fn clear(stderr: Stderr, terminal: bool) {
     if terminal {
-        io::write_all(STDERR_FILENO, b"                            \r");
+        show_words(stderr, b"                            \r");
     }
 }
 
@@ -70,6 +76,7 @@ fn after(field: u16, x: u16, planes: u16) -> u16
 
 // The totals and the corner count of a list whose index the work slice holds, piece by piece.
 fn count_shown(
+    stderr: Stderr,
     terminal: bool,
     field: u16,
     edge: u16,
@@ -90,25 +97,32 @@ fn count_shown(
     };
     let mut x: u16 = 0;
     while x <= field {
-        show(terminal, x, field + 1);
+        show(stderr, terminal, x, field + 1);
         let to = after(field, x, planes);
         sums = count_planes(field, edge, grid, coords, work, x, to, sums);
         x = to;
     }
-    clear(terminal);
+    clear(stderr, terminal);
     sums
 }
 
 // Counts a list: the answer and the index of the measuring call, by counting, shown on standard error.
-pub fn recount(field: u16, edge: u16, grid: u16, coords: &[u16], work: &mut [u32]) -> Measured
+pub fn recount(
+    stderr: Stderr,
+    field: u16,
+    edge: u16,
+    grid: u16,
+    coords: &[u16],
+    work: &mut [u32],
+) -> Measured
     ensures { MeasureCall (job_of field edge grid coords.now) work.old result work.new }
 {
     let checked = indexed(field, edge, grid, coords, work);
-    let terminal = libc::isatty(STDERR_FILENO) == 1;
+    let terminal = stderr.is_terminal();
     match checked {
         Checked::Refused(refusal) => Measured::Refused(refusal),
         Checked::Accepted => {
-            Measured::Quote(count_shown(terminal, field, edge, grid, coords, work))
+            Measured::Quote(count_shown(stderr, terminal, field, edge, grid, coords, work))
         }
     }
 }

@@ -1,4 +1,6 @@
 // What one lattice point counts, from its pattern byte: specs/Tallies.antt. Stands on `lattice`, `lattice_edges` and `lattice_sums`.
+#![tactic(auto)]
+
 ghost use Rattle.std.specs.Prelude.{◌≡◌};
 ghost use Rattle.lattice.specs.Pattern.{of_byte};
 ghost use Rattle.measure_tallies.specs.Tallies.{at_pattern, plus, AtMost, before_point, differs};

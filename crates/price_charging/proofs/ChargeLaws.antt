@@ -17,7 +17,6 @@ use Rattle.price_bands.specs.declared.Verdict.TheVariants.{Sound}
 use Rattle.price_bands.proofs.BandTheorems.{sound-iff, valid-rated, rate-most}
 use Rattle.price_charging.specs.declared.Charges.{Charges}
 use Rattle.price_charging.specs.declared.Taken.{Taken}
-use Rattle.price_charging.specs.declared.Priced.{Priced}
 use Rattle.price_charging.specs.declared.Priced.TheVariants.{Charged, Refused as Unpriced}
 use Rattle.price_charging.specs.Charging.{Tables, table_tests, ChargedBy, charges_of, priced_by, priced_numbers, priced_numbers_by, checked_after_three, Chargeable, charged_of}
 use Rattle.price_charging.proofs.TableLaws.{tables_after}

@@ -2,7 +2,6 @@
 use mathlib.Core.Path.{◌≡◌, refl, sym, ap, subst, ◌∙◌}
 use mathlib.Core.List.{List, [], ◌∷◌, ◌++◌}
 use mathlib.Core.Logic.{◌↔◌}
-use Prim.Native.Nat.{ℕ}
 use Rattle.refusals.specs.Tests.{Test, first_of}
 use Rattle.refusals.specs.Deciding.{Decides}
 use Rattle.refusals.specs.declared.Refusal.{Refusal}

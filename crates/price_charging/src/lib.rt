@@ -4,6 +4,8 @@
 // specs/Charging.antt says which refusal is given, and what is charged; proofs/TableLaws.antt, when the tables accept and refuse, and
 // proofs/ChargeLaws.antt, that no charge wraps. All goes by value: nothing here knows a list, how its amounts are measured, or a lent table.
 // Stands on `price_bands` and `refusals`.
+#![tactic(auto)]
+
 ghost use Rattle.std.specs.Prelude.{◌≡◌};
 ghost use Rattle.price_charging.specs.Charging.{checked_after, Chargeable, charged_of};
 

@@ -6,9 +6,10 @@ ghost use Rattle.quoting_text.specs.Answered.{ShotsThere, answered_file, FileMea
 
 use measure_intake::Measured;
 use shotfile_reader::ReadAnswer;
+use std::rt::Stderr;
 
 // Goes on from what reading a file answers: counts the list that stands in the coordinates.
-fn recount_read(read: ReadAnswer, coords: &[u16], work: &mut [u32]) -> Measured
+fn recount_read(stderr: Stderr, read: ReadAnswer, coords: &[u16], work: &mut [u32]) -> Measured
     requires { ShotsThere read coords.now }
     ensures { FileMeasured (answered_file read coords.now) work.old result work.new }
 {
@@ -20,7 +21,7 @@ fn recount_read(read: ReadAnswer, coords: &[u16], work: &mut [u32]) -> Measured
             shots,
         } => {
             let list = job::shot::first(coords, shots);
-            measure_shown::recount(field, edge, grid, list, work)
+            measure_shown::recount(stderr, field, edge, grid, list, work)
         }
         ReadAnswer::Refused(refusal) => Measured::Refused(refusal),
     }
@@ -28,12 +29,18 @@ fn recount_read(read: ReadAnswer, coords: &[u16], work: &mut [u32]) -> Measured
 
 // The text of the quote, put to the front of a slice of at least 256 bytes. The coordinates and the index of the list stay in the other
 // slices.
-pub fn recount(bytes: &[u8], coords: &mut [u16], work: &mut [u32], out: &mut [u8]) -> usize
+pub fn recount(
+    stderr: Stderr,
+    bytes: &[u8],
+    coords: &mut [u16],
+    work: &mut [u32],
+    out: &mut [u8],
+) -> usize
     requires { 256 ≤ length out.old }
     ensures { FileQuoted bytes.now coords.old work.old out.old
         result coords.new work.new out.new }
 {
     let read = shotfile_reader::read(bytes, coords);
-    let measured = recount_read(read, coords, work);
+    let measured = recount_read(stderr, read, coords, work);
     quoting_text::put_answer(out, measured)
 }

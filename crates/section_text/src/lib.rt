@@ -1,6 +1,8 @@
 // The corners of one x of a listing as the text that the program `corners_at` prints: a line a corner, `x y z pattern`. A long text goes out in
 // blocks of 2,048 lines, each put into a lent slice. specs/CornerLines.antt says what the text is and proofs/BlockLaws.antt that the blocks,
 // one after another, are all of it. Stands on `section`, by whose reader it steps, and on `text_parts`.
+#![tactic(auto)]
+
 ghost use Rattle.std.specs.Prelude.{◌≡◌, ◌+◌, ◌*◌, ◌/◌, ◌≤◌, min, length, take, drop};
 ghost use Rattle.buffer.specs.Wrote.{Wrote};
 ghost use Rattle.lattice.specs.Listing.{read_back};

@@ -2,6 +2,8 @@
 // lent slice, and the answer is the place after the line; every other place keeps its value. specs/Lines.antt says what the lines are.
 // Stands on `shotfile_records` and `refusals`, whose fields and refusals it puts, and on `text_parts`, `text_wording` and `buffer` for the
 // bytes of a text.
+#![tactic(auto)]
+
 ghost use Rattle.std.specs.Prelude.{◌+◌, ◌≤◌, length};
 ghost use Rattle.buffer.specs.Wrote.{Wrote};
 ghost use Rattle.shotfile_lines.specs.Lines.{labelled, note, setting_line, settings, shot_line, place_text, refused_line};

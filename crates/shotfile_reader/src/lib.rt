@@ -2,6 +2,8 @@
 // docs/SCOPE.md, 'Shot file' and 'When a job is refused'. specs/Files.antt says what a file says, specs/Calls.antt what `read` promises,
 // specs/Conditions.antt when it refuses; proofs/Conditions.antt that each refusal is given exactly where it should be. Stands on
 // `shotfile_records`, on `refusals` and `job`, whose refusals and door to a shot it uses, on `lattice`, `buffer` and `ground`.
+#![tactic(auto)]
+
 ghost use Rattle.std.specs.Prelude.{◌≡◌, ◌≤◌};
 ghost use Rattle.buffer.specs.Wrote.{in_front};
 ghost use Rattle.job.specs.Job.{shot_count};

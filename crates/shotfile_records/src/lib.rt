@@ -1,6 +1,8 @@
 // One record of a shot file: a map byte, then the 16-bit fields whose bits stand in it, least byte first. docs/SCOPE.md, 'Shot file'.
 // specs/Records.antt says how a record is read and what its shortest form is, specs/Numbers.antt which numbers say a job's settings and a
 // shot. Stands on `buffer`, on `refusals`, whose refusals it gives, and on `job` and `lattice`.
+#![tactic(auto)]
+
 ghost use Rattle.std.specs.Prelude.{◌≡◌, [], ◌∷◌, ◌≤◌, ◌<◌, ◌+◌, ◌*◌, length};
 ghost use Rattle.shotfile_records.specs.Records.{field_at, record_at, header_absent, first_absent, bit_of, field_of, map_of, record_of};
 ghost use Rattle.buffer.specs.Wrote.{Wrote};

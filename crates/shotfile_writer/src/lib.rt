@@ -2,6 +2,8 @@
 // a list is, specs/Calls.antt what `write` promises, specs/Conditions.antt when it refuses; proofs/Conditions.antt that each refusal is
 // given exactly where it should be. Stands on `shotfile_records`, on `refusals` and `job`, whose refusals, checks and door to a shot it uses,
 // on `lattice` and `buffer`.
+#![tactic(auto)]
+
 ghost use Rattle.std.specs.Prelude.{◌≡◌, ◌≤◌, ◌<◌, length};
 ghost use Rattle.buffer.specs.Wrote.{in_front};
 ghost use Rattle.job.specs.Job.{job_of, shot_count};

@@ -1,28 +1,39 @@
 // The program that shows a shot file: reads a shot file from standard input and prints it as text, one record a line, with the refusal
 // at the end where there is one. What it prints is `shotfile_text::put_text`; here are only the sizes.
+#![tactic(auto)]
+
 ghost use Rattle.std.specs.Prelude.{◌≤◌, length};
 
 use input::Filled;
+use std::process::ExitCode;
+use std::rt::{Stderr, Stdout};
 
 // Prints the text of a file, by way of two buffers.
-fn print_by(bytes: &[u8], coords: &mut [u16], out: &mut [u8])
+fn print_by(
+    stdout: Stdout,
+    stderr: Stderr,
+    bytes: &[u8],
+    coords: &mut [u16],
+    out: &mut [u8],
+) -> ExitCode
     requires { 524288 ≤ length out.old }
 {
     let n = shotfile_text::put_text(bytes, coords, out);
-    output::write_text(b"shots", &out[..n]);
+    output::write_text(stdout, stderr, b"shots", &out[..n])
 }
 
 // Prints the text of a file.
-fn print_text(bytes: &[u8]) {
+fn print_text(stdout: Stdout, stderr: Stderr, bytes: &[u8]) -> ExitCode {
     let mut coords = [0u16; 12288];
     let mut out = [0u8; 524288];
-    print_by(bytes, &mut coords, &mut out);
+    print_by(stdout, stderr, bytes, &mut coords, &mut out)
 }
 
-fn main() {
+fn main(rt: HostRuntime) -> ExitCode {
     let mut bytes = [0u8; 28680];
-    let filled = input::take(b"shots", &mut bytes);
-    if let Filled::Bytes(n) = filled {
-        print_text(&bytes[..n]);
+    let filled = input::take(&rt, rt.stdin(), rt.stderr(), b"shots", &mut bytes);
+    match filled {
+        Filled::Bytes(n) => print_text(rt.stdout(), rt.stderr(), &bytes[..n]),
+        Filled::Failed => ExitCode::SUCCESS,
     }
 }

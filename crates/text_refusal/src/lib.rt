@@ -1,5 +1,7 @@
 // The line of a refusal, its number and its detail, put into a lent slice. specs/RefusalLine.antt says what the line is. Stands on `refusals`,
 // whose refusals they are, and on `text_parts` and `buffer`.
+#![tactic(auto)]
+
 ghost use Rattle.std.specs.Prelude.{◌≤◌, length};
 ghost use Rattle.buffer.specs.Wrote.{Wrote};
 ghost use Rattle.text_refusal.specs.RefusalLine.{refusal_line, refusal_text};

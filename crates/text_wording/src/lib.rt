@@ -1,5 +1,7 @@
 // The refusals in words, one short sentence each, put into a lent slice: specs/Sentences.antt says which.
 // Stands on `refusals`, whose refusals they are, and on `text_parts` and `buffer`.
+#![tactic(auto)]
+
 ghost use Rattle.std.specs.Prelude.{◌+◌, ◌≤◌, length};
 ghost use Rattle.buffer.specs.Wrote.{Wrote};
 ghost use Rattle.text_wording.specs.Sentences.{sentence};

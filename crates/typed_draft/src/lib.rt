@@ -1,5 +1,7 @@
 // What the lines above of a typed list say, and one line more: settings that stand at most once, and a count of shots. specs/Drafts.antt.
 // Stands on `typed_line`, which reads a single line, and on `shotfile_records` for the settings that are left out.
+#![tactic(auto)]
+
 ghost use Rattle.std.specs.Prelude.{◌≡◌};
 ghost use Rattle.typed_draft.specs.Drafts.{nothing_yet, settled, shot_more, then};
 

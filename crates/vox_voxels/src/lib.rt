@@ -1,6 +1,8 @@
 // The sides and the voxels of a VOX file, at their places in SIZE and XYZI: whether a side is out of range, the largest side, and the first
 // voxel that is outside SIZE or has colour 0. specs/Voxels.antt has each in words of the bytes. Stands on `vox_chunks` for numbers, and on
 // `job`.
+#![tactic(auto)]
+
 ghost use Rattle.std.specs.Prelude.{◌≡◌, ◌||◌, ◌+◌, ◌≤◌, ◌<◌, max, leb, length};
 ghost use Rattle.vox_voxels.specs.Voxels.{side_on, wrong_side, largest_side, voxel_at, beyond, wrong_voxel, first_wrong};
 

@@ -15,6 +15,8 @@ pub const PROGRAMS: [&str; 10] =
     ["quote", "quote_vox", "recount", "price", "shots", "write_shots", "vox_shots", "listing", "corners_at", "credits"];
 /// The one of them that Cargo builds from the proved library; the others are crates.
 pub const LINKED: &str = "price";
+/// The crate whose archive that library is.
+pub const LIBRARY: &str = "capi_c";
 /// All commands.
 pub const COMMANDS: [&str; 12] = [
     "quote",
@@ -106,7 +108,8 @@ pub struct Tree {
 }
 
 impl Tree {
-    /// The command, nothing built, and a stand-in for `rt` with these lines of shell, which run in the tree.
+    /// The command, nothing built, and a stand-in for `rt` with these lines of shell, which run in the tree or in the folder
+    /// of a crate.
     pub fn bare(rt: &str) -> Tree {
         static NUMBER: AtomicUsize = AtomicUsize::new(0);
         let number = NUMBER.fetch_add(1, Ordering::Relaxed);
@@ -114,6 +117,9 @@ impl Tree {
         let tree = Tree { folder };
         for part in ["bin", "scratch", "elsewhere", "a tree/crates/quote/src", "a tree/examples"] {
             fs::create_dir_all(tree.folder.join(part)).expect("the tree is made");
+        }
+        for name in PROGRAMS.iter().filter(|name| **name != LINKED).chain([&LIBRARY]) {
+            fs::create_dir_all(tree.root().join("crates").join(name)).expect("the tree is made");
         }
         let bindings = tree.root().join("bindings/rust");
         for part in ["src", "examples/price"] {
@@ -128,7 +134,8 @@ impl Tree {
         }
         drop(copying);
         symlink(tree.root().join("heqdanu"), tree.folder.join("bin/heqdanu")).expect("a link is made");
-        tree.put_tool("rt", &format!("echo \"$@\" >>\"$TREE/../calls\"\n{rt}"));
+        let call = "case $PWD in */crates/*) set -- \"${PWD##*/}:\" \"$@\" ;; esac; echo \"$@\" >>\"$TREE/../calls\"";
+        tree.put_tool("rt", &format!("({call})\n{rt}"));
         tree
     }
 
@@ -160,7 +167,7 @@ impl Tree {
         write_program(&path, &format!("#!/bin/sh\n{shell}\n"));
     }
 
-    /// Puts a program with its stamp, as rt leaves them, or with the library that Cargo builds it from.
+    /// Puts a program with its stamp, or with the library that Cargo builds it from.
     fn put_program(&self, name: &str, put: impl FnOnce(&Path)) {
         let target = self.root().join("target");
         for folder in ["bin", "stamp", "staticlib"] {
@@ -187,7 +194,7 @@ impl Tree {
         name
     }
 
-    /// What `rt` was called with, a line a call.
+    /// What `rt` was called with, a line a call; in the folder of a crate with the crate before it.
     pub fn calls(&self) -> String {
         fs::read_to_string(self.folder.join("calls")).unwrap_or_default()
     }

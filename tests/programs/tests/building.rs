@@ -7,36 +7,44 @@ use std::path::Path;
 use std::process::{Child, Command, Stdio};
 use std::time::{Duration, Instant};
 
-/// Stands in for `rt check NAME`: three crates and a program that prints one line. As rt does, it builds none whose
-/// stamp stands.
+/// Stands in for `rt run` in the folder of a crate: three crates and a program that prints one line, which rt leaves
+/// in out/ and runs.
 const PROVES: &str = r#"
-[ "$#" = 2 ] && [ "$1" = check ] || exit 2
-mkdir -p target
-if ! mkdir target/busy; then echo 'rt: two at a time'; exit 1; fi
+[ "$*" = run ] || exit 2
+crate=$(basename "$PWD")
+if ! mkdir ../busy; then echo 'rt: two at a time'; exit 1; fi
 cat
-echo 'fn buffer::put: proved'
-for crate in buffer lattice job; do echo "rt: $crate proved (1 s)"; done
+for proved in ground buffer lattice; do
+    echo "rt: chose --jobs 2 for $proved"
+    echo "fn $proved::put: proved"
+    echo "crate $proved: modules loaded=0 checked=4"
+    echo 'logic=proved functions=1 native=nat'
+done
 sleep 0.2
-if [ ! -f target/stamp/$2 ]; then
-    mkdir -p target/bin target/stamp
-    printf '#!/bin/sh\ncat; echo volume 8\n' >target/bin/$2
-    chmod +x target/bin/$2
-    echo stamp >target/stamp/$2
-fi
-echo "rt: $2 proved (unchanged since it was last proved)"
-echo "rt: $2 ran as nobody, and wrote what its file 'stdout' has (0 s)"
-echo 'rt: ok, 4 crates proved'
-rmdir target/busy
+mkdir -p out
+printf '#!/bin/sh\ncat; echo volume 8\n' >out/$crate
+chmod +x out/$crate
+echo "crate $crate: modules loaded=4 checked=0"
+echo 'logic=proved functions=2 native=nat'
+echo "rt: running out/$crate; to give it other input, run that file yourself"
+out/$crate
+rmdir ../busy
 "#;
 
-/// What a command says of the stand-in's proving, where so many crates are to be proved; times and the crate in work
-/// apart.
-fn told(command: &str, crates: usize) -> String {
-    let mut text = format!("{command}: proving and building {crates} crates, which takes some minutes once\n");
-    for number in 1..=4 {
-        text += &format!("{command}: TIME: {number} of {crates} crates proved, in work: CRATE\n");
+/// What a command says of the stand-in's proving: how many crates are proved, and then the crate in work; times apart,
+/// and the places of the three crates, which are those of crates.txt.
+fn told(command: &str, crates: &[String]) -> String {
+    let count = crates.len();
+    let mut text = format!("{command}: proving and building {count} crates, which takes some minutes once\n");
+    let mut known = 0;
+    for proved in ["ground", "buffer", "lattice"] {
+        let place = crates.iter().position(|crate_| crate_ == proved).expect("a crate below") + 1;
+        if place > known {
+            text += &format!("{command}: TIME: {place} of {count} crates proved, in work: {}\n", crates[place]);
+            known = place;
+        }
     }
-    text
+    text + &format!("{command}: TIME: {count} of {count} crates proved, running the program\n")
 }
 
 /// What a command wrote, with the minutes and seconds taken out.
@@ -50,33 +58,25 @@ fn timeless(mut ended: Ended) -> Ended {
     ended
 }
 
-/// How many crates of the repository a program is made of, by crates.txt.
-fn crates_of(program: &str) -> usize {
-    let text = include_str!("../../../crates.txt");
-    let below = |name: &str| {
-        let line = text.lines().find_map(|line| line.strip_prefix(name).and_then(|rest| rest.strip_prefix(':')));
-        line.map(|rest| rest.split_whitespace().map(String::from).collect::<Vec<_>>())
-    };
-    let mut reached = vec![program.to_string()];
-    let mut at = 0;
-    while at < reached.len() {
-        for name in below(&reached[at]).expect("a crate of the repository") {
-            if below(&name).is_some() && !reached.contains(&name) {
-                reached.push(name);
-            }
+/// The crates of the repository that a program is made of, by crates.txt: each after those that it names.
+fn crates_of(program: &str) -> Vec<String> {
+    fn visit(name: &str, found: &mut Vec<String>) {
+        let text = include_str!("../../../crates.txt");
+        let below = text.lines().find_map(|line| {
+            let (front, rest) = line.split('#').next().unwrap_or("").split_once(':')?;
+            (front.split_whitespace().next() == Some(name)).then_some(rest)
+        });
+        let Some(below) = below else { return };
+        for name in below.split_whitespace() {
+            visit(name, found);
         }
-        at += 1;
+        if !found.iter().any(|known| known == name) {
+            found.push(name.to_string());
+        }
     }
-    reached.len()
-}
-
-/// The same, with the crate in work taken out too.
-fn nameless(ended: Ended) -> Ended {
-    let mut ended = timeless(ended);
-    let cut =
-        |line: &str| line.split_once("in work: ").map_or(line.into(), |(front, _)| format!("{front}in work: CRATE"));
-    ended.complaint = ended.complaint.lines().map(|line| cut(line) + "\n").collect();
-    ended
+    let mut found = Vec::new();
+    visit(program, &mut found);
+    found
 }
 
 #[test]
@@ -84,14 +84,14 @@ fn plain_lines_where_there_is_no_terminal() {
     let tree = Tree::bare(PROVES);
     for command in ["quote", "quote_vox", "recount", "shots"] {
         // Standard input is the program's, not that of what proves it.
-        nameless(tree.shell(&format!("heqdanu {command}"), b"area 6\n")).is(
+        timeless(tree.shell(&format!("heqdanu {command}"), b"area 6\n")).is(
             "area 6\nvolume 8\n",
-            &told(command, crates_of(command)),
+            &told(command, &crates_of(command)),
             0,
         );
         tree.shell(&format!("heqdanu {command}"), &[]).is("volume 8\n", "", 0);
     }
-    assert_eq!(tree.calls(), "check quote\ncheck quote_vox\ncheck recount\ncheck shots\n");
+    assert_eq!(tree.calls(), "quote: run\nquote_vox: run\nrecount: run\nshots: run\n");
 }
 
 #[test]
@@ -100,7 +100,8 @@ fn one_moving_line_on_a_terminal() {
     let ended = tree.shell("script -qec 'heqdanu quote </dev/null' /dev/null", &[]);
     let text = ended.text();
     let crates = crates_of("quote");
-    let line = format!(": 3 of {crates} crates proved, in work: ");
+    let place = crates.iter().position(|crate_| crate_ == "lattice").expect("a crate below") + 1;
+    let line = format!(": {place} of {} crates proved, in work: ", crates.len());
     let moved = text.split("\r\x1b[Kquote: ").filter_map(|shown| shown.split_once(&line));
     // The time goes on while nothing is proved.
     let times: BTreeSet<&str> = moved.map(|(time, _)| time).collect();
@@ -108,12 +109,14 @@ fn one_moving_line_on_a_terminal() {
     assert!(text.ends_with("\r\x1b[Kvolume 8\r\n"), "{text:?}");
 }
 
-/// The crate in work is the first, in the order in which rt goes, that is not proved.
+/// The crate in work is the one behind the last that is proved, in the order in which rt goes; of a crate that it has
+/// proved before it says nothing.
 #[test]
 fn the_crate_in_work() {
-    let proves = "for crate in $WORK; do echo \"rt: $crate proved (1 s)\"; done; exit 1";
+    let proves =
+        "for crate in $WORK; do echo \"crate $crate: modules loaded=1\"; echo 'logic=proved functions=1'; done; exit 1";
     let tree = Tree::bare(proves);
-    std::fs::write(tree.root().join("crates.txt"), "# ground\na:\nb: a io\nc: a\nquote: b c\n").expect("written");
+    std::fs::write(tree.root().join("crates.txt"), "# ground\na:\nb staticlib: a io\nc: a\nquote: b c\n").expect("written");
     let last = |work: &str| {
         let ended = timeless(tree.shell(&format!("WORK='{work}' heqdanu quote"), &[]));
         let lines: Vec<&str> = ended.complaint.lines().filter(|line| line.starts_with("quote: TIME")).collect();
@@ -121,8 +124,14 @@ fn the_crate_in_work() {
     };
     assert_eq!(last("a"), "quote: TIME: 1 of 4 crates proved, in work: b");
     assert_eq!(last("a b"), "quote: TIME: 2 of 4 crates proved, in work: c");
-    assert_eq!(last("a c b"), "quote: TIME: 3 of 4 crates proved, in work: quote");
-    assert_eq!(last("a c b quote"), "quote: TIME: 4 of 4 crates proved, running the program");
+    assert_eq!(last("c"), "quote: TIME: 3 of 4 crates proved, in work: quote");
+    assert_eq!(last("a b c quote"), "quote: TIME: 4 of 4 crates proved, running the program");
+    // One that is not proved, and one of another name, do not count.
+    let failing = Tree::bare("echo 'crate a: modules'; echo logic=proved; echo 'crate b: modules'; echo logic=not-proved; exit 1");
+    std::fs::write(failing.root().join("crates.txt"), "a:\nb: a\nquote: b\n").expect("written");
+    let ended = timeless(failing.shell("heqdanu quote", &[]));
+    assert!(ended.complaint.contains("quote: TIME: 1 of 3 crates proved, in work: b\n"), "{}", ended.complaint);
+    assert!(!ended.complaint.contains("2 of 3"), "{}", ended.complaint);
 }
 
 #[test]
@@ -130,14 +139,14 @@ fn a_source_that_is_newer() {
     let tree = Tree::bare(PROVES);
     tree.shell("heqdanu quote", &[]);
     tree.shell("heqdanu quote; touch -d '+1 second' \"$TREE/crates/quote/src/main.rt\"", &[]);
-    assert_eq!(tree.calls(), "check quote\n");
+    assert_eq!(tree.calls(), "quote: run\n");
     let line = "sleep 1.1; heqdanu quote; heqdanu quote; rm \"$TREE/target/bin/quote\"; heqdanu quote";
     assert_eq!(tree.shell(line, &[]).text(), "volume 8\n".repeat(3));
-    assert_eq!(tree.calls(), "check quote\n".repeat(3));
+    assert_eq!(tree.calls(), "quote: run\n".repeat(3));
     // Where it cannot be found out, it is proved again.
     tree.put_tool("find", "exit 1");
     tree.shell("heqdanu quote", &[]);
-    assert_eq!(tree.calls(), "check quote\n".repeat(4));
+    assert_eq!(tree.calls(), "quote: run\n".repeat(4));
 }
 
 #[test]
@@ -148,23 +157,24 @@ fn scripts_of_one_pipe_take_turns() {
     // Of two for one program only the first builds.
     let ended = tree.shell("rm -r \"$TREE/target\"; heqdanu quote | heqdanu quote", &[]);
     assert_eq!((ended.text().as_str(), ended.status), ("volume 8\nvolume 8\n", 0), "{}", ended.complaint);
-    assert_eq!(tree.calls().matches("check quote\n").count(), 2);
+    assert_eq!(tree.calls().matches("quote: run\n").count(), 2);
 }
 
 #[test]
 fn a_script_that_waits_says_so() {
     let tree = Tree::bare(PROVES);
     let line = "exec 8>\"$TREE/.building\"; flock 8; sleep 2 & exec 8>&-; heqdanu quote";
-    let complaint = format!("quote: waiting for another script to build\n{}", told("quote", crates_of("quote")));
-    nameless(tree.shell(line, &[])).is("volume 8\n", &complaint, 0);
+    let complaint = format!("quote: waiting for another script to build\n{}", told("quote", &crates_of("quote")));
+    timeless(tree.shell(line, &[])).is("volume 8\n", &complaint, 0);
 }
 
 #[test]
 fn a_proof_that_fails() {
-    let tree = Tree::bare("echo 'rt: buffer proved (1 s)'; echo 'an error' >&2; echo 'rt: FAILED: quote'; exit 1");
+    let tree = Tree::bare("echo 'fn quote::main: not proved'; echo 'an error' >&2; echo 'logic=not-proved'; exit 1");
     let ended = tree.shell("heqdanu quote", &[]);
     assert_eq!((ended.text().as_str(), ended.status), ("", 2));
-    let end = "rt: buffer proved (1 s)\nan error\nrt: FAILED: quote\nquote: quote is not proved, so it is not run\n";
+    let end =
+        "fn quote::main: not proved\nan error\nlogic=not-proved\nquote: quote is not proved, so it is not run\n";
     assert!(ended.complaint.ends_with(end), "{}", ended.complaint);
     let again = tree.shell("heqdanu quote", &[]);
     assert_eq!(timeless(again), timeless(ended));
@@ -178,12 +188,12 @@ fn a_proof_that_fails() {
 
 #[test]
 fn a_program_whose_stamp_is_gone() {
-    // rt takes the stamp away before it proves, so a program without one is not known to be proved.
+    // A program without a stamp is not known to be proved.
     let tree = Tree::standing_in("echo volume 8");
     tree.shell("heqdanu quote", &[]).is("volume 8\n", "", 0);
     let ended = tree.shell("rm \"$TREE/target/stamp/quote\"; heqdanu quote", &[]);
     assert_eq!((ended.text().as_str(), ended.status), ("", 2));
-    assert_eq!(tree.calls(), "check quote\n");
+    assert_eq!(tree.calls(), "quote: run\n");
 }
 
 #[test]
@@ -207,10 +217,10 @@ fn a_checkout_that_cannot_be_written() {
     tree.shell(&line, &[]).is("", &complaint, 2);
 }
 
-/// Stands in for an `rt` that goes on: it leaves its number, and half a library, and so does a child of it.
+/// Stands in for an `rt` that goes on: it leaves its number, and so does a child of it.
 const GOES_ON: &str = r#"
-mkdir -p target/rlib/half.rlib target/stamp
-echo 'rt: buffer proved (1 s)'
+echo 'crate ground: modules loaded=0 checked=4'
+echo 'logic=proved functions=1 native=nat'
 sh -c 'echo $$ >"$TREE/../child"; sleep 60; true' &
 echo $$ >"$TREE/../parent"
 wait
@@ -266,14 +276,4 @@ fn a_signal_ends_what_it_started_and_frees_the_lock() {
         tree.shell("flock -n \"$TREE/.building\" echo free", &[]).is("free\n", "", 0);
         assert_eq!(tree.left_over(), 0, "{signal}");
     }
-}
-
-/// A library without a stamp is what an `rt` that was ended leaves half.
-#[test]
-fn what_was_left_half_goes() {
-    let tree = Tree::bare(&format!("ls target/rlib >../libraries\n{PROVES}"));
-    let line = "mkdir -p \"$TREE\"/target/rlib/half.rlib \"$TREE\"/target/rlib/whole.rlib \"$TREE\"/target/stamp; \
-                touch \"$TREE/target/stamp/whole\"; heqdanu quote; cat \"$TREE/../libraries\"";
-    let ended = tree.shell(line, &[]);
-    assert_eq!(ended.text(), "volume 8\nwhole.rlib\n", "{}", ended.complaint);
 }

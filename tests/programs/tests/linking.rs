@@ -5,12 +5,13 @@ use programs::tree::{spawn, Tree};
 use std::process::{Command, Stdio};
 use std::time::{Duration, Instant};
 
-/// Stands in for `rt staticlib capi`.
+/// Stands in for `rt lib` in the folder of `capi_c`.
 const PROVES: &str = r#"
-[ "$*" = 'staticlib capi' ] || exit 2
-mkdir -p target/staticlib
-echo 'rt: buffer proved (1 s)'
-echo library >target/staticlib/libcapi.a
+[ "${PWD##*/} $*" = 'capi_c lib' ] || exit 2
+mkdir -p out
+echo 'crate ground: modules loaded=0 checked=4'
+echo 'logic=proved functions=1 native=nat'
+echo library >out/libcapi_c.a
 "#;
 
 /// Stands in for Cargo: a program that prints a line, where `--target-dir` and `--example` say.
@@ -26,7 +27,7 @@ chmod +x "$2/release/examples/$4"
 /// How Cargo is called.
 const CARGO: &str = "cargo build --quiet --release --offline --manifest-path TREE/bindings/rust/Cargo.toml \
                      --target-dir TREE/bindings/rust/target --example price\n";
-const RT: &str = "staticlib capi\n";
+const RT: &str = "capi_c: lib\n";
 /// The command, with standard input for the shot file.
 const PRICE: &str = "heqdanu price \"$TREE/examples/tables.txt\"";
 const LINKING: &str = "price: building price by Cargo, which takes some seconds once\n";
@@ -127,13 +128,13 @@ fn a_build_that_fails() {
     failing.put_tool("cargo", "true");
     let ended = failing.shell(PRICE, &[]);
     let complaint =
-        format!("{LINKING}price: what Cargo built cannot be put into {}/target/bin\n", failing.root().display());
+        format!("{LINKING}price: what was built cannot be put into {}/target/bin\n", failing.root().display());
     assert_eq!((ended.complaint, ended.status), (complaint, 2));
 
-    let unproved = tree("echo 'rt: FAILED: capi'; exit 1", LINKS);
+    let unproved = tree("echo logic=not-proved; exit 1", LINKS);
     let ended = unproved.shell(PRICE, &[]);
     assert_eq!((ended.text().as_str(), ended.status), ("", 2));
-    let end = "rt: FAILED: capi\nprice: capi is not proved, so there is no library\n";
+    let end = "logic=not-proved\nprice: capi_c is not proved, so there is no library\n";
     assert!(ended.complaint.ends_with(end), "{}", ended.complaint);
     assert_eq!(unproved.calls(), RT);
 }
@@ -179,12 +180,29 @@ fn waits<T>(mut found: impl FnMut() -> Option<T>) -> T {
     }
 }
 
+/// `scripts/library`, which takes its turn and proves what is not proved yet.
+#[test]
+fn the_library_alone() {
+    let tree = tree(PROVES, "exit 1");
+    let library = "\"$TREE/scripts/library\"";
+    tree.shell(&format!("{library} capi"), &[]).is(
+        "",
+        "scripts/library: it takes no words\nusage: scripts/library\n",
+        2,
+    );
+    let ended = tree.shell(library, &[]);
+    assert_eq!((ended.text().as_str(), ended.status), ("", 0), "{}", ended.complaint);
+    tree.shell("cat \"$TREE/target/staticlib/libcapi.a\"", &[]).is("library\n", "", 0);
+    tree.shell(library, &[]).is("", "", 0);
+    assert_eq!(tree.calls(), RT);
+}
+
 /// `scripts/link`, which proves nothing and does not wait for its turn.
 #[test]
 fn linking_alone() {
     let tree = tree("exit 1", LINKS);
     let link = "\"$TREE/scripts/link\"";
-    let missing = "target/staticlib/libcapi.a is missing; 'rt staticlib capi' makes it\n";
+    let missing = "target/staticlib/libcapi.a is missing; 'scripts/library' makes it\n";
     tree.shell(link, &[]).is("", &format!("scripts/link: {}/{missing}", tree.root().display()), 2);
     tree.shell(&format!("{link} price"), &[]).is("", "scripts/link: it takes no words\nusage: scripts/link\n", 2);
     let line = format!("mkdir -p \"$TREE/target/staticlib\"; touch \"$TREE/target/staticlib/libcapi.a\"; {link}");
