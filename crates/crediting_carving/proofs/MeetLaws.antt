@@ -1,5 +1,5 @@
 -- Which shots meet a block: the tests one by one, and what they say of the cells of the block.
-use mathlib.Core.Path.{◌≡◌, refl, sym, ◌∙◌}
+use mathlib.Core.Path.{◌≡◌, sym, ◌∙◌}
 use mathlib.Core.Bool.{Bool, true, false, ◌&&◌, ◌||◌, and-false, true≢false}
 use mathlib.Core.List.{List}
 use Prim.Native.Nat.{ℕ, zero, suc, ◌+◌, ◌≤◌, ◌<◌, min, max}
@@ -177,12 +177,12 @@ module _ (E : ℕ) (coords : List ℕ) (s : ℕ) (b : Block) (i j k : ℕ) where
   part-bare (suc (suc (suc (suc (suc n))))) l = off-z (bare-after (edge_at E coords s) (z_at coords s) b.z k l.z)
 
 -- all that is none of the first five is the last
-pub part-last : (b c : Block) (side : ℕ) → ((((Unit {0} × (side ≡ 0 → ⊥)) × (side ≡ 1 → ⊥)) × (side ≡ 2 → ⊥)) × (side ≡ 3 → ⊥)) × (side ≡ 4 → ⊥) → {s : Span} → s ≡ span_after b.z c.z → record { x = c.x; y = c.y; z = s } ≡ part_of b c side
-part-last b c zero h e = absurd (h.0.0.0.0.1 refl)
-part-last b c (suc zero) h e = absurd (h.0.0.0.1 refl)
-part-last b c (suc (suc zero)) h e = absurd (h.0.0.1 refl)
-part-last b c (suc (suc (suc zero))) h e = absurd (h.0.1 refl)
-part-last b c (suc (suc (suc (suc zero)))) h e = absurd (h.1 refl)
+pub part-last : (b c : Block) (side : ℕ) → 5 ≤ side → {s : Span} → s ≡ span_after b.z c.z → record { x = c.x; y = c.y; z = s } ≡ part_of b c side
+part-last b c zero h e = absurd (omega arith)
+part-last b c (suc zero) h e = absurd (omega arith)
+part-last b c (suc (suc zero)) h e = absurd (omega arith)
+part-last b c (suc (suc (suc zero))) h e = absurd (omega arith)
+part-last b c (suc (suc (suc (suc zero)))) h e = absurd (omega arith)
 part-last b c (suc (suc (suc (suc (suc n))))) h e = rw e
 
 -- and they lie in the block

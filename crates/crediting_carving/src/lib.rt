@@ -4,6 +4,8 @@
 //
 // specs/Blocks.antt says what is counted; proofs/BlockLaws.antt, that a block's count is that of a block in it and of the six parts around that.
 // Stands on `grid_cover`, whose cover test it counts by, and on `job` and `lattice`.
+#![tactic(auto)]
+
 pub mod blocks;
 
 ghost use Rattle.std.specs.Prelude.{◌≡◌, ◌≤◌, ◌<◌, length};

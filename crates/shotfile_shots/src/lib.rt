@@ -1,6 +1,8 @@
 // The lines of a shot file's shots with their numbers and places, put into a lent slice one after another, up to the first faulty record.
 // specs/ShotLines.antt. Stands on `shotfile_lines`, which has the single lines, on `shotfile_reader`, whose cursor it follows, on
 // `shotfile_records`, `refusals` and `buffer`.
+#![tactic(auto)]
+
 ghost use Rattle.std.specs.Prelude.{◌+◌, ◌≤◌, length};
 ghost use Rattle.buffer.specs.Wrote.{Wrote};
 ghost use Rattle.shotfile_shots.specs.ShotLines.{shot_lines};

@@ -1,5 +1,7 @@
 // Why the list of a shot file that reads well is refused, as a line of the file's text. specs/Verdicts.antt. Stands on `shotfile_lines`,
 // which has the line, on `shotfile_reader` and `job`, which read and check the list, on `refusals` and `buffer`.
+#![tactic(auto)]
+
 ghost use Rattle.std.specs.Prelude.{◌≡◌, ◌+◌, ◌≤◌, length};
 ghost use Rattle.buffer.specs.Wrote.{Wrote};
 ghost use Rattle.job.specs.Job.{job_of};

@@ -3,6 +3,8 @@
 //
 // `l`, `u` and `names` are as in `sweep_image`; `from`, `old` and `n` as in `sweep_layer`; `t` are the corner sums so far, and `buf` is the
 // lent buffer with their records. A *turn* is what is done at a plane on which boxes begin or end.
+#![tactic(auto)]
+
 ghost use Rattle.std.specs.Prelude.{◌<◌, ◌≤◌};
 ghost use Rattle.lattice.specs.Cells.{plane_points};
 ghost use Rattle.lattice_sums.specs.CornerSums.{RoomFor};

@@ -4,6 +4,8 @@
 // `l` and `u` are the images of the lower and the upper layer, `names` the columns in which they may differ, row by row, and `k` is a column.
 // `x` is the plane, `y` a line of it, `t` are the corner sums before a function and `s` those so far, `buf` is the lent buffer; `m` has the bits of
 // a word that are still to be looked at.
+#![tactic(auto)]
+
 ghost use Rattle.std.specs.Prelude.{◌≡◌, ◌+◌, ◌<◌, ◌≤◌, length, get_or};
 ghost use Rattle.std.specs.Int.Bits.{bit_or};
 ghost use Rattle.lattice.specs.Cells.{line_points, plane_points};

@@ -1,6 +1,8 @@
 // A shot list as it is typed: plain text, a setting or a shot a line. `read_text` takes a text to a list with its settings, or to its
 // first mistake. specs/Lists.antt says what a text says. Stands on `typed_line`, which reads a single line, on `typed_draft`, which has what
 // the lines above say, on `job`, whose door stores a shot, and on `buffer`; its examples also on `text_parts` and `shotfile_records`.
+#![tactic(auto)]
+
 ghost use Rattle.std.specs.Prelude.{◌≡◌, ◌+◌, ◌≤◌, length};
 ghost use Rattle.buffer.specs.Wrote.{Wrote, in_front};
 ghost use Rattle.job.specs.Job.{shot_count, place_of};

@@ -1,0 +1,12 @@
+-- Nothing, or the line of the refusal.
+use mathlib.Core.Path.{sym, ap, ◌∙◌}
+use Rattle.buffer.proofs.WroteLaws.{wrote_as}
+use Rattle.shotfile_verdict.specs.Verdicts.{list_verdict}
+use Rattle.shotfile_verdict.proofs.VerdictLaws.{accepted-verdict}
+use Rattle.shotfile_verdict.proofs.put_list_verdict.Goals as goal
+
+pub returns-in-Accepted : goal.returns-in-Accepted
+returns-in-Accepted c = accepted-verdict c.args.out.now c.args.at (sym c.in-Accepted.is ∙ c.check.ensures.answer) c.requires
+
+pub returns-in-Refused : goal.returns-in-Refused
+returns-in-Refused c = wrote_as (ap list_verdict (sym c.in-Refused.is ∙ c.check.ensures.answer)) c.put_refused.ensures
