@@ -1,5 +1,7 @@
 // The five lines of a quote, put into a lent slice. specs/Lines.antt says what the lines are. Stands on `text_parts` and on the totals of
 // `lattice_sums`.
+#![tactic(auto)]
+
 ghost use Rattle.std.specs.Prelude.{◌≤◌, length};
 ghost use Rattle.buffer.specs.Wrote.{Wrote};
 ghost use Rattle.text_report.specs.Lines.{quote_lines};
