@@ -1,6 +1,8 @@
 // From the bytes of a VOX file to the shot file of its voxels, by specs/Drawn.antt; proofs/DrawnLaws.antt: with room for the longest file an
 // accepted drawing is always written, and proofs/ReadBack.antt: what is written says what the drawing says. The program `vox_shots` only
 // moves these bytes in and out. Stands on `vox` and `shotfile_writer`.
+#![tactic(auto)]
+
 ghost use Rattle.drawn_file.specs.Drawn.{FileDrawn};
 
 use shotfile_reader::ReadAnswer;

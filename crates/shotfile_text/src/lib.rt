@@ -2,6 +2,8 @@
 // numbers and places, and, at the end, why the file or its list is refused, if it is. specs/Text.antt says what the text is.
 // Stands on `shotfile_lines`, `shotfile_shots` and `shotfile_verdict`, which have the lines, on `shotfile_reader` and `shotfile_records`, on
 // `job`, `refusals` and `buffer`.
+#![tactic(auto)]
+
 ghost use Rattle.std.specs.Prelude.{◌≤◌, length};
 ghost use Rattle.shotfile_text.specs.Text.{TextCall};
 

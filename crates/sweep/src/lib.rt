@@ -3,6 +3,8 @@
 // `sweep_planes`.
 //
 // `l` and `u` are the images of the layers below and above a plane, `names` the columns in which they may differ; `buf` is the lent buffer.
+#![tactic(auto)]
+
 ghost use Rattle.std.specs.Prelude.{◌≡◌, [], ◌≤◌};
 ghost use Rattle.lattice.specs.Boxes.{box_cells};
 ghost use Rattle.lattice.specs.Shots.{cells};

@@ -3,6 +3,8 @@
 //
 // `l`, `u` and `names` are as in `sweep_image`; `from`, `old` and `n` as in `sweep_layer`; `ends` counts the boxes by the plane on which they
 // end, `t` are the corner sums so far, and `buf` is the lent buffer with their records.
+#![tactic(auto)]
+
 ghost use Rattle.std.specs.Prelude.{◌≡◌};
 ghost use Rattle.lattice.specs.Boxes.{box_cells};
 ghost use Rattle.lattice_weights.specs.Packed.{Packed};

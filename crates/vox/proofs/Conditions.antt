@@ -82,6 +82,7 @@ among-behind [] a = a
 among-behind (t ∷ ts) a = there (among-behind ts a)
 
 none-among : (condition : Refusal → Type 0) {q : Refusal} (ts : List Test) → Each (λ t. ¬ condition t.gives) ts → Among q ts → ¬ condition q
+none-among condition {q = q} [] n a c = elim a [ ]
 none-among condition (t ∷ ts) n (here e) c = n.0 (subst condition (sym e) c)
 none-among condition (t ∷ ts) n (there a) c = none-among condition ts n.1 a c
 

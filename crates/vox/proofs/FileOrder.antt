@@ -85,6 +85,7 @@ never_both {a} {b} p q =
     omega (arith, p.numbers e, q.numbers (sym e))
 
 at_each : {a q : Refusal} (ts : List Test) → Each (λ u. Precedes a u.gives) ts → Among q ts → Precedes a q
+at_each {a = a} {q = q} [] e m = elim m [ ]
 at_each {a} (t ∷ ts) e (here k) = subst (Precedes a) k e.0
 at_each (t ∷ ts) e (there m) = at_each ts e.1 m
 

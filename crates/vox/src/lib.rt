@@ -4,6 +4,8 @@
 // is the first in the file, proofs/Voxels.antt that the cells of the list are the voxels, that the list is valid and how long its index is.
 // Stands on `vox_chunks` for the chunks of a file and `vox_voxels` for its sides and voxels, and on `refusals`, `job` and
 // `shotfile_reader`, whose refusals, door to a shot and answer it uses.
+#![tactic(auto)]
+
 ghost use Rattle.std.specs.Prelude.{◌≡◌, ◌+◌, ◌*◌, ◌≤◌, ◌<◌, length};
 ghost use Rattle.buffer.specs.Wrote.{Wrote, in_front};
 ghost use Rattle.job.specs.Job.{shot_count, place_of, numbers_of};
