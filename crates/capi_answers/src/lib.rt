@@ -1,5 +1,7 @@
 // The answers of the calls for C and Rust as numbers, put to the front of a lent slice: specs/Places.antt has the order. A refusal has its
 // number and detail, with all others 0. Stands on the crates whose answers these are.
+#![tactic(auto)]
+
 pub mod places;
 
 ghost use Rattle.std.specs.Prelude.{◌≡◌, [], ◌∷◌, ◌≤◌, length};

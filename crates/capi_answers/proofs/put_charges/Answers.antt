@@ -1,0 +1,17 @@
+-- One store after another.
+use native.Mathlib.Omega.{arith}
+use lib.ListN.{length-set}
+use Rattle.capi_answers.proofs.StoreLaws.{five-stored}
+use Rattle.capi_answers.proofs.put_charges.Goals as goal
+
+pub bounds-answer-1 : goal.bounds-answer-1
+bounds-answer-1 c = simp length-set (omega arith)
+
+pub bounds-answer-2 : goal.bounds-answer-2
+bounds-answer-2 c = simp length-set (omega arith)
+
+pub bounds-answer-3 : goal.bounds-answer-3
+bounds-answer-3 c = simp length-set (omega arith)
+
+pub returns : goal.returns
+returns c = five-stored c.args.answer.now c.args.number c.args.detail c.args.c.volume c.args.c.area c.args.c.edge c.requires

@@ -1,0 +1,11 @@
+-- One store after another.
+use native.Mathlib.Omega.{arith}
+use lib.ListN.{length-set}
+use Rattle.capi_answers.proofs.StoreLaws.{two-stored}
+use Rattle.capi_answers.proofs.put_index.Goals as goal
+
+pub bounds-answer-1 : goal.bounds-answer-1
+bounds-answer-1 c = simp length-set (omega arith)
+
+pub returns : goal.returns
+returns c = two-stored c.args.answer.now c.args.number c.args.detail c.requires
