@@ -116,7 +116,8 @@ fn the_crate_in_work() {
     let proves =
         "for crate in $WORK; do echo \"crate $crate: modules loaded=1\"; echo 'logic=proved functions=1'; done; exit 1";
     let tree = Tree::bare(proves);
-    std::fs::write(tree.root().join("crates.txt"), "# ground\na:\nb staticlib: a io\nc: a\nquote: b c\n").expect("written");
+    std::fs::write(tree.root().join("crates.txt"), "# ground\na:\nb staticlib: a io\nc: a\nquote: b c\n")
+        .expect("written");
     let last = |work: &str| {
         let ended = timeless(tree.shell(&format!("WORK='{work}' heqdanu quote"), &[]));
         let lines: Vec<&str> = ended.complaint.lines().filter(|line| line.starts_with("quote: TIME")).collect();
@@ -127,7 +128,9 @@ fn the_crate_in_work() {
     assert_eq!(last("c"), "quote: TIME: 3 of 4 crates proved, in work: quote");
     assert_eq!(last("a b c quote"), "quote: TIME: 4 of 4 crates proved, running the program");
     // One that is not proved, and one of another name, do not count.
-    let failing = Tree::bare("echo 'crate a: modules'; echo logic=proved; echo 'crate b: modules'; echo logic=not-proved; exit 1");
+    let failing = Tree::bare(
+        "echo 'crate a: modules'; echo logic=proved; echo 'crate b: modules'; echo logic=not-proved; exit 1",
+    );
     std::fs::write(failing.root().join("crates.txt"), "a:\nb: a\nquote: b\n").expect("written");
     let ended = timeless(failing.shell("heqdanu quote", &[]));
     assert!(ended.complaint.contains("quote: TIME: 1 of 3 crates proved, in work: b\n"), "{}", ended.complaint);
@@ -173,8 +176,7 @@ fn a_proof_that_fails() {
     let tree = Tree::bare("echo 'fn quote::main: not proved'; echo 'an error' >&2; echo 'logic=not-proved'; exit 1");
     let ended = tree.shell("heqdanu quote", &[]);
     assert_eq!((ended.text().as_str(), ended.status), ("", 2));
-    let end =
-        "fn quote::main: not proved\nan error\nlogic=not-proved\nquote: quote is not proved, so it is not run\n";
+    let end = "fn quote::main: not proved\nan error\nlogic=not-proved\nquote: quote is not proved, so it is not run\n";
     assert!(ended.complaint.ends_with(end), "{}", ended.complaint);
     let again = tree.shell("heqdanu quote", &[]);
     assert_eq!(timeless(again), timeless(ended));

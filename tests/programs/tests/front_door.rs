@@ -169,7 +169,7 @@ fn nothing_else_at_the_root() {
         .map(|entry| entry.file_name().to_string_lossy().into_owned())
         .filter(|name| !name.starts_with('.'))
         .collect();
-    let known = ["CONTRIBUTING.md", "README.md", "VERSION", "crates.txt", "heqdanu", "test"];
+    let known = ["CONTRIBUTING.md", "HANDLES", "README.md", "VERSION", "crates.txt", "heqdanu", "test"];
     let other: Vec<&String> = files.iter().filter(|name| !known.contains(&name.as_str())).collect();
     assert!(other.is_empty(), "{other:?}");
     let commands: BTreeSet<String> = fs::read_dir(repository().join("scripts/commands"))

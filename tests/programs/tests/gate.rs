@@ -68,11 +68,7 @@ fn it_takes_its_turn() {
     tree.shell("\"$TREE/test\"", &[]).is("a line\na line\na line\ncalled\n", "", 3);
     assert_eq!(proving(&tree), "ci\n");
     let line = "exec 8>\"$TREE/.building\"; flock 8; sleep 1 & exec 8>&-; \"$TREE/test\"";
-    tree.shell(line, &[]).is(
-        "a line\na line\na line\ncalled\n",
-        "test: waiting for another script to build\n",
-        3,
-    );
+    tree.shell(line, &[]).is("a line\na line\na line\ncalled\n", "test: waiting for another script to build\n", 3);
     // And those that build wait for it.
     let tree = standing_in("sleep 2; echo rt: done; exit 1");
     let line = "\"$TREE/test\" >/dev/null & while flock -n \"$TREE/.building\" true; do :; done; heqdanu quote; wait";

@@ -1,0 +1,7 @@
+-- The buffer is as long as it says; this is cited, since a list of that length is not to be written out.
+use Rattle.std.proofs.Common.{ℕ, sym}
+use Rattle.std.proofs.lemmas.List.{length-replicate}
+use Rattle.corners_at.proofs.print_at.Goals as goal
+
+pub slice_bounds-print_input-end : goal.slice_bounds-print_input-end
+slice_bounds-print_input-end c = sym (length-replicate {A = ℕ} 917511 0)
