@@ -10,6 +10,8 @@
 // `credit`, `PriceCall` (price/specs/Price.antt) of `price`, `WriteCall` (shotfile_writer/specs/Calls.antt) of `write`, `ReadCall`
 // (shotfile_reader/specs/Calls.antt) of `read`, `VoxCall` (vox/specs/Vox.antt) of `read_vox`. condition_1 says what they come to. Stands on
 // the calls.
+#![tactic(auto)]
+
 pub mod condition_1;
 pub mod condition_2;
 pub mod condition_3;

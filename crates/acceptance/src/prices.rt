@@ -1,7 +1,7 @@
 // Request (viii): a table of bands is valid where these run without gap or overlap from 0 to 1,099,511,627,776, at most 64 of them and none
 // above 10,000 cents; the check says what is wrong with any other, the lookup finds the one band that holds an amount, and the price call
 // charges volume, area and outer edges, each the whole amount at the rate of that band. Check and lookup are shown for the band list, once.
-// What condition 1 asks of the price call is here too: a function that is lent a slice of structs has its proof written step by step.
+// What condition 1 asks of the price call is here too.
 ghost use Rattle.job.specs.Job.{job_of};
 ghost use Rattle.acceptance.specs.Prices.{TableChecked, LookedUp, ListPriced};
 
@@ -34,7 +34,7 @@ pub fn price(
     edges: &[Band],
 ) -> Priced
     ensures { ListPriced (job_of field edge grid coords.now) work.old
-        (record { volume = volume.entry.now; area = area.now; edges = edges.now }) result work.new }
+        (record { volume = volume.now; area = area.now; edges = edges.now }) result work.new }
 {
     price::price(field, edge, grid, coords, work, volume, area, edges)
 }

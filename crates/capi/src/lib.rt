@@ -1,6 +1,8 @@
 // The calls for C and Rust: numbers and slices only. include/heqdanu.h describes them for their users.
 // Each answer goes, as numbers, into a lent slice whose length is checked: specs/Answered.antt. Stands on `capi_answers`, which puts the
 // numbers, and on `measure`, `measure_cells`, `section`, `crediting`, `price`, `grid_cover`, `shotfile_reader`, `shotfile_writer` and `vox`.
+#![tactic(auto)]
+
 ghost use Rattle.job.specs.Job.{job_of};
 ghost use Rattle.std.specs.Prelude.{◌≡◌};
 ghost use Rattle.price_charging.specs.Charging.{priced_numbers};
@@ -155,8 +157,7 @@ fn tell_priced(answer: &mut [u64], priced: Priced) -> u8
     1
 }
 
-// Prices a list by three tables of bands: see `price::price`. The tables are slices of structs, so that this has no branch, and its proof is
-// written by hand, step by step.
+// Prices a list by three tables of bands: see `price::price`. Where the numbers do not fit, it prices by a side of 0, and has no branch.
 #[unsafe(no_mangle)]
 pub extern "C" fn heqdanu_price(
     field: u16,
@@ -170,7 +171,7 @@ pub extern "C" fn heqdanu_price(
     answer: &mut [u64],
 ) -> u8
     ensures { PriceTold (job_of field edge grid coords.now) work.old
-        (record { volume = volume.entry.now; area = area.now; edges = edges.now }) answer.old
+        (record { volume = volume.now; area = area.now; edges = edges.now }) answer.old
         result work.new answer.new }
 {
     let side = side_for(field, answer.len());

@@ -1,0 +1,6 @@
+-- Measuring does as it promises.
+use Rattle.acceptance.proofs.Condition1.{measure-answered}
+use Rattle.acceptance.proofs.condition_1.measure.Goals as goal
+
+pub returns : goal.returns
+returns c = measure-answered c.measure.ensures
