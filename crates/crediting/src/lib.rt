@@ -3,6 +3,8 @@
 // specs/Credits.antt says what it answers and leaves; proofs/CreditTheorems.antt, the file to read first, what the credits are good for. A
 // grid cell's block of unit cells is carved by the run of that grid cell, which names the lowest covering shots of its cells. Stands on
 // `measure_intake`, `crediting_carving` and `grid_runs`.
+#![tactic(auto)]
+
 ghost use Rattle.std.specs.Prelude.{◌≡◌, ◌+◌, ◌*◌, ◌/◌, ◌≤◌, ◌<◌, length, replicate};
 ghost use Rattle.job.specs.Job.{job_of, shot_count};
 ghost use Rattle.grid.specs.Grid.{Holds};

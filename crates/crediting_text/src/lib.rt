@@ -1,6 +1,8 @@
 // From the bytes of a shot file to the bytes that the program `credits` prints: a line for each shot, its number and its credit, or the line
 // of a refusal. specs/Credited.antt says what the text is. Stands on `crediting`, on `shotfile_reader`, on
 // `quoting_text` and `text_refusal`, and on `text_parts`.
+#![tactic(auto)]
+
 ghost use Rattle.std.specs.Prelude.{◌+◌, ◌*◌, ◌≤◌, length};
 ghost use Rattle.job.specs.Job.{job_of};
 ghost use Rattle.buffer.specs.Wrote.{Wrote};

@@ -4,6 +4,8 @@
 // specs/Answers.antt says what listing answers and leaves, and specs/Intake.antt of `measure_intake` what measuring does;
 // proofs/Condition3.antt, the file to read first, what that means for every accepted list. Both calls count by the corner sums over the
 // corner points that `sweep` finds. Stands on `measure_intake` and `sweep`.
+#![tactic(auto)]
+
 ghost use Rattle.std.specs.Prelude.{◌≡◌, ◌*◌, ◌≤◌, length};
 ghost use Rattle.lattice.specs.Listing.{listing, corner_count};
 ghost use Rattle.lattice_sums.specs.CornerSums.{totals_of};

@@ -1,8 +1,10 @@
 // The price call: three charges of a list, by three tables of price bands. docs/SCOPE.md, 'Price bands'.
 //
 // specs/Price.antt says what it answers and leaves; proofs/PriceTheorems.antt, the file to read first, when it accepts and refuses, and that
-// each charge is the whole amount times the rate of the one band that holds it. `price` passes lent tables on, so it is thin, has no branch,
-// and has its proof written by hand, step by step; what it calls is covered. Stands on `measure`, `price_bands` and `price_charging`.
+// each charge is the whole amount times the rate of the one band that holds it. `price` passes lent tables on, and has no branch. Stands on
+// `measure`, `price_bands` and `price_charging`.
+#![tactic(auto)]
+
 ghost use Rattle.job.specs.Job.{job_of};
 ghost use Rattle.price.specs.Price.{TakeCall, PriceCall};
 
@@ -46,7 +48,7 @@ pub fn price(
     edges: &[Band],
 ) -> Priced
     ensures { PriceCall (job_of field edge grid coords.now) work.old
-        (record { volume = volume.entry.now; area = area.now; edges = edges.now }) result work.new }
+        (record { volume = volume.now; area = area.now; edges = edges.now }) result work.new }
 {
     let taken = take_amounts(field, edge, grid, coords, work);
     let volume_verdict = check(volume);
