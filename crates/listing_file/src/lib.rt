@@ -1,5 +1,7 @@
 // From the bytes of a shot file to its corner listing, by specs/Listing.antt. The program `listing` only moves these bytes in and out. Stands
 // on `shotfile_reader` and `measure`.
+#![tactic(auto)]
+
 ghost use Rattle.listing_file.specs.Listing.{FileListed};
 
 use measure_intake::Measured;

@@ -1,5 +1,7 @@
 // From the bytes of a shot file or a VOX file to the bytes that a program prints: its quote. The programs `quote` and `quote_vox` only move
 // these bytes in and out. Stands on `shotfile_reader`, `vox`, `measure` and `quoting_text`, which has the text.
+#![tactic(auto)]
+
 ghost use Rattle.std.specs.Prelude.{◌≤◌, length};
 ghost use Rattle.quoting_text.specs.Quoting.{FileQuoted};
 ghost use Rattle.quoting_text.specs.Answered.{ShotsThere, answered_file, FileMeasured};
