@@ -1,5 +1,7 @@
 // The second opinion: from the bytes of a shot file to the quote that `quoting::quote` promises, from totals that are counted again, cell by
 // cell. Uses nothing of the sweep. Stands on `shotfile_reader`, `measure_shown` and `quoting_text`.
+#![tactic(auto)]
+
 ghost use Rattle.std.specs.Prelude.{◌≤◌, length};
 ghost use Rattle.quoting_text.specs.Quoting.{FileQuoted};
 ghost use Rattle.quoting_text.specs.Answered.{ShotsThere, answered_file, FileMeasured};
