@@ -1,6 +1,8 @@
 // The second opinion, with a word on standard error about how far it is: the answer of `measure_cells::recount`, its planes counted in
 // pieces. On a terminal one line moves with each plane; elsewhere there is a line for each 256 planes that are followed by more, so that a
 // small field says nothing. Stands on `measure_cells`, `measure_intake` and `text_parts`.
+#![tactic(auto)]
+
 ghost use Rattle.std.specs.Prelude.{◌≡◌, ◌+◌, ◌≤◌, ◌<◌};
 ghost use Rattle.lattice.specs.Shots.{cells};
 ghost use Rattle.lattice_sums.specs.CornerSums.{totals_of};
