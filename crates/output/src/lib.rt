@@ -1,6 +1,6 @@
 // What a program writes: its text on standard output, and on standard error a line, which begins with the program's name, where something is in
-// the way or to be noted. Nothing comes back, nothing is lent that they fill, and no contract can say what a system call writes. Stands on
-// `text_wording`, which has the refusals in words.
+// the way or to be noted. What comes back is at most how a program ends, nothing is lent that they fill, and no contract can say what a system
+// call writes. Stands on `text_wording`, which has the refusals in words.
 #![tactic(auto)]
 
 use refusals::Refusal;
