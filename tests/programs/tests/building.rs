@@ -279,3 +279,13 @@ fn a_signal_ends_what_it_started_and_frees_the_lock() {
         assert_eq!(tree.left_over(), 0, "{signal}");
     }
 }
+
+/// What a command that was ended left half in the place of a program goes when the program is put there.
+#[test]
+fn what_was_left_half_goes() {
+    let tree = Tree::bare(PROVES);
+    let line = "mkdir -p \"$TREE/target/bin\"; echo half >\"$TREE/target/bin/quote.new\"; heqdanu quote; \
+                ls \"$TREE/target/bin\"";
+    let ended = tree.shell(line, &[]);
+    assert_eq!(ended.text(), "volume 8\nquote\n", "{}", ended.complaint);
+}
