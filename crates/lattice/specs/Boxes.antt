@@ -4,7 +4,7 @@ use Rattle.ground.specs.Numbers.{any_to}
 use Rattle.lattice.specs.Cells.{Cells}
 use Rattle.lattice.specs.Shots.{Shot}
 
--- the cells from x up to x-end, from y up to y-end, from z up to z-end
+-- the cells from x up to x_end, from y up to y_end, from z up to z_end
 pub record Box : Type 0 where
   pub x : ℕ
   pub x_end : ℕ

@@ -57,6 +57,10 @@ module _ (absent v : ℕ) where
   pub field_most : length (field_of absent v) ≤ 2
   field_most = omega (arith, field-size, bit-small)
 
+-- three bits that are told, of any fields, as one number
+pub told-small : (a₁ v₁ a₂ v₂ a₃ v₃ : ℕ) {b₁ b₂ b₃ : ℕ} → b₁ ≡ bit_of a₁ v₁ → b₂ ≡ bit_of a₂ v₂ → b₃ ≡ bit_of a₃ v₃ → b₁ + 2 * b₂ + 4 * b₃ < 8
+told-small a₁ v₁ a₂ v₂ a₃ v₃ e₁ e₂ e₃ = omega (arith, e₁, e₂, e₃, bit-small a₁ v₁, bit-small a₂ v₂, bit-small a₃ v₃)
+
 -- ---- a record
 module _ (absent f : Fields) where
   bits₁ : bit_of absent.first f.first ≤ 1
