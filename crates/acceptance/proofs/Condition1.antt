@@ -8,11 +8,9 @@ use Rattle.refusals.specs.Tests.{Checks, if_accepted}
 use Rattle.refusals.proofs.Deciding.{call-accepts, call-refuses}
 use Rattle.job.specs.Checking.{tests}
 use Rattle.job.proofs.Conditions.{job-decides}
-use Rattle.refusals.specs.declared.Checked.{Checked}
 use Rattle.job.specs.Job.{Job, shot_count}
 use Rattle.lattice.specs.Listing.{listing}
-use Rattle.measure_intake.specs.Intake.{solid, IndexCall, MeasureCall}
-use Rattle.measure_intake.specs.declared.Measured.{Measured}
+use Rattle.measure_intake.specs.Intake.{solid, IndexCall, MeasureCall, Measured}
 use Rattle.measure_intake.proofs.Refused.{index-accepts, index-refuses, measure-accepts, measure-refuses, work-stored, work-kept}
 use Rattle.measure.specs.Answers.{listing_after, ListCall}
 use Rattle.measure.proofs.Refused.{list-decides, list-accepts, list-refuses, list-refused-keeps, list-work-kept, list-work-done}
@@ -20,18 +18,18 @@ use Rattle.crediting.specs.Credits.{credits_of, credits_after, CreditCall}
 use Rattle.crediting.proofs.Refused.{credit-decides, credit-accepts, credit-refuses, credit-refused-keeps, credit-work-kept, credit-work-done}
 use Rattle.shotfile_reader.specs.Files.{File, file, refused}
 use Rattle.shotfile_reader.specs.Calls.{read_coords, ReadCall}
-use Rattle.shotfile_reader.specs.declared.ReadAnswer.{ReadAnswer}
+use Rattle.shotfile_reader.specs.Calls.{ReadAnswer}
 use Rattle.shotfile_reader.proofs.Accepted.{refused-file}
 use Rattle.shotfile_reader.proofs.Conditions.{read-accepts, read-refuses}
 use Rattle.shotfile_writer.specs.Files.{file_of}
-use Rattle.shotfile_writer.specs.Calls.{write_bytes, WriteCall}
-use Rattle.shotfile_writer.specs.declared.WriteAnswer.{WriteAnswer}
+use Rattle.shotfile_writer.specs.Calls.{write_bytes, WriteCall, WriteAnswer}
 use Rattle.shotfile_writer.proofs.Conditions.{write-accepts, write-refuses}
 use Rattle.shotfile_writer.proofs.Writing.{write-decides}
 use Rattle.vox.specs.Vox.{vox_job, vox_in, VoxCall}
 use Rattle.vox.proofs.Conditions.{vox-decides, vox-accepts, vox-refuses}
 use Rattle.vox.proofs.FileOrder.{vox-first}
 use Rattle.acceptance.specs.Condition1.{CheckAnswered, IndexAnswered, MeasureAnswered, ListAnswered, CreditAnswered, WriteAnswered, ReadAnswered, VoxAnswered}
+use Rattle.refusals.specs.Refusals.{Checked}
 
 -- ---- lists
 pub check-answered : {job : Job} {r : Checked} → Checks (tests job) r → CheckAnswered job r

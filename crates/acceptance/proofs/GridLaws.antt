@@ -6,19 +6,17 @@ use Prim.Native.Nat.{ℕ, ◌+◌}
 use native.Mathlib.Omega.{arith}
 use lib.ListN.{get_or}
 use Rattle.job.specs.Job.{Job, with_grid, shot_count}
-use Rattle.measure_intake.specs.declared.Measured.{Measured}
 use Rattle.measure.specs.Answers.{ListCall}
 use Rattle.measure.proofs.Condition3.{totals-any-grid, listing-any-grid}
 use Rattle.shotfile_records.specs.Records.{header_absent, field_at, fields_at, bit_of, record_of}
 use Rattle.shotfile_records.proofs.Parts.{parts}
 use Rattle.shotfile_records.proofs.Putting.{bit-absent, bit-there, bit-small}
 use Rattle.shotfile_reader.specs.Calls.{ReadCall}
-use Rattle.shotfile_reader.specs.declared.ReadAnswer.{ReadAnswer}
+use Rattle.shotfile_reader.specs.Calls.{ReadAnswer}
 use Rattle.shotfile_reader.proofs.Accepted.{accepted-file}
 use Rattle.shotfile_reader.proofs.FileParts.{file-parts}
 use Rattle.shotfile_writer.specs.Files.{file_of}
-use Rattle.shotfile_writer.specs.Calls.{WriteCall}
-use Rattle.shotfile_writer.specs.declared.WriteAnswer.{WriteAnswer}
+use Rattle.shotfile_writer.specs.Calls.{WriteCall, WriteAnswer}
 use Rattle.shotfile_writer.proofs.Accepted.{accepted-list}
 use Rattle.acceptance.specs.Grids.{GridRead, GridWritten, ListedAlike}
 use Rattle.acceptance.proofs.Condition3.{quoted}
@@ -28,6 +26,7 @@ use Prim.Native.Nat.{◌*◌, ◌/◌}
 use Rattle.shotfile_records.specs.declared.Fields.{Fields}
 use Rattle.acceptance.specs.Grids.{NoGrid}
 use mathlib.Core.Logic.{◌↔◌}
+use Rattle.measure_intake.specs.Intake.{Measured}
 
 pub listed-alike : {job : Job} {G : ℕ} {work buffer work' buffer' work₂ buffer₂ work₂' buffer₂' : List ℕ} {m m₂ : Measured}
     → ListCall job work buffer m work' buffer' → ListCall (with_grid G job) work₂ buffer₂ m₂ work₂' buffer₂'
@@ -37,7 +36,7 @@ listed-alike one two t t₂ e e₂ = record { totals = totals-any-grid (quoted o
 -- bit 2 of a header that is read, and of one that is written
 pub grid-read : {bytes coords coords' : List ℕ} {r : ReadAnswer} → ReadCall bytes coords r coords' → GridRead bytes r
 unfolding fields_at field_at header_absent
-grid-read {bytes} {coords} call absent F E G n e =
+grid-read {bytes} {coords} call absent list e =
     let header = (file-parts bytes (shot_count coords) (accepted-file call e).is).header in
     let p = parts bytes 0 header_absent header in
     let clear : get_or bytes 0 0 / 4 ≡ 0 = omega (arith, absent, p.known) in

@@ -9,3 +9,4 @@ pub mod SectionParts  -- the parts of one x after another
 pub mod ShortestFiles  -- only the shortest file, and two files
 pub mod PriceSentences  -- price bands: the check, the lookup and the price call
 pub mod Numbers  -- sizes of numbers
+pub mod AnsweredLaws  -- what `ok` keeps of an answer

@@ -3,12 +3,10 @@ use mathlib.Core.Path.{◌≡◌, sym, subst, ◌∙◌}
 use mathlib.Core.List.{List}
 use Prim.Native.Nat.{ℕ}
 use Rattle.job.specs.Job.{Job}
-use Rattle.price_bands.specs.Bands.{RatedBy, verdict_of, rate_of}
+use Rattle.price_bands.specs.Bands.{Verdict, RatedBy, verdict_of, rate_of}
 use Rattle.price_bands.specs.declared.Band.{Band}
-use Rattle.price_bands.specs.declared.Verdict.{Verdict}
 use Rattle.price_bands.proofs.BandTheorems.{sound-iff, fault-iff, valid-rated, rate-first, rate-none}
-use Rattle.price_charging.specs.Charging.{Tables}
-use Rattle.price_charging.specs.declared.Priced.{Priced}
+use Rattle.price_charging.specs.Charging.{Tables, Priced}
 use Rattle.price.specs.Price.{PriceCall}
 use Rattle.price.proofs.PriceTheorems.{price-accepts, price-refuses, price-work-kept, price-work-done, volume-charged, area-charged, edge-charged}
 use Rattle.acceptance.specs.Condition1.{PriceAnswered}

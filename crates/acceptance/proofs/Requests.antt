@@ -4,30 +4,29 @@ use mathlib.Core.List.{List}
 use Prim.Native.Nat.{ℕ}
 use lib.IntN.{nat_abs}
 use Rattle.lattice.specs.Figures.{EdgeLength, InnerLength}
-use Rattle.refusals.specs.declared.Checked.{Checked}
-use Rattle.refusals.specs.declared.Checked.TheVariants.{Accepted}
 use Rattle.job.specs.Job.{Job, job_of}
-use Rattle.measure_intake.specs.Intake.{MeasureCall}
-use Rattle.measure_intake.specs.declared.Measured.{Measured}
+use Rattle.measure_intake.specs.Intake.{MeasureCall, Measured}
 use Rattle.measure.specs.Answers.{ListCall}
 use Rattle.measure.proofs.Condition3.{measure-agrees, lengths-together}
 use Rattle.crediting.specs.Credits.{CreditCall}
 use Rattle.crediting.proofs.CreditTheorems.{credit-at, credits-kept, credits-sum, repeat-none, kept-totals, kept-listing, reordered-sum}
-use Rattle.shotfile_reader.specs.declared.ReadAnswer.{ReadAnswer}
+use Rattle.shotfile_reader.specs.Calls.{ReadAnswer}
 use Rattle.vox.specs.Vox.{VoxCall}
 use Rattle.vox.proofs.Voxels.{vox-stored}
 use Rattle.acceptance.specs.Voxels.{VoxelsRead}
 use Rattle.acceptance.specs.Credits.{Credited, SumsAlike, LeftOut}
 use Rattle.acceptance.specs.Lengths.{BothLengths}
 use Rattle.acceptance.proofs.Condition3.{quoted}
+use Rattle.refusals.specs.Refusals.{Checked}
+use Rattle.std.specs.Prelude.{Ok}
 
 -- ---- (i)
 pub voxels-read : {bytes coords coords' : List ℕ} {r : ReadAnswer} → VoxCall bytes coords r coords' → VoxelsRead bytes r coords'
-voxels-read {bytes} {coords} {coords'} call F E G n e = vox-stored (subst (λ (a : ReadAnswer). VoxCall bytes coords a coords') e call)
+voxels-read {bytes} {coords} {coords'} call list e = vox-stored (subst (λ (a : ReadAnswer). VoxCall bytes coords a coords') e call)
 
 -- ---- (iv), the credits
 module _ {job : Job} {work credits work' credits' : List ℕ} {c : Checked} (call : CreditCall job work credits c work' credits') where
-  taken : c ≡ Accepted → CreditCall job work credits Accepted work' credits'
+  taken : c ≡ Ok tt → CreditCall job work credits (Ok tt) work' credits'
   taken e = subst (λ (k : Checked). CreditCall job work credits k work' credits') e call
 
   pub credited : Credited job credits c credits'

@@ -15,13 +15,13 @@ use Rattle.text_same.proofs.SameLaws.{same-iff}
 use Rattle.shotfile_reader.specs.Files.{File, file, refused, file_in}
 use Rattle.shotfile_reader.specs.Calls.{read_answer, ReadCall}
 use Rattle.shotfile_reader.specs.Conditions.{end_of, Fault, too_many_shots, no_place, unknown_bit, cut_short, needless_field, FirstFault}
-use Rattle.shotfile_reader.specs.declared.ReadAnswer.{ReadAnswer}
+use Rattle.shotfile_reader.specs.Calls.{ReadAnswer}
 use Rattle.shotfile_reader.proofs.Conditions.{read-accepts, read-refuses}
 use Rattle.shotfile_reader.proofs.Faults.{none_below}
 use Rattle.shotfile_reader.proofs.FileParts.{one_list}
 use Rattle.shotfile.proofs.RoundTrip.{same_bytes}
 use Rattle.acceptance.specs.ShortestFiles.{FirstNeedless, OnlyShortest, FilesCompared}
-use Rattle.acceptance.specs.Comparing.{is_read}
+use Rattle.std.specs.Prelude.{is_ok}
 
 -- ---- the reader
 module _ (places : ℕ) (s : List ℕ) where
@@ -69,7 +69,7 @@ module _ (places : ℕ) (s : List ℕ) where
 
 pub only-shortest : {bytes coords coords' : List ℕ} {r : ReadAnswer} → ReadCall bytes coords r coords' → OnlyShortest bytes coords r
 only-shortest {bytes} {coords} call = record {
-  accepted = λ e k at absent is h. (read-accepts call).0 (_, _, _, _, e) k at absent is (NeedlessField at) (needless_field h);
+  accepted = λ e k at absent is h. (read-accepts call).0 (_, e) k at absent is (NeedlessField at) (needless_field h);
   refused = λ at. (
     λ e. (first-needless (shot_count coords) bytes at).0 ((read-refuses call (NeedlessField at)).0 e),
     λ f. (read-refuses call (NeedlessField at)).1 ((first-needless (shot_count coords) bytes at).1 f),
@@ -78,31 +78,31 @@ only-shortest {bytes} {coords} call = record {
 
 -- ---- two shops
 -- a file was read, or it was not
-says : {bytes coords coords' : List ℕ} {r : ReadAnswer} → ReadCall bytes coords r coords' → is_read r ≡ true → (job : Job) × (file_in (shot_count coords) bytes ≡ file job)
-says {bytes} {coords} call t = go (file_in (shot_count coords) bytes) refl (sym (ap is_read call.answer) ∙ t)
+says : {bytes coords coords' : List ℕ} {r : ReadAnswer} → ReadCall bytes coords r coords' → is_ok r ≡ true → (job : Job) × (file_in (shot_count coords) bytes ≡ file job)
+says {bytes} {coords} call t = go (file_in (shot_count coords) bytes) refl (sym (ap is_ok call.answer) ∙ t)
   where
-    go : (k : File) → file_in (shot_count coords) bytes ≡ k → is_read (read_answer k) ≡ true → (job : Job) × (file_in (shot_count coords) bytes ≡ file job)
+    go : (k : File) → file_in (shot_count coords) bytes ≡ k → is_ok (read_answer k) ≡ true → (job : Job) × (file_in (shot_count coords) bytes ≡ file job)
     go (file job) e t = (job, e)
     go (refused q) e t = absurd (false≢true t)
 
-says_none : {bytes coords coords' : List ℕ} {r : ReadAnswer} → ReadCall bytes coords r coords' → is_read r ≡ false → {job : Job} → file_in (shot_count coords) bytes ≡ file job → ⊥
-says_none call f e = true≢false (sym (ap is_read call.answer ∙ ap (λ (k : File). is_read (read_answer k)) e) ∙ f)
+says_none : {bytes coords coords' : List ℕ} {r : ReadAnswer} → ReadCall bytes coords r coords' → is_ok r ≡ false → {job : Job} → file_in (shot_count coords) bytes ≡ file job → ⊥
+says_none call f e = true≢false (sym (ap is_ok call.answer ∙ ap (λ (k : File). is_ok (read_answer k)) e) ∙ f)
 
 module _ {bytes coords coords' others others-coords others' : List ℕ} {one two : ReadAnswer}
     (read : ReadCall bytes coords one coords') (other : ReadCall others others-coords two others') where
-  pub first-unread : {r : Bool} → is_read one ≡ false → r ≡ false → FilesCompared bytes coords others others-coords r
+  pub first-unread : {r : Bool} → is_ok one ≡ false → r ≡ false → FilesCompared bytes coords others others-coords r
   first-unread f e = record {
     same_job = (λ t. absurd (true≢false (sym t ∙ e)), λ (job, s, o). absurd (says_none read f s));
     same_bytes = λ j k s o. absurd (says_none read f s);
   }
 
-  pub second-unread : {r : Bool} → is_read two ≡ false → r ≡ false → FilesCompared bytes coords others others-coords r
+  pub second-unread : {r : Bool} → is_ok two ≡ false → r ≡ false → FilesCompared bytes coords others others-coords r
   second-unread f e = record {
     same_job = (λ t. absurd (true≢false (sym t ∙ e)), λ (job, s, o). absurd (says_none other f o));
     same_bytes = λ j k s o. absurd (says_none other f o);
   }
 
-  pub both_read : {r : Bool} → Bytes bytes → Bytes others → is_read one ≡ true → is_read two ≡ true → r ≡ same bytes others → FilesCompared bytes coords others others-coords r
+  pub both_read : {r : Bool} → Bytes bytes → Bytes others → is_ok one ≡ true → is_ok two ≡ true → r ≡ same bytes others → FilesCompared bytes coords others others-coords r
   both_read {r} b c t u e =
       let (job, s) = says read t in
       let (list, o) = says other u in

@@ -1,15 +1,13 @@
 -- Request (v): edge length counts unit edges with one covered cell, and twice those with two that touch only there; inner length counts those
 -- with three; each is the sum of its own point weights too. docs/SCOPE.md, 'Cells and totals' and 'Corner points'.
-use Rattle.std.specs.Prelude.{◌≡◌, ◌+◌}
+use Rattle.std.specs.Prelude.{◌≡◌, ◌+◌, Ok}
 use Rattle.lattice.specs.Cells.{edge_length, inner_length, length_by, either_edge}
 use Rattle.lattice.specs.Figures.{EdgeLength, InnerLength, term}
 use Rattle.lattice.specs.Listing.{corners, corner_sum}
 use Rattle.lattice_sums.specs.CornerSums.{value}
 use Rattle.lattice_sums.specs.declared.sums.Totals.{Totals}
 use Rattle.job.specs.Job.{Job}
-use Rattle.measure_intake.specs.Intake.{solid}
-use Rattle.measure_intake.specs.declared.Measured.{Measured}
-use Rattle.measure_intake.specs.declared.Measured.TheVariants.{Quote}
+use Rattle.measure_intake.specs.Intake.{solid, Measured}
 
 pub record LengthsCounted (job : Job) (t : Totals) : Type 0 where
   pub edge : t.edge ≡ edge_length job.field (solid job)
@@ -21,4 +19,4 @@ pub record LengthsCounted (job : Job) (t : Totals) : Type 0 where
   pub together : t.edge + t.inner ≡ length_by either_edge job.field (solid job)
 
 abbrev pub BothLengths : Job → Measured → Type 0
-BothLengths job r = (t : Totals) → r ≡ Quote t → LengthsCounted job t
+BothLengths job r = (t : Totals) → r ≡ Ok t → LengthsCounted job t

@@ -1,22 +1,18 @@
 -- Request (viii), price bands that shops edit: docs/SCOPE.md, 'Price bands', and 'When a job is refused', 18.
-use Rattle.std.specs.Prelude.{◌≡◌, List, ◌↔◌, ℕ, ◌≤◌, ◌<◌, length}
+use Rattle.std.specs.Prelude.{◌≡◌, List, ◌↔◌, ℕ, ◌≤◌, ◌<◌, length, Ok}
 use Rattle.lattice.specs.Cells.{volume, area, edge_length}
 use Rattle.job.specs.Job.{Job}
 use Rattle.measure_intake.specs.Intake.{solid}
-use Rattle.price_bands.specs.Bands.{top, band_at, In, ValidTable, Fault, RatedBy}
+use Rattle.price_bands.specs.Bands.{top, band_at, In, ValidTable, Fault, Verdict, no_fault, fault_at, RatedBy}
 use Rattle.price_bands.specs.declared.Band.{Band}
-use Rattle.price_bands.specs.declared.Verdict.{Verdict}
-use Rattle.price_bands.specs.declared.Verdict.TheVariants.{Sound, Faulty}
-use Rattle.price_charging.specs.Charging.{Tables, ChargedBy}
+use Rattle.price_charging.specs.Charging.{Tables, ChargedBy, Priced}
 use Rattle.price_charging.specs.declared.Charges.{Charges}
-use Rattle.price_charging.specs.declared.Priced.{Priced}
-use Rattle.price_charging.specs.declared.Priced.TheVariants.{Charged}
 use Rattle.acceptance.specs.Condition1.{PriceAnswered}
 
 -- ---- the check: no fault exactly if the table is valid, and this fault exactly if it is the first
 pub record TableChecked (bands : List Band) (r : Verdict) : Type 0 where
-  pub sound : (r ≡ Sound) ↔ ValidTable bands
-  pub faulty : (band : ℕ) → (r ≡ Faulty band) ↔ Fault bands band
+  pub sound : (r ≡ no_fault) ↔ ValidTable bands
+  pub faulty : (band : ℕ) → (r ≡ fault_at band) ↔ Fault bands band
 
 -- ---- the lookup
 pub record LookedUp (bands : List Band) (amount rate : ℕ) : Type 0 where
@@ -36,4 +32,4 @@ pub record ChargesRight (job : Job) (t : Tables) (c : Charges) : Type 0 where
 pub record ListPriced (job : Job) (work : List ℕ) (t : Tables) (r : Priced) (work' : List ℕ) : Type 0 where
   -- it accepts, refuses and leaves the work slice as published
   pub answered : PriceAnswered job work t r work'
-  pub charges : (c : Charges) → r ≡ Charged c → ChargesRight job t c
+  pub charges : (c : Charges) → r ≡ Ok c → ChargesRight job t c

@@ -1,6 +1,6 @@
 -- Request (vi): from a listing and an x, the part of the lent bytes that holds all records with that x, and nothing else; of a damaged
 -- listing, the first unbroken run. docs/SCOPE.md, 'Corners at one x'.
-use Rattle.std.specs.Prelude.{◌≡◌, List, [], ℕ, ◌+◌, ◌≤◌, length, drop}
+use Rattle.std.specs.Prelude.{◌≡◌, Option, List, [], ℕ, ◌+◌, ◌≤◌, length, drop}
 use Rattle.std.proofs.Math.Seq.{slice}
 use Rattle.buffer.specs.Wrote.{Wrote}
 use Rattle.lattice.specs.Cells.{Cells}
@@ -8,7 +8,7 @@ use Rattle.lattice.specs.Listing.{All, corners, bytes, listing, read_back}
 use Rattle.job.specs.Job.{Job}
 use Rattle.section.specs.Section.{first_step, first_run, IsFirstRun, with_x, SectionOf}
 use Rattle.section.specs.declared.Places.{Places}
-use Rattle.section.specs.declared.Step.{Step}
+use Rattle.section.specs.declared.Corner.{Corner as Found}
 use Rattle.measure_intake.specs.Intake.{solid}
 use Rattle.measure.specs.Answers.{ListAccepts}
 
@@ -29,20 +29,20 @@ pub record PlacesAt (l : List ℕ) (x : ℕ) (r : Places) : Type 0 where
   pub none : All (λ v. v.x ≡ x → ⊥) (read_back l) → (r.first ≡ 0) × (r.end ≡ 0)
 
 -- ---- stepping, each record once in order, and then done for ever
--- what a reader meets after so many steps through any bytes: the whole record of that number, from 0, or done
-abbrev pub MetAfter : List ℕ → ℕ → Step → Type 0
+-- what a reader meets after so many steps through any bytes: the whole record of that number, from 0, or none
+abbrev pub MetAfter : List ℕ → ℕ → Option Found → Type 0
 MetAfter l steps r = r ≡ first_step (drop steps (read_back l))
 
 -- a reader that is opened at any place keeps the bytes that it was opened on: one step on it meets the second whole record from there
-abbrev pub MetNext : List ℕ → ℕ → Step → Type 0
+abbrev pub MetNext : List ℕ → ℕ → Option Found → Type 0
 MetNext l at r = r ≡ first_step (drop 1 (read_back (drop at l)))
 
 -- through the part of an x: the record of that number of the first unbroken run
-abbrev pub MetAt : List ℕ → ℕ → ℕ → Step → Type 0
+abbrev pub MetAt : List ℕ → ℕ → ℕ → Option Found → Type 0
 MetAt l x steps r = r ≡ first_step (drop steps (first_run x (read_back l)))
 
 -- through the part of an x of a listing that the software made: the corner of that number of all that have that x
-abbrev pub MetListed : Job → ℕ → ℕ → ℕ → ℕ → Step → Type 0
+abbrev pub MetListed : Job → ℕ → ℕ → ℕ → ℕ → Option Found → Type 0
 MetListed job entries room x steps r = ListAccepts job entries room → r ≡ first_step (drop steps (with_x x (corners job.field (solid job))))
 
 -- ---- one part after another

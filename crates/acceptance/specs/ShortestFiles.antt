@@ -1,13 +1,13 @@
 -- Request (vii), only the shortest file: docs/SCOPE.md, 'Shot file', and 'When a job is refused', 17.
-use Rattle.std.specs.Prelude.{◌≡◌, Bool, true, List, ◌↔◌, ℕ, ◌≤◌, ◌<◌, length, get_or}
+use Rattle.std.specs.Prelude.{◌≡◌, Bool, true, List, ◌↔◌, ℕ, ◌≤◌, ◌<◌, length, get_or, Ok, Err}
 use Rattle.refusals.specs.declared.Refusal.{Refusal}
 use Rattle.refusals.specs.declared.Refusal.TheVariants.{NeedlessField}
 use Rattle.job.specs.Job.{Job, shot_count}
+use Rattle.job.specs.declared.Stored.{Stored}
 use Rattle.shotfile_records.specs.declared.Fields.{Fields}
 use Rattle.shotfile_reader.specs.Files.{file, file_in}
 use Rattle.shotfile_reader.specs.Conditions.{end_of, IsRecord, Needless, Fault}
-use Rattle.shotfile_reader.specs.declared.ReadAnswer.{ReadAnswer}
-use Rattle.shotfile_reader.specs.declared.ReadAnswer.TheVariants.{Read, Refused as Unread}
+use Rattle.shotfile_reader.specs.Calls.{ReadAnswer}
 
 -- ---- the reader
 -- the first record that is faulty has its map at a place: it is the header, or one of 4,096 shots and has a place in the slice; its map has no
@@ -25,9 +25,9 @@ pub record FirstNeedless (places : ℕ) (s : List ℕ) (at : ℕ) : Type 0 where
 
 pub record OnlyShortest (bytes coords : List ℕ) (r : ReadAnswer) : Type 0 where
   -- no record of a file that is read has a needless field
-  pub accepted : {F E G n : ℕ} → r ≡ Read F E G n → (k at : ℕ) (absent : Fields) → IsRecord bytes k at absent → ¬ Needless bytes at absent
+  pub accepted : {list : Stored} → r ≡ Ok list → (k at : ℕ) (absent : Fields) → IsRecord bytes k at absent → ¬ Needless bytes at absent
   -- 17, with the offset of the map, exactly where the first faulty record has one
-  pub refused : (at : ℕ) → (r ≡ Unread (NeedlessField at)) ↔ FirstNeedless (shot_count coords) bytes at
+  pub refused : (at : ℕ) → (r ≡ Err (NeedlessField at)) ↔ FirstNeedless (shot_count coords) bytes at
 
 -- ---- two shops
 -- two files are the same if both are read and are the same bytes: exactly if they say one job, its settings and its shots

@@ -2,14 +2,16 @@
 // above 10,000 cents; the check says what is wrong with any other, the lookup finds the one band that holds an amount, and the price call
 // charges volume, area and outer edges, each the whole amount at the rate of that band. Check and lookup are shown for the band list, once.
 // What condition 1 asks of the price call is here too.
-ghost use Rattle.job.specs.Job.{job_of};
+ghost use Rattle.job.specs.Seen.{seen};
 ghost use Rattle.acceptance.specs.Prices.{TableChecked, LookedUp, ListPriced};
 
-use price_bands::{Band, Verdict};
-use price_charging::Priced;
+use job::Job;
+use price_bands::{Band, FaultyBand};
+use price_charging::Charges;
+use refusals::Refusal;
 
 // Checks a table.
-pub fn check(bands: &[Band]) -> Verdict
+pub fn check(bands: &[Band]) -> Result<(), FaultyBand>
     ensures { TableChecked bands.now result }
 {
     price_bands::check(bands)
@@ -24,17 +26,14 @@ pub fn lookup(bands: &[Band], amount: u64) -> u64
 
 // Prices a list: refusals 1, 2, 6 to 10 and 18.
 pub fn price(
-    field: u16,
-    edge: u16,
-    grid: u16,
-    coords: &[u16],
+    job: Job,
     work: &mut [u32],
     volume: &[Band],
     area: &[Band],
     edges: &[Band],
-) -> Priced
-    ensures { ListPriced (job_of field edge grid coords.now) work.old
+) -> Result<Charges, Refusal>
+    ensures { ListPriced (seen job.entry) work.old
         (record { volume = volume.now; area = area.now; edges = edges.now }) result work.new }
 {
-    price::price(field, edge, grid, coords, work, volume, area, edges)
+    price::price(job, work, volume, area, edges)
 }

@@ -2,11 +2,11 @@
 // reader steps through its records, each once in order, and says done where no whole record is left. Where x values fall somewhere, the part
 // is the first unbroken run; for a listing that the software made, that run is all such corners.
 ghost use Rattle.std.specs.Prelude.{◌≤◌, length};
-ghost use Rattle.job.specs.Job.{job_of};
+ghost use Rattle.job.specs.Seen.{seen};
 ghost use Rattle.acceptance.specs.Sections.{PartAt, PlacesAt, MetAfter, MetNext, MetAt, MetListed, PutPart, PartsPut};
 
-use measure_intake::Measured;
-use section::{Places, Step};
+use job::Job;
+use section::{Corner, Places};
 
 // The part of any bytes at an x.
 pub fn part_at(listing: &[u8], x: u16) -> &[u8]
@@ -23,27 +23,21 @@ pub fn places_at(listing: &[u8], x: u16) -> Places
 }
 
 // What a reader that is opened on any bytes meets after so many steps.
-pub fn meet(listing: &[u8], steps: usize) -> Step
+pub fn meet(listing: &[u8], steps: usize) -> Option<Corner>
     ensures { MetAfter listing.now steps result }
 {
-    let mut at = 0;
-    let mut i = 0;
-    while i < steps {
-        at = section::next_from(listing, at);
-        i += 1;
-    }
-    section::step_from(listing, at)
+    section::open(listing, 0).nth(steps)
 }
 
 // What a reader that is opened at any place meets one step on.
-pub fn meet_next(listing: &[u8], at: usize) -> Step
+pub fn meet_next(listing: &[u8], at: usize) -> Option<Corner>
     ensures { MetNext listing.now at result }
 {
     section::step_after(listing, at)
 }
 
 // What a reader that is opened on the part at an x meets after so many steps.
-pub fn meet_at(listing: &[u8], x: u16, steps: usize) -> Step
+pub fn meet_at(listing: &[u8], x: u16, steps: usize) -> Option<Corner>
     ensures { MetAt listing.now x steps result }
 {
     let part = section::part(listing, x);
@@ -52,25 +46,17 @@ pub fn meet_at(listing: &[u8], x: u16, steps: usize) -> Step
 
 // The same of a listing that the software made.
 pub fn meet_listed(
-    field: u16,
-    edge: u16,
-    grid: u16,
-    coords: &[u16],
+    job: Job,
     work: &mut [u32],
     buffer: &mut [u8],
     x: u16,
     steps: usize,
-) -> Step
-    ensures { MetListed (job_of field edge grid coords.now) (length work.old) (length buffer.old) x steps result }
+) -> Option<Corner>
+    ensures { MetListed (seen job.entry) (length work.old) (length buffer.old) x steps result }
 {
-    let measured = measure::list(field, edge, grid, coords, work, buffer);
-    match measured {
-        Measured::Refused(refusal) => Step::Done,
-        Measured::Quote(totals) => {
-            let end = 7 * totals.corners;
-            meet_at(&buffer[..end], x, steps)
-        }
-    }
+    let totals = measure::list(job, work, buffer).ok()?;
+    let end = 7 * totals.corners;
+    meet_at(&buffer[..end], x, steps)
 }
 
 // Puts a part at a place if there is room for it.

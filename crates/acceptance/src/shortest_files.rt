@@ -1,33 +1,17 @@
 // Request (vii): the reader turns down a field that says what its absence would mean, in the header or a shot, by refusal 17 after 5 on the
 // same record, with that map's offset; two files that are read are the same bytes exactly if they say the same settings and shots. That
 // every file which is read, and whose list the writer accepts, is rewritten to its own bytes is `read_and_write` of condition_2.
-ghost use Rattle.std.specs.Prelude.{◌≡◌};
 ghost use Rattle.acceptance.specs.ShortestFiles.{OnlyShortest, FilesCompared};
-ghost use Rattle.acceptance.specs.Comparing.{is_read};
 
-use shotfile_reader::ReadAnswer;
+use job::Stored;
+use refusals::Refusal;
 use text_same::same_bytes;
 
 // Reads a file.
-pub fn read(bytes: &[u8], coords: &mut [u16]) -> ReadAnswer
+pub fn read(bytes: &[u8], coords: &mut [u16]) -> Result<Stored, Refusal>
     ensures { OnlyShortest bytes.now coords.old result }
 {
     shotfile_reader::read(bytes, coords)
-}
-
-// Whether a file was read.
-fn is_read(answer: ReadAnswer) -> bool
-    ensures { result ≡ is_read answer }
-{
-    match answer {
-        ReadAnswer::Read {
-            field: _,
-            edge: _,
-            grid: _,
-            shots: _,
-        } => true,
-        ReadAnswer::Refused(_) => false,
-    }
 }
 
 // Whether two files are read and are the same bytes.
@@ -41,11 +25,5 @@ pub fn same_file(
 {
     let one = shotfile_reader::read(bytes, coords);
     let two = shotfile_reader::read(other_bytes, other_coords);
-    if !is_read(one) {
-        return false;
-    }
-    if !is_read(two) {
-        return false;
-    }
-    same_bytes(bytes, other_bytes)
+    one.is_ok() && two.is_ok() && same_bytes(bytes, other_bytes)
 }

@@ -2,10 +2,11 @@
 // their cells are exactly the cells quoted.
 ghost use Rattle.acceptance.specs.Voxels.{VoxelsRead};
 
-use shotfile_reader::ReadAnswer;
+use job::Stored;
+use refusals::Refusal;
 
 // Reads a VOX file.
-pub fn read_vox(bytes: &[u8], coords: &mut [u16]) -> ReadAnswer
+pub fn read_vox(bytes: &[u8], coords: &mut [u16]) -> Result<Stored, Refusal>
     ensures { VoxelsRead bytes.now result coords.new }
 {
     vox::read_vox(bytes, coords)

@@ -1,35 +1,31 @@
 -- What each call promises, by the numbers that are put to the front of a lent slice.
 use mathlib.Core.Path.{◌≡◌, refl, sym, ◌∙◌, ap}
 use mathlib.Core.Bool.{Bool, true, false, cond}
-use mathlib.Core.Option.{Option, none, some}
 use mathlib.Core.List.{List, [], ◌∷◌}
 use Prim.Native.Nat.{ℕ, ◌≤◌, ◌<◌}
 use lib.Dec.{leb}
 use lib.ListN.{length}
 use borrow.Author.Tests.{lt-leb, le-leb}
 use Rattle.job.specs.Job.{Job, shot_count}
-use Rattle.refusals.specs.Refusals.{number_of, detail_of, checked_numbers}
+use Rattle.refusals.specs.Refusals.{number_of, detail_of, checked_numbers, Checked}
 use Rattle.refusals.specs.Tests.{if_accepted, first_of, first_numbers}
-use Rattle.refusals.specs.declared.Checked.{Checked}
-use Rattle.refusals.specs.declared.Checked.TheVariants.{Accepted, Refused as Turned}
-use Rattle.measure_intake.specs.Intake.{measured_numbers, measure_tests, measure_numbers, work_after, IndexCall, MeasureCall}
-use Rattle.measure_intake.specs.declared.Measured.{Measured}
+use Rattle.measure_intake.specs.Intake.{measured_numbers, measure_tests, measure_numbers, work_after, IndexCall, MeasureCall, Measured}
 use Rattle.measure.specs.Answers.{list_numbers, listing_after, ListCall}
 use Rattle.shotfile_reader.specs.Files.{File, file, refused, file_in}
 use Rattle.shotfile_writer.specs.Files.{file_of}
 use Rattle.buffer.specs.Wrote.{in_front}
-use Rattle.shotfile_reader.specs.Calls.{read_numbers, read_values, read_coords, ReadCall}
-use Rattle.shotfile_writer.specs.Calls.{written_numbers, write_tests, write_values, write_bytes, WriteCall}
-use Rattle.shotfile_reader.specs.declared.ReadAnswer.{ReadAnswer}
+use Rattle.shotfile_reader.specs.Calls.{ReadAnswer, read_numbers, read_values, read_coords, ReadCall}
+use Rattle.shotfile_writer.specs.Calls.{WriteAnswer, written_numbers, write_tests, write_values, write_bytes, WriteCall}
 use Rattle.vox.specs.Vox.{vox_in, VoxCall}
-use Rattle.shotfile_writer.specs.declared.WriteAnswer.{WriteAnswer}
-use Rattle.grid_cover.specs.Cover.{first_covering, covering_of}
-use Rattle.grid_cover.specs.declared.Covering.{Covering}
+use Rattle.grid_cover.specs.Cover.{first_covering}
 use Rattle.crediting.specs.Credits.{credits_after, CreditCall}
 use Rattle.section.specs.Section.{places_of}
 use Rattle.section.specs.declared.Places.{Places}
-use Rattle.capi_answers.specs.Places.{index_places, measure_places, cover_places, named_by, part_places}
-use Rattle.capi.specs.Answered.{fits, Told, corners_at_tells, credit_tells, covers_tells, IndexTold, MeasureTold, ListTold, CornersAtTold, CreditTold, CoversTold, ReadTold, VoxTold, WriteTold}
+use Rattle.capi_answers.specs.Places.{index_places, measure_places, price_places, cover_places, part_places}
+use Rattle.capi.specs.Answered.{fits, Told, corners_at_tells, credit_tells, price_tells, covers_tells, IndexTold, MeasureTold, ListTold, CornersAtTold, CreditTold, PriceTold, CoversTold, ReadTold, VoxTold, WriteTold}
+use Rattle.std.specs.Prelude.{Ok, Err, Option}
+use Rattle.price_charging.specs.Charging.{Tables, Priced, priced_numbers}
+use Rattle.price.specs.Price.{PriceCall}
 
 -- ---- numbers, n of them
 module _ (numbers : List ℕ) {n : ℕ} (size : length numbers ≡ n) (answer : List ℕ) where
@@ -72,8 +68,8 @@ unfolding write_values
 write-three job room = by (first_of (write_tests job room))
   where
     by : (c : Checked) → length (if_accepted c (λ r. number_of r ∷ detail_of r ∷ 0 ∷ []) (0 ∷ 0 ∷ length (file_of job) ∷ [])) ≡ 3
-    by Accepted = refl
-    by (Turned r) = refl
+    by (Ok tt) = refl
+    by (Err r) = refl
 
 -- ---- the calls
 module _ {job : Job} {work : List ℕ} (answer : List ℕ) where
@@ -137,6 +133,18 @@ module _ {job : Job} {work : List ℕ} (answer : List ℕ) where
         credited = done-is n refl answer h (credits_after job (length work) credits) credits call.credited;
       }
 
+  module _ (t : Tables) where
+    pub price-untold : length answer < 5 → PriceTold job work t answer 0 work answer
+    price-untold h =
+        let n = price_tells job work t in
+        record { told = untold n refl answer h; index = kept n refl answer h (work_after job work) work }
+
+    pub price-told : {p : Priced} {work' answer' : List ℕ} → 5 ≤ length answer → PriceCall job work t p work' → answer' ≡ in_front (price_places (priced_numbers p)) answer
+        → PriceTold job work t answer 1 work' answer'
+    price-told h call e =
+        let n = price_tells job work t in
+        record { told = told n refl answer h e (ap price_places call.numbers); index = done-is n refl answer h (work_after job work) work call.index }
+
 -- the corners at one x
 module _ (listing : List ℕ) (x : ℕ) (answer : List ℕ) where
   pub corners-at-untold : length answer < 4 → CornersAtTold listing x answer 0 answer
@@ -145,18 +153,13 @@ module _ (listing : List ℕ) (x : ℕ) (answer : List ℕ) where
   pub corners-at-told : {p : Places} {answer' : List ℕ} → 4 ≤ length answer → p ≡ places_of listing x → answer' ≡ in_front (part_places p) answer → CornersAtTold listing x answer 1 answer'
   corners-at-told h is e = record { told = told (corners_at_tells listing x) refl answer h e (ap part_places is) }
 
--- the cover test
-named_again : (o : Option ℕ) → named_by (covering_of o) ≡ o
-named_again none = refl
-named_again (some s) = refl
-
 module _ (E : ℕ) (coords run : List ℕ) (i j k : ℕ) (answer : List ℕ) where
   pub covers-untold : length answer < 2 → CoversTold E coords run i j k answer 0 answer
   covers-untold h = record { told = untold (covers_tells E coords run i j k) refl answer h }
 
-  pub covers-told : {c : Covering} {answer' : List ℕ} → 2 ≤ length answer → c ≡ covering_of (first_covering E coords run i j k) → answer' ≡ in_front (cover_places (named_by c)) answer
+  pub covers-told : {c : Option ℕ} {answer' : List ℕ} → 2 ≤ length answer → c ≡ first_covering E coords run i j k → answer' ≡ in_front (cover_places c) answer
       → CoversTold E coords run i j k answer 1 answer'
-  covers-told h is e = record { told = told (covers_tells E coords run i j k) refl answer h e (ap cover_places (ap named_by is ∙ named_again (first_covering E coords run i j k))) }
+  covers-told h is e = record { told = told (covers_tells E coords run i j k) refl answer h e (ap cover_places is) }
 
 -- a file that says f, whatever its form
 module _ (f : File) (coords answer : List ℕ) where

@@ -1,3 +1,2 @@
 pub mod CoversLaws  -- the cover test with a run of the index tells the lowest covering shot
-pub mod PriceLaws  -- what the price call promises, from what its callees do
 pub mod AnsweredLaws  -- what each call promises, by its numbers

@@ -1,6 +1,6 @@
 -- What a call from another language leaves: its numbers in a lent slice of 64-bit places, if that has a place for each; and 1 or 0
 -- back. A call whose numbers do not fit changes nothing. Each record is the promise of the calls that it names.
-use Rattle.std.specs.Prelude.{◌≡◌, Bool, cond, List, ℕ, leb, ltb, length}
+use Rattle.std.specs.Prelude.{◌≡◌, Bool, cond, List, ℕ, leb, length}
 use Rattle.job.specs.Job.{Job, shot_count}
 use Rattle.refusals.specs.Tests.{first_numbers}
 use Rattle.grid_cover.specs.Cover.{first_covering}
@@ -89,10 +89,6 @@ pub record CreditTold (job : Job) (work credits answer : List ℕ) (r : ℕ) (wo
 pub record PriceTold (job : Job) (work : List ℕ) (t : Tables) (answer : List ℕ) (r : ℕ) (work' answer' : List ℕ) : Type 0 where
   pub told : Told (price_tells job work t) answer r answer'
   pub index : work' ≡ cond (fits (price_tells job work t) answer) (work_after job work) work
-
--- the side that it prices by: where the numbers do not fit, 0, which no list has
-abbrev pub side_for : ℕ → ℕ → ℕ
-side_for field places = cond (ltb places 5) 0 field
 
 -- `heqdanu_covers`
 pub record CoversTold (E : ℕ) (coords run : List ℕ) (i j k : ℕ) (answer : List ℕ) (r : ℕ) (answer' : List ℕ) : Type 0 where

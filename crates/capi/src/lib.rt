@@ -4,17 +4,14 @@
 #![tactic(auto)]
 
 ghost use Rattle.job.specs.Job.{job_of};
-ghost use Rattle.std.specs.Prelude.{◌≡◌};
-ghost use Rattle.price_charging.specs.Charging.{priced_numbers};
-ghost use Rattle.capi_answers.specs.Places.{price_places};
-ghost use Rattle.capi.specs.Answered.{Told, IndexTold, MeasureTold, ListTold, CornersAtTold, CreditTold, side_for, PriceTold, CoversTold, ReadTold, VoxTold, WriteTold};
+ghost use Rattle.capi.specs.Answered.{IndexTold, MeasureTold, ListTold, CornersAtTold, CreditTold, PriceTold, CoversTold, ReadTold, VoxTold, WriteTold};
 
 use capi_answers::places::{
     CORNERS_AT_ANSWER, COVERS_ANSWER, CREDIT_ANSWER, INDEX_ANSWER, MEASURE_ANSWER, PRICE_ANSWER,
     READ_ANSWER, WRITE_ANSWER,
 };
+use job::Job;
 use price_bands::Band;
-use price_charging::Priced;
 
 // Checks a list and puts its index into the work slice: see `measure_intake::indexed`.
 #[unsafe(no_mangle)]
@@ -32,7 +29,13 @@ pub extern "C" fn heqdanu_index(
     if answer.len() < INDEX_ANSWER {
         return 0;
     }
-    let checked = measure_intake::indexed(field, edge, grid, coords, work);
+    let job = Job {
+        field,
+        edge,
+        grid,
+        coords,
+    };
+    let checked = measure_intake::indexed(job, work);
     capi_answers::put_checked(answer, checked);
     1
 }
@@ -53,7 +56,13 @@ pub extern "C" fn heqdanu_measure(
     if answer.len() < MEASURE_ANSWER {
         return 0;
     }
-    let measured = measure::measure(field, edge, grid, coords, work);
+    let job = Job {
+        field,
+        edge,
+        grid,
+        coords,
+    };
+    let measured = measure::measure(job, work);
     capi_answers::put_measured(answer, measured);
     1
 }
@@ -75,7 +84,13 @@ pub extern "C" fn heqdanu_list(
     if answer.len() < MEASURE_ANSWER {
         return 0;
     }
-    let measured = measure::list(field, edge, grid, coords, work, listing);
+    let job = Job {
+        field,
+        edge,
+        grid,
+        coords,
+    };
+    let measured = measure::list(job, work, listing);
     capi_answers::put_measured(answer, measured);
     1
 }
@@ -109,7 +124,13 @@ pub extern "C" fn heqdanu_recount(
     if answer.len() < MEASURE_ANSWER {
         return 0;
     }
-    let again = measure_cells::recount(field, edge, grid, coords, work);
+    let job = Job {
+        field,
+        edge,
+        grid,
+        coords,
+    };
+    let again = measure_cells::recount(job, work);
     capi_answers::put_measured(answer, again);
     1
 }
@@ -131,33 +152,18 @@ pub extern "C" fn heqdanu_credit(
     if answer.len() < CREDIT_ANSWER {
         return 0;
     }
-    let checked = crediting::credit(field, edge, grid, coords, work, credits);
+    let job = Job {
+        field,
+        edge,
+        grid,
+        coords,
+    };
+    let checked = crediting::credit(job, work, credits);
     capi_answers::put_checked(answer, checked);
     1
 }
 
-// The side of a field where an answer has so many places; where these are too few, a side of 0, which is refused and changes nothing.
-fn side_for(field: u16, places: usize) -> u16
-    ensures { result ≡ side_for field places }
-{
-    if places < PRICE_ANSWER {
-        return 0;
-    }
-    field
-}
-
-// Tells the numbers of a price where there is a place for each.
-fn tell_priced(answer: &mut [u64], priced: Priced) -> u8
-    ensures { Told (price_places (priced_numbers priced)) answer.old result answer.new }
-{
-    if answer.len() < PRICE_ANSWER {
-        return 0;
-    }
-    capi_answers::put_priced(answer, priced);
-    1
-}
-
-// Prices a list by three tables of bands: see `price::price`. Where the numbers do not fit, it prices by a side of 0, and has no branch.
+// Prices a list by three tables of bands: see `price::price`.
 #[unsafe(no_mangle)]
 pub extern "C" fn heqdanu_price(
     field: u16,
@@ -174,9 +180,18 @@ pub extern "C" fn heqdanu_price(
         (record { volume = volume.now; area = area.now; edges = edges.now }) answer.old
         result work.new answer.new }
 {
-    let side = side_for(field, answer.len());
-    let priced = price::price(side, edge, grid, coords, work, volume, area, edges);
-    tell_priced(answer, priced)
+    if answer.len() < PRICE_ANSWER {
+        return 0;
+    }
+    let job = Job {
+        field,
+        edge,
+        grid,
+        coords,
+    };
+    let priced = price::price(job, work, volume, area, edges);
+    capi_answers::put_priced(answer, priced);
+    1
 }
 
 // Names the first shot of a run that covers the cell (i, j, k): see `grid_cover::first_covering`. 1 and the shot, or 0 and 0.
@@ -244,7 +259,13 @@ pub extern "C" fn heqdanu_write(
     if answer.len() < WRITE_ANSWER {
         return 0;
     }
-    let written = shotfile_writer::write(field, edge, grid, coords, bytes);
+    let job = Job {
+        field,
+        edge,
+        grid,
+        coords,
+    };
+    let written = shotfile_writer::write(job, bytes);
     capi_answers::put_written(answer, written);
     1
 }

@@ -1,11 +1,7 @@
 -- The numbers of each answer in the order of their places, which src/places.rt names.
-use Rattle.std.proofs.Math.Option.{Option, none, some}
-use Rattle.std.specs.Prelude.{List, [], ◌∷◌, ℕ}
+use Rattle.std.specs.Prelude.{List, [], ◌∷◌, ℕ, Option, Some, None, is_some}
 use Rattle.ground.specs.Numbers.{bit}
 use Rattle.refusals.specs.Refusals.{Numbers}
-use Rattle.grid_cover.specs.Cover.{is_some}
-use Rattle.grid_cover.specs.declared.Covering.{Covering}
-use Rattle.grid_cover.specs.declared.Covering.TheVariants.{Shot, Nothing}
 use Rattle.measure_intake.specs.Intake.{MeasuredNumbers}
 use Rattle.section.specs.declared.Places.{Places}
 use Rattle.price_charging.specs.Charging.{PricedNumbers}
@@ -24,16 +20,11 @@ price_places n = n.number ∷ n.detail ∷ n.charges.volume ∷ n.charges.area �
 
 -- of the cover test: 1 and the shot that it names, or 0 and 0
 abbrev pub shot_of : Option ℕ → ℕ
-shot_of none = 0
-shot_of (some s) = s
+shot_of None = 0
+shot_of (Some s) = s
 
 abbrev pub cover_places : Option ℕ → List ℕ
 cover_places o = bit (is_some o) ∷ shot_of o ∷ []
-
--- the shot that an answer of the cover test names
-abbrev pub named_by : Covering → Option ℕ
-named_by Nothing = none
-named_by (Shot s) = some s
 
 -- of the corners at one x: 0 and 0, since nothing is refused, and where their part of the listing begins and ends
 abbrev pub part_places : Places → List ℕ

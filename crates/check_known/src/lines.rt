@@ -6,19 +6,14 @@ pub(crate) fn until(text: &[u8], from: usize, byte: u8) -> usize
     requires { from ≤ length text.now }
     ensures { (from ≤ result) × (result ≤ length text.now) }
 {
-    let mut at = from;
-    while at < text.len() {
-        if text[at] == byte {
-            return at;
-        }
-        at += 1;
-    }
-    at
+    let rest = &text[from..];
+    let found = rest.iter().position(|&other| other == byte);
+    from + found.unwrap_or(rest.len())
 }
 
 // A number with one digit more.
 fn with_digit(number: u16, digit: u8) -> u16 {
-    (((number as u32) * 10 + ((digit % 48) as u32)) % 65536) as u16
+    ((u32::from(number) * 10 + u32::from(digit % 48)) % 65536) as u16
 }
 
 // Takes a byte behind so many numbers: a blank begins the next, a digit goes on with the last. How many there are then.
@@ -26,7 +21,7 @@ fn take(numbers: &mut [u16], n: usize, byte: u8) -> usize
     requires { n ≤ length numbers.old }
     ensures { result ≤ length numbers.old }
 {
-    if byte == 32 {
+    if byte == b' ' {
         if n == numbers.len() {
             return n;
         }
@@ -44,10 +39,8 @@ pub(crate) fn read_numbers(text: &[u8], numbers: &mut [u16]) -> usize
     ensures { result ≤ length numbers.old }
 {
     let mut n = 0;
-    let mut at = 0;
-    while at < text.len() {
-        n = take(numbers, n, text[at]);
-        at += 1;
+    for &byte in text {
+        n = take(numbers, n, byte);
     }
     n
 }

@@ -18,20 +18,12 @@ mod parts;
 ghost use Rattle.std.specs.Prelude.{◌≤◌, length};
 
 use crate::lines::{read_numbers, until};
-use crate::parts::{bytes, entries, places};
+use crate::parts::front;
 use check_print::{print_number, print_refusal, print_words};
-use input::Filled;
-use measure_intake::Measured;
-use refusals::Checked;
+use job::Job;
+use lattice_sums::sums::Totals;
+use refusals::Refusal;
 use std::rt::Stdout;
-
-// The settings of a list.
-#[derive(Clone, Copy)]
-struct Settings {
-    field: u16,
-    edge: u16,
-    grid: u16,
-}
 
 // How long the lent slices are, and how many numbers the list or file has.
 #[derive(Clone, Copy)]
@@ -42,47 +34,41 @@ struct Sizes {
     numbers: u16,
 }
 
-fn print_answer(stdout: Stdout, answer: Measured) {
+fn print_answer(stdout: Stdout, answer: Result<Totals, Refusal>) {
     match answer {
-        Measured::Quote(totals) => {
+        Ok(totals) => {
             print_number(stdout, totals.volume);
             print_number(stdout, totals.area);
             print_number(stdout, totals.edge);
             print_number(stdout, totals.inner);
             print_number(stdout, totals.corners as u64);
         }
-        Measured::Refused(refusal) => {
-            print_refusal(stdout, refusal);
-        }
+        Err(refusal) => print_refusal(stdout, refusal),
     }
 }
 
-fn print_checked(stdout: Stdout, answer: Checked) {
+fn print_checked(stdout: Stdout, answer: Result<(), Refusal>) {
     match answer {
-        Checked::Accepted => {
-            print_words(stdout, b" accepted");
-        }
-        Checked::Refused(refusal) => {
-            print_refusal(stdout, refusal);
-        }
+        Ok(()) => print_words(stdout, b" accepted"),
+        Err(refusal) => print_refusal(stdout, refusal),
     }
 }
 
 // Prints what measuring answered, and what became of the work slice.
-fn print_measured(stdout: Stdout, call: &[u8], answer: Measured, work: &[u32]) {
+fn print_measured(stdout: Stdout, call: &[u8], answer: Result<Totals, Refusal>, work: &[u32]) {
     print_words(stdout, call);
     print_answer(stdout, answer);
     junk::print_front(stdout, b"; index", work, 40);
 }
 
 // The same of listing, and of the listing buffer.
-fn print_listed(stdout: Stdout, answer: Measured, work: &[u32], listing: &[u8]) {
+fn print_listed(stdout: Stdout, answer: Result<Totals, Refusal>, work: &[u32], listing: &[u8]) {
     print_measured(stdout, b": list", answer, work);
     junk::print_listing(stdout, listing);
 }
 
 // Prints what crediting answered, and what became of both slices.
-fn print_credited(stdout: Stdout, answer: Checked, work: &[u32], credits: &[u32]) {
+fn print_credited(stdout: Stdout, answer: Result<(), Refusal>, work: &[u32], credits: &[u32]) {
     print_words(stdout, b": credit");
     print_checked(stdout, answer);
     junk::print_front(stdout, b"; index", work, 40);
@@ -90,30 +76,30 @@ fn print_credited(stdout: Stdout, answer: Checked, work: &[u32], credits: &[u32]
 }
 
 // Measures, with the entries lent.
-fn show_measure(stdout: Stdout, list: Settings, sizes: Sizes, coords: &[u16]) {
+fn show_measure(stdout: Stdout, job: Job, sizes: Sizes) {
     let mut lent = [junk::ENTRY; 4100];
-    let work = entries(&mut lent, sizes.entries);
-    let answer = measure::measure(list.field, list.edge, list.grid, coords, work);
+    let work = front(&mut lent, sizes.entries);
+    let answer = measure::measure(job, work);
     print_measured(stdout, b": measure", answer, work);
 }
 
 // Lists, with the entries and the bytes lent.
-fn show_list(stdout: Stdout, list: Settings, sizes: Sizes, coords: &[u16]) {
+fn show_list(stdout: Stdout, job: Job, sizes: Sizes) {
     let mut lent = [junk::ENTRY; 4100];
     let mut more = [junk::BYTE; 150];
-    let work = entries(&mut lent, sizes.entries);
-    let listing = bytes(&mut more, sizes.bytes);
-    let answer = measure::list(list.field, list.edge, list.grid, coords, work, listing);
+    let work = front(&mut lent, sizes.entries);
+    let listing = front(&mut more, sizes.bytes);
+    let answer = measure::list(job, work, listing);
     print_listed(stdout, answer, work, listing);
 }
 
 // Credits, with the entries and the credit places lent.
-fn show_credit(stdout: Stdout, list: Settings, sizes: Sizes, coords: &[u16]) {
+fn show_credit(stdout: Stdout, job: Job, sizes: Sizes) {
     let mut lent = [junk::ENTRY; 4100];
     let mut more = [junk::ENTRY; 4100];
-    let work = entries(&mut lent, sizes.entries);
-    let credits = entries(&mut more, sizes.places);
-    let answer = crediting::credit(list.field, list.edge, list.grid, coords, work, credits);
+    let work = front(&mut lent, sizes.entries);
+    let credits = front(&mut more, sizes.places);
+    let answer = crediting::credit(job, work, credits);
     print_credited(stdout, answer, work, credits);
 }
 
@@ -124,66 +110,48 @@ fn next_call(stdout: Stdout, name: &[u8]) {
 }
 
 // A job by the calls that its line names.
-fn show_calls(
-    stdout: Stdout,
-    name: &[u8],
-    calls: u16,
-    list: Settings,
-    sizes: Sizes,
-    numbers: &[u16],
-) {
+fn show_calls(stdout: Stdout, name: &[u8], calls: u16, job: Job, sizes: Sizes) {
     print_words(stdout, name);
+    // Kept so: the test data says calls by a number, and an enum would take a second match to make it.
     match calls {
-        1 => show_credit(stdout, list, sizes, numbers),
+        1 => show_credit(stdout, job, sizes),
         3 => {
-            show_measure(stdout, list, sizes, numbers);
+            show_measure(stdout, job, sizes);
             next_call(stdout, name);
-            show_list(stdout, list, sizes, numbers);
+            show_list(stdout, job, sizes);
             next_call(stdout, name);
-            show_credit(stdout, list, sizes, numbers);
+            show_credit(stdout, job, sizes);
         }
-        4 => files::show_read(stdout, numbers, sizes.numbers, sizes.places),
-        _ => files::show_write(
-            stdout,
-            list.field,
-            list.edge,
-            list.grid,
-            numbers,
-            sizes.bytes,
-        ),
+        4 => files::show_read(stdout, job.coords, sizes.numbers, sizes.places),
+        _ => files::show_write(stdout, job, sizes.bytes),
     }
     print_words(stdout, b"\n");
 }
 
 // The number that has so many behind it: those given stand last, and the first of them at every place before.
 fn number_before(given: &[u16], behind: usize) -> u16 {
-    if given.len() == 0 {
-        return 0;
+    match given.iter().nth_back(behind) {
+        Some(&number) => number,
+        None => given.first().copied().unwrap_or(0),
     }
-    if given.len() <= behind {
-        return given[0];
-    }
-    given[given.len() - 1 - behind]
 }
 
 // Fills a list from the numbers given, the last place first.
 fn spread(given: &[u16], list: &mut [u16]) {
-    let mut place = list.len();
-    let mut behind = 0;
-    while 0 < place {
-        place -= 1;
-        list[place] = number_before(given, behind);
-        behind += 1;
+    for (behind, place) in list.iter_mut().rev().enumerate() {
+        *place = number_before(given, behind);
     }
 }
 
-fn settings_of(numbers: &[u16]) -> Settings
+// The list that its line's numbers set, with these coordinates.
+fn job_of<'a>(numbers: &[u16], coords: &'a [u16]) -> Job<'a>
     requires { 8 ≤ length numbers.now }
 {
-    Settings {
+    Job {
         field: numbers[1],
         edge: numbers[2],
         grid: numbers[3],
+        coords,
     }
 }
 
@@ -203,14 +171,8 @@ fn show_spread(stdout: Stdout, name: &[u8], numbers: &[u16], list: &mut [u16])
     requires { 8 ≤ length numbers.now }
 {
     spread(&numbers[8..], list);
-    show_calls(
-        stdout,
-        name,
-        numbers[0],
-        settings_of(numbers),
-        sizes_of(numbers),
-        list,
-    );
+    let job = job_of(numbers, list);
+    show_calls(stdout, name, numbers[0], job, sizes_of(numbers));
 }
 
 // A job by its numbers.
@@ -219,12 +181,12 @@ fn show_job(stdout: Stdout, name: &[u8], numbers: &[u16]) {
         return;
     }
     let mut list = [0u16; 12291];
-    show_spread(stdout, name, numbers, places(&mut list, numbers[7]));
+    show_spread(stdout, name, numbers, front(&mut list, numbers[7]));
 }
 
 // A job by its line.
 fn show_line(stdout: Stdout, line: &[u8]) {
-    let end = until(line, 0, 58);
+    let end = until(line, 0, b':');
     let mut numbers = [0u16; 100];
     let n = read_numbers(&line[end..], &mut numbers);
     show_job(stdout, &line[..end], &numbers[..n]);
@@ -232,18 +194,14 @@ fn show_line(stdout: Stdout, line: &[u8]) {
 
 // The jobs of all lines.
 fn show_lines(stdout: Stdout, text: &[u8]) {
-    let mut at = 0;
-    while at < text.len() {
-        let end = until(text, at, 10);
-        show_line(stdout, &text[at..end]);
-        at = end + 1;
+    for line in text.split(|&byte| byte == b'\n') {
+        show_line(stdout, line);
     }
 }
 
 fn main(rt: HostRuntime) {
     let mut text = [0u8; 32768];
-    let filled = input::fill(rt.stdin(), &mut text);
-    if let Filled::Bytes(n) = filled {
+    if let Some(n) = input::fill(rt.stdin(), &mut text) {
         show_lines(rt.stdout(), &text[..n]);
     }
 }

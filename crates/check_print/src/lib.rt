@@ -17,35 +17,16 @@ pub fn print_number(stdout: Stdout, n: u64) {
     let _ = stdout.print(n);
 }
 
-pub fn print_coord(stdout: Stdout, value: u16) {
-    print_number(stdout, value as u64);
-}
-
-pub fn print_byte(stdout: Stdout, value: u8) {
-    print_number(stdout, value as u64);
-}
-
-pub fn print_coords(stdout: Stdout, coords: &[u16]) {
+pub fn print_slice<T: Copy + Into<u64>>(stdout: Stdout, places: &[T]) {
     print_words(stdout, b";");
-    let mut i = 0;
-    while i < coords.len() {
-        print_coord(stdout, coords[i]);
-        i += 1;
-    }
-}
-
-pub fn print_bytes(stdout: Stdout, bytes: &[u8]) {
-    print_words(stdout, b";");
-    let mut i = 0;
-    while i < bytes.len() {
-        print_byte(stdout, bytes[i]);
-        i += 1;
+    for &place in places {
+        print_number(stdout, place.into());
     }
 }
 
 pub fn print_refusal(stdout: Stdout, refusal: Refusal) {
     print_words(stdout, b" refused");
     let told = refusals::notice_of(refusal);
-    print_number(stdout, told.number as u64);
+    print_number(stdout, u64::from(told.number));
     print_number(stdout, told.detail as u64);
 }

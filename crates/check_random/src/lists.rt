@@ -77,12 +77,10 @@ fn draw_count(number: usize, state: usize) -> usize {
 
 // The largest divisor of the field that is at most `most`.
 fn divisor(field: u16, most: u16) -> u16 {
-    let mut grid = most;
-    while 1 < grid {
+    for grid in (2..=most).rev() {
         if field % grid == 0 {
             return grid;
         }
-        grid -= 1;
     }
     1
 }
@@ -119,37 +117,29 @@ pub(crate) fn draw_settings(number: usize) -> Settings {
     let grid = divisor(field, one_to(most, fourth));
     let fresh = divisor(field, one_to(most, fifth));
     Settings {
-        field: field,
+        field,
         edge: draw_edge(field, second),
-        grid: grid,
+        grid,
         other: other_divisor(field, most, grid, fresh),
-        shots: shots,
+        shots,
         drawn: fifth,
     }
 }
 
 // The last place of a shot on an axis.
 fn span(settings: Settings) -> u16 {
-    if settings.field < settings.edge {
-        return 0;
-    }
-    settings.field - settings.edge
+    settings.field.saturating_sub(settings.edge)
 }
 
 // A place one edge beside an earlier one, or that place where the field ends before: the cubes touch.
 fn beside(state: usize, span: u16, edge: u16, earlier: u16) -> u16 {
     let way = state / 8 % 3;
-    if way == 1 {
-        if (earlier as u32) + (edge as u32) <= (span as u32) {
-            return earlier + edge;
-        }
-    }
-    if way == 2 {
-        if edge <= earlier {
-            return earlier - edge;
-        }
-    }
-    earlier
+    let moved = match way {
+        1 => earlier.checked_add(edge).filter(|&place| place <= span),
+        2 => earlier.checked_sub(edge),
+        _ => None,
+    };
+    moved.unwrap_or(earlier)
 }
 
 // A place from 0 to `span`.
@@ -182,29 +172,41 @@ fn multiple(state: usize, span: u16, edge: u16) -> u16 {
     place
 }
 
-// A coordinate of a kind: that of an earlier shot, one beside it, a multiple of the edge, a border, or any.
-fn coordinate(kind: usize, state: usize, span: u16, edge: u16, earlier: u16) -> u16 {
-    if kind == 0 {
-        return earlier;
-    }
-    if kind <= 4 {
-        return beside(state, span, edge, earlier);
-    }
-    if kind <= 6 {
-        return multiple(state, span, edge);
-    }
-    if kind == 7 {
-        return border(state, span);
-    }
-    anywhere(state, span)
+// Where a shot lies: at an earlier one, beside it, at multiples of the edge, at borders of the field, or anywhere.
+#[derive(Clone, Copy)]
+enum Kind {
+    Earlier,
+    Beside,
+    Multiple,
+    Border,
+    Anywhere,
 }
 
-// The kind of a shot; the first has no earlier one.
-fn draw_kind(shot: usize, state: usize) -> usize {
-    if shot == 0 {
-        return 5 + state / 8 % 7;
+// A coordinate of a shot of a kind.
+fn coordinate(kind: Kind, state: usize, span: u16, edge: u16, earlier: u16) -> u16 {
+    match kind {
+        Kind::Earlier => earlier,
+        Kind::Beside => beside(state, span, edge, earlier),
+        Kind::Multiple => multiple(state, span, edge),
+        Kind::Border => border(state, span),
+        Kind::Anywhere => anywhere(state, span),
     }
-    state / 8 % 12
+}
+
+// The kind of a shot, some more often than others; the first has no earlier one.
+fn draw_kind(shot: usize, state: usize) -> Kind {
+    let drawn = if shot == 0 {
+        5 + state / 8 % 7
+    } else {
+        state / 8 % 12
+    };
+    match drawn {
+        0 => Kind::Earlier,
+        1..=4 => Kind::Beside,
+        5..=6 => Kind::Multiple,
+        7 => Kind::Border,
+        _ => Kind::Anywhere,
+    }
 }
 
 // An earlier shot, or the first itself.
@@ -215,18 +217,12 @@ fn draw_earlier(shot: usize, state: usize) -> usize {
     state / 8 % shot
 }
 
-// A coordinate of a list: 0 is x, 1 is y, 2 is z; 0 past the last shot.
-fn at(coords: &[u16], shot: usize, axis: usize) -> u16 {
+// The three coordinates of a shot of a list, 0 past the last shot.
+fn at(coords: &[u16], shot: usize) -> (u16, u16, u16) {
     if count(coords) <= shot {
-        return 0;
+        return (0, 0, 0);
     }
-    if axis == 0 {
-        return x_of(coords, shot);
-    }
-    if axis == 1 {
-        return y_of(coords, shot);
-    }
-    z_of(coords, shot)
+    (x_of(coords, shot), y_of(coords, shot), z_of(coords, shot))
 }
 
 // Stores a shot, if there is a place for it.
@@ -245,9 +241,10 @@ fn draw_shot(state: usize, span: u16, edge: u16, coords: &mut [u16], shot: usize
     let fifth = next(fourth);
     let kind = draw_kind(shot, first);
     let earlier = draw_earlier(shot, second);
-    let x = coordinate(kind, third, span, edge, at(coords, earlier, 0));
-    let y = coordinate(kind, fourth, span, edge, at(coords, earlier, 1));
-    let z = coordinate(kind, fifth, span, edge, at(coords, earlier, 2));
+    let (near_x, near_y, near_z) = at(coords, earlier);
+    let x = coordinate(kind, third, span, edge, near_x);
+    let y = coordinate(kind, fourth, span, edge, near_y);
+    let z = coordinate(kind, fifth, span, edge, near_z);
     store(coords, shot, x, y, z);
     fifth
 }
@@ -257,9 +254,7 @@ pub(crate) fn draw_shots(settings: Settings, coords: &mut [u16]) {
     let last = span(settings);
     let shots = count(coords);
     let mut state = settings.drawn;
-    let mut shot = 0;
-    while shot < shots {
+    for shot in 0..shots {
         state = draw_shot(state, last, settings.edge, coords, shot);
-        shot += 1;
     }
 }

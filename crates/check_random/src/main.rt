@@ -9,153 +9,128 @@ mod lent;
 mod listings;
 mod lists;
 
-use crate::counts::Counts;
+use crate::counts::{Counts, add, judge};
 use crate::lent::{bytes, entries, places};
 use crate::lists::Settings;
+use job::Job;
 use job::shot::{count, first};
 use lattice_sums::sums::Totals;
+use refusals::Refusal;
 use std::rt::Stdout;
 
-// The figures by the measuring call.
-fn measured(settings: Settings, coords: &[u16]) -> Totals {
-    let mut work = entries();
-    let answer = measure::measure(
-        settings.field,
-        settings.edge,
-        settings.grid,
+// The list of these settings, in a grid.
+fn job_in<'a>(settings: Settings, grid: u16, coords: &'a [u16]) -> Job<'a> {
+    Job {
+        field: settings.field,
+        edge: settings.edge,
+        grid,
         coords,
-        &mut work,
-    );
-    listings::quoted(answer)
+    }
+}
+
+// The figures by the measuring call.
+fn measured(job: Job) -> Result<Totals, Refusal> {
+    let mut work = entries();
+    measure::measure(job, &mut work)
 }
 
 // The figures by counting cells.
-fn recounted(settings: Settings, coords: &[u16]) -> Totals {
+fn recounted(job: Job) -> Result<Totals, Refusal> {
     let mut work = entries();
-    let answer = measure_cells::recount(
-        settings.field,
-        settings.edge,
-        settings.grid,
-        coords,
-        &mut work,
-    );
-    listings::quoted(answer)
+    measure_cells::recount(job, &mut work)
 }
 
-// The figures by the listing call, in a grid.
-fn listed(settings: Settings, grid: u16, coords: &[u16], listing: &mut [u8]) -> Totals {
+// The figures by the listing call.
+fn listed(job: Job, listing: &mut [u8]) -> Result<Totals, Refusal> {
     let mut work = entries();
-    let answer = measure::list(
-        settings.field,
-        settings.edge,
-        grid,
-        coords,
-        &mut work,
-        listing,
-    );
-    listings::quoted(answer)
+    measure::list(job, &mut work, listing)
 }
 
-// A list has this listing in a grid.
-fn has_listing(
-    settings: Settings,
-    grid: u16,
-    coords: &[u16],
-    totals: Totals,
-    listing: &[u8],
-) -> bool {
+// A list has this listing.
+fn has_listing(job: Job, answer: Result<Totals, Refusal>, listing: &[u8]) -> bool {
     let mut second = bytes();
-    let again = listed(settings, grid, coords, &mut second);
-    listings::same(totals, listing, again, &second)
+    let again = listed(job, &mut second);
+    listings::same(answer, listing, again, &second)
+}
+
+// Counts whether two ways agree.
+fn tally(agrees: bool, count: &mut usize, disagreements: &mut usize) {
+    if agrees {
+        add(count, 1);
+    } else {
+        add(disagreements, 1);
+    }
 }
 
 // The figures of a list, by every other way.
 fn compare_figures(
     stdout: Stdout,
     settings: Settings,
-    totals: Totals,
-    coords: &[u16],
-    counts: Counts,
-) -> Counts {
-    let by_measure = counts::judge(
-        stdout,
-        listings::agree(totals, measured(settings, coords)),
-        counts,
-        counts::MEASURED,
-        b"measure",
-        settings,
-        coords,
-    );
-    counts::judge(
-        stdout,
-        listings::agree(totals, recounted(settings, coords)),
-        by_measure,
-        counts::RECOUNTED,
-        b"recount",
-        settings,
-        coords,
-    )
+    job: Job,
+    answer: Result<Totals, Refusal>,
+    counts: &mut Counts,
+) {
+    let measured = listings::agree(answer, measured(job));
+    let agrees = judge(stdout, measured, b"measure", settings, job.coords);
+    tally(agrees, &mut counts.measured, &mut counts.disagreements);
+    let recounted = listings::agree(answer, recounted(job));
+    let agrees = judge(stdout, recounted, b"recount", settings, job.coords);
+    tally(agrees, &mut counts.recounted, &mut counts.disagreements);
 }
 
 // The same list in another grid has the same listing.
 fn compare_grids(
     stdout: Stdout,
     settings: Settings,
-    totals: Totals,
     coords: &[u16],
+    answer: Result<Totals, Refusal>,
     listing: &[u8],
-    counts: Counts,
-) -> Counts {
+    counts: &mut Counts,
+) {
     if settings.grid == settings.other {
-        return counts;
+        return;
     }
-    counts::judge(
-        stdout,
-        has_listing(settings, settings.other, coords, totals, listing),
-        counts,
-        counts::REGRIDDED,
-        b"grid",
-        settings,
-        coords,
-    )
+    let other = job_in(settings, settings.other, coords);
+    let same = has_listing(other, answer, listing);
+    let agrees = judge(stdout, same, b"grid", settings, coords);
+    tally(agrees, &mut counts.regridded, &mut counts.disagreements);
 }
 
 // Lists a list, and measures it in every other way.
-fn try_list(stdout: Stdout, settings: Settings, coords: &[u16], counts: Counts) -> Counts {
+fn try_list(stdout: Stdout, settings: Settings, coords: &[u16], counts: &mut Counts) {
     let mut listing = bytes();
-    let totals = listed(settings, settings.grid, coords, &mut listing);
-    let lists = counts::add(counts, counts::LISTS, 1);
-    let shots = counts::add(lists, counts::SHOTS, settings.shots);
-    let points = counts::add(shots, counts::POINTS, totals.corners);
-    let inners = counts::add_if(0 < totals.inner, points, counts::INNERS);
-    let figures = compare_figures(stdout, settings, totals, coords, inners);
-    compare_grids(stdout, settings, totals, coords, &listing, figures)
+    let job = job_in(settings, settings.grid, coords);
+    let answer = listed(job, &mut listing);
+    let totals = answer.unwrap_or_default();
+    add(&mut counts.lists, 1);
+    add(&mut counts.shots, settings.shots);
+    add(&mut counts.points, totals.corners);
+    add(&mut counts.inners, usize::from(0 < totals.inner));
+    compare_figures(stdout, settings, job, answer, counts);
+    compare_grids(stdout, settings, coords, answer, &listing, counts);
 }
 
 // Tries a list whose shots are the first that are drawn.
-fn try_drawn(stdout: Stdout, settings: Settings, shots: &[u16], counts: Counts) -> Counts {
+fn try_drawn(stdout: Stdout, settings: Settings, shots: &[u16], counts: &mut Counts) {
     let n = settings.shots;
-    if count(shots) < n {
-        return counts;
+    if n <= count(shots) {
+        try_list(stdout, settings, first(shots, n), counts);
     }
-    try_list(stdout, settings, first(shots, n), counts)
 }
 
 // Draws a list, and tries it.
-fn try_number(stdout: Stdout, number: usize, counts: Counts) -> Counts {
+fn try_number(stdout: Stdout, number: usize, counts: &mut Counts) {
     let settings = lists::draw_settings(number);
     let mut shots = places();
     lists::draw_shots(settings, &mut shots);
-    try_drawn(stdout, settings, &shots, counts)
+    try_drawn(stdout, settings, &shots, counts);
 }
 
 // Tries so many lists.
 fn try_lists(stdout: Stdout, lists: usize) -> Counts {
-    let mut counts = counts::none();
-    let mut number = 0;
-    while number < lists {
-        counts = try_number(stdout, number, counts);
-        number += 1;
+    let mut counts = Counts::default();
+    for number in 0..lists {
+        try_number(stdout, number, &mut counts);
     }
     counts
 }

@@ -5,7 +5,7 @@
 -- and the same listing. Assumes nothing.
 use mathlib.Core.Path.{◌≡◌, refl, sym, ap, ◌∙◌, subst, fun_ext}
 use mathlib.Core.Bool.{false, true≢false}
-use mathlib.Core.Option.{Option, none, some}
+use Rattle.std.specs.Prelude.{Option, None, Some, is_some}
 use mathlib.Core.List.{List}
 use Prim.Native.Nat.{ℕ, ◌*◌, ◌≤◌, ◌<◌}
 use native.Mathlib.Omega.{arith}
@@ -22,18 +22,16 @@ use Rattle.lattice_sums.specs.CornerSums.{totals_of}
 use Rattle.lattice_sums.specs.declared.sums.Totals.{Totals}
 use Rattle.ground.proofs.Bools.{bool-ext, is_true, truth}
 use Rattle.job.specs.Job.{with_grid, Job, job_of, shot, shot_count, place_of, Valid}
-use Rattle.refusals.specs.declared.Checked.TheVariants.{Accepted}
 use Rattle.job.proofs.Conditions.{valid-within}
 use Rattle.job.proofs.Shots.{any_at, at-any, stay-at, stay_all}
 use Rattle.grid.specs.Grid.{index_of, Holds}
 use Rattle.ground.proofs.TotalLaws.{total-agree, total-swap, total-none, total-none-at, count-one}
 use Rattle.ground.proofs.JoinLaws.{singles-at}
 use Rattle.ground.proofs.Bits.{bit-none}
-use Rattle.grid_cover.specs.Cover.{is_some, names, lowest_covering}
+use Rattle.grid_cover.specs.Cover.{names, lowest_covering}
 use Rattle.grid_cover.proofs.CoverRuns.{lowest-covers}
 use Rattle.grid_cover.proofs.LowestLaws.{lowest-shot, lowest-covering, lowest-least}
 use Rattle.measure_intake.specs.Intake.{solid, MeasureAccepts}
-use Rattle.measure_intake.specs.declared.Measured.TheVariants.{Quote}
 use Rattle.crediting.proofs.Refused.{credit-decides, credit-work-done}
 use Rattle.crediting.proofs.FieldLaws.{credits-long}
 use Rattle.measure.specs.Answers.{ListCall}
@@ -44,6 +42,7 @@ use Rattle.crediting.specs.Credits.{credited_to, credit_of, credits_of, credits_
 use Rattle.crediting.specs.LeavingOut.{Hidden, KeepsCredited}
 use Rattle.buffer.specs.Wrote.{in_front}
 use Rattle.refusals.specs.Tests.{if_accepted}
+use Rattle.std.specs.Prelude.{Ok}
 
 -- ---- one cell
 
@@ -52,8 +51,8 @@ cell-named : (job : Job) (i j k : ℕ) → total (shot_count job.coords) (λ s. 
 cell-named job i j k = one (lowest_covering job.edge job.coords i j k) refl ∙ ap bit (lowest-covers job.edge job.coords i j k)
   where
     one : (o : Option ℕ) → lowest_covering job.edge job.coords i j k ≡ o → total (shot_count job.coords) (λ s. bit (names (lowest_covering job.edge job.coords i j k) s)) ≡ bit (is_some (lowest_covering job.edge job.coords i j k))
-    one none e = rw e (total-none (shot_count job.coords) (λ s. 0) (λ s l. refl))
-    one (some t) e = rw e (count-one t (shot_count job.coords) (lowest-shot job.edge job.coords i j k t e))
+    one None e = rw e (total-none (shot_count job.coords) (λ s. 0) (λ s l. refl))
+    one (Some t) e = rw e (count-one t (shot_count job.coords) (lowest-shot job.edge job.coords i j k t e))
 
 -- ---- one shot
 
@@ -72,15 +71,15 @@ unfolding credit_of
 hidden-credited job s hidden = none_at_all job.field (credited_to job.edge job.coords s) λ i j k. one i j k (lowest_covering job.edge job.coords i j k) refl
   where
     one : (i j k : ℕ) (o : Option ℕ) → lowest_covering job.edge job.coords i j k ≡ o → names o s ≡ false
-    one i j k none e = refl
-    one i j k (some r) e = ne_eqb r s λ is.
-        let low : lowest_covering job.edge job.coords i j k ≡ some s = e ∙ ap some is in
+    one i j k None e = refl
+    one i j k (Some r) e = ne_eqb r s λ is.
+        let low : lowest_covering job.edge job.coords i j k ≡ Some s = e ∙ ap Some is in
         let h = hidden i j k (lowest-covering job.edge job.coords i j k s low) in
         true≢false (sym h.2 ∙ lowest-least job.edge job.coords i j k s low h.0 h.1)
 
 -- ---- the credits of an accepted list
 
-module _ {job : Job} {work credits work' credits' : List ℕ} (call : CreditCall job work credits Accepted work' credits') where
+module _ {job : Job} {work credits work' credits' : List ℕ} (call : CreditCall job work credits (Ok tt) work' credits') where
   open job use {field as F, edge as E, grid as G, coords}
 
   passed : MeasureAccepts job (length work)
@@ -134,7 +133,7 @@ module _ {job : Job} {work credits work' credits' : List ℕ} (call : CreditCall
     kept = job_of F E G others
 
     -- the lowest covering shot of a cell has credit
-    has-credit : (i j k s : ℕ) → T (solid job i j k) → lowest_covering E coords i j k ≡ some s → get_or credits' s 0 ≡ 0 → ⊥
+    has-credit : (i j k s : ℕ) → T (solid job i j k) → lowest_covering E coords i j k ≡ Some s → get_or credits' s 0 ≡ 0 → ⊥
     unfolding credit_of
     has-credit i j k s t e zero-credit =
         let h : s < shot_count coords = lowest-shot E coords i j k s e in
@@ -147,8 +146,8 @@ module _ {job : Job} {work credits work' credits' : List ℕ} (call : CreditCall
     kept-covers i j k t = one (lowest_covering E coords i j k) refl
       where
         one : (o : Option ℕ) → lowest_covering E coords i j k ≡ o → T (solid kept i j k)
-        one none e = absurd (true≢false (sym (is_true (solid job i j k) t) ∙ (sym (lowest-covers E coords i j k) ∙ ap is_some e)))
-        one (some s) e =
+        one None e = absurd (true≢false (sym (is_true (solid job i j k) t) ∙ (sym (lowest-covers E coords i j k) ∙ ap is_some e)))
+        one (Some s) e =
             let m = keeps.credited s (lowest-shot E coords i j k s e) (has-credit i j k s t e) in
             at-any E (λ t. covers t i j k) others m.0 m.1 (subst (λ (t : Shot). T (covers t i j k)) m.2 (truth (covers (shot job s) i j k) (lowest-covering E coords i j k s e)))
 
@@ -184,8 +183,8 @@ module _ {job : Job} {work credits work' credits' : List ℕ} (call : CreditCall
     same-solid = fun_ext λ i. fun_ext λ j. fun_ext λ k. kept-cells i j k
 
     -- so they have the same totals and the same listing, whatever the grids
-    module _ {G₁ : ℕ} {work₁ buffer₁ work₁' buffer₁' : List ℕ} {t₁ : Totals} (one : ListCall (with_grid G₁ job) work₁ buffer₁ (Quote t₁) work₁' buffer₁')
-        {G₂ : ℕ} {work₂ buffer₂ work₂' buffer₂' : List ℕ} {t₂ : Totals} (two : ListCall (with_grid G₂ kept) work₂ buffer₂ (Quote t₂) work₂' buffer₂') where
+    module _ {G₁ : ℕ} {work₁ buffer₁ work₁' buffer₁' : List ℕ} {t₁ : Totals} (one : ListCall (with_grid G₁ job) work₁ buffer₁ (Ok t₁) work₁' buffer₁')
+        {G₂ : ℕ} {work₂ buffer₂ work₂' buffer₂' : List ℕ} {t₂ : Totals} (two : ListCall (with_grid G₂ kept) work₂ buffer₂ (Ok t₂) work₂' buffer₂') where
       pub kept-totals : t₁ ≡ t₂
       kept-totals = (list-accepted one).totals-are ∙ ap (λ s. totals_of F s) same-solid ∙ sym (list-accepted two).totals-are
 
@@ -194,8 +193,8 @@ module _ {job : Job} {work credits work' credits' : List ℕ} (call : CreditCall
 
 -- ---- two lists in one field
 
-module _ {job : Job} {work credits work' credits' : List ℕ} (one : CreditCall job work credits Accepted work' credits')
-    {job₂ : Job} {work₂ credits₂ work₂' credits₂' : List ℕ} (two : CreditCall job₂ work₂ credits₂ Accepted work₂' credits₂') where
+module _ {job : Job} {work credits work' credits' : List ℕ} (one : CreditCall job work credits (Ok tt) work' credits')
+    {job₂ : Job} {work₂ credits₂ work₂' credits₂' : List ℕ} (two : CreditCall job₂ work₂ credits₂ (Ok tt) work₂' credits₂') where
   -- another order, or other repeats: each has every shot of the other
   pub reordered-sum : job.field ≡ job₂.field → Among job job₂ → Among job₂ job → total (shot_count job.coords) (λ s. get_or credits' s 0) ≡ total (shot_count job₂.coords) (λ s. get_or credits₂' s 0)
   reordered-sum f h h₂ =
@@ -203,8 +202,8 @@ module _ {job : Job} {work credits work' credits' : List ℕ} (one : CreditCall 
       credits-sum one ∙ ap (volume job.field) (fun_ext λ i. fun_ext λ j. fun_ext λ k. same i j k) ∙ ap (λ n. volume n (solid job₂)) f ∙ sym (credits-sum two)
 
 -- the grid does not matter
-module _ {job : Job} {work credits work' credits' : List ℕ} (one : CreditCall job work credits Accepted work' credits')
-    {G₂ : ℕ} {work₂ credits₂ work₂' credits₂' : List ℕ} (two : CreditCall (with_grid G₂ job) work₂ credits₂ Accepted work₂' credits₂') where
+module _ {job : Job} {work credits work' credits' : List ℕ} (one : CreditCall job work credits (Ok tt) work' credits')
+    {G₂ : ℕ} {work₂ credits₂ work₂' credits₂' : List ℕ} (two : CreditCall (with_grid G₂ job) work₂ credits₂ (Ok tt) work₂' credits₂') where
   pub credits-any-grid : (s : ℕ) → s < shot_count job.coords → get_or credits' s 0 ≡ get_or credits₂' s 0
   unfolding credit_of
   credits-any-grid s h = credit-at one s h ∙ sym (credit-at two s h)

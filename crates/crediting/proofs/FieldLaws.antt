@@ -2,13 +2,12 @@
 -- the cells of its block as the list does.
 use mathlib.Core.Path.{◌≡◌, refl, sym, ap, ◌∙◌}
 use mathlib.Core.Bool.{Bool, true, false}
-use mathlib.Core.List.{List, [], ◌∷◌, ◌++◌, append_assoc, append-nil}
+use mathlib.Core.List.{List, [], ◌∷◌}
 use Prim.Native.Nat.{ℕ, suc, ◌+◌, ◌-◌, ◌*◌, ◌/◌, ◌%◌, ◌≤◌, ◌<◌}
 use native.Mathlib.Nat.{zero-add, add-mul, one-mul, mul-le-mul, mul-le-mul_right, mod-lt, div-add-mod', div-lt_iff_lt-mul}
 use native.Mathlib.Numerals.{add-one}
 use native.Mathlib.Omega.{arith}
-use lib.ListN.{length, get_or, drop, set, replicate, length-replicate, get_or-replicate, replicate-append-replicate, get_or-eq_default}
-use lib.Seq.{drop-cons, drop-length, set_at}
+use lib.ListN.{length, get_or, replicate, length-replicate, get_or-replicate, get_or-eq_default}
 use lib.Dec.{ltb}
 use borrow.Author.Tests.{ltb-true, ltb-false}
 use Rattle.ground.specs.Sums.{total}
@@ -152,17 +151,6 @@ none-at n s = one (ltb s n) refl
     one : (b : Bool) → ltb s n ≡ b → get_or {A = ℕ} (replicate n 0) s 0 ≡ 0
     one true e = get_or-replicate n s 0 0 (ltb-true s n e)
     one false e = get_or-eq_default (replicate n 0) 0 {n = s} (omega (arith, length-replicate {A = ℕ} n 0, ltb-false s n e))
-
--- one place more is 0
-pub clear_next : (l₀ : List ℕ) (i : ℕ) → i < length l₀ → {l : List ℕ} → l ≡ replicate i 0 ++ drop i l₀ → set l i 0 ≡ replicate (i + 1) 0 ++ drop (i + 1) l₀
-clear_next l₀ i h e =
-    rw (e, drop-cons l₀ i 0 h, set_at (replicate i 0) (get_or l₀ i 0) (drop (suc i) l₀) 0 i (length-replicate i 0), ← replicate-append-replicate {A = ℕ} i 1 0, add-one i)
-    (sym (append_assoc (replicate i 0) (0 ∷ []) (drop (suc i) l₀)))
-
-pub clear-all : (l₀ : List ℕ) (i : ℕ) → length l₀ ≤ i → {l : List ℕ} → i ≤ length l₀ → l ≡ replicate i 0 ++ drop i l₀ → l ≡ replicate (length l₀) 0
-clear-all l₀ i h k e =
-    let all : i ≡ length l₀ = omega arith in
-    e ∙ rw (all, drop-length l₀) (append-nil (replicate (length l₀) 0))
 
 module _ {job : Job} (v : Valid job) (n : ℕ) where
   open job use {field as F, edge as E, grid as G, coords}

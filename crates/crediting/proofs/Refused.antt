@@ -8,8 +8,6 @@ use lib.ListN.{length}
 use Rattle.job.specs.Job.{Job, shot_count}
 use Rattle.refusals.specs.declared.Refusal.{Refusal}
 use Rattle.refusals.specs.declared.Refusal.TheVariants.{ShortCredits}
-use Rattle.refusals.specs.declared.Checked.{Checked}
-use Rattle.refusals.specs.declared.Checked.TheVariants.{Accepted, Refused}
 use Rattle.refusals.specs.Deciding.{Decides}
 use Rattle.refusals.proofs.Deciding.{decides-more, call-accepts, call-refuses}
 use Rattle.grid.specs.Grid.{index_of}
@@ -18,6 +16,8 @@ use Rattle.measure_intake.proofs.Refused.{measure-decides, work-stored, work-kep
 use Rattle.crediting.specs.Credits.{credits_of, credit_tests, credits_after, CreditCall, CreditAccepts, CreditRefuses}
 use Rattle.buffer.specs.Wrote.{in_front}
 use Rattle.refusals.specs.Tests.{if_accepted}
+use Rattle.refusals.specs.Refusals.{Checked}
+use Rattle.std.specs.Prelude.{Ok, Err}
 
 -- ---- the checks
 module _ (job : Job) (entries places : ℕ) where
@@ -32,15 +32,15 @@ module _ {job : Job} {work credits work' credits' : List ℕ} {c : Checked} (cal
   open job use {coords}
 
   -- a list is accepted if and only if it is valid and both lent slices are long enough
-  pub credit-accepts : (c ≡ Accepted) ↔ CreditAccepts job (length work) (length credits)
+  pub credit-accepts : (c ≡ Ok tt) ↔ CreditAccepts job (length work) (length credits)
   credit-accepts = call-accepts (credit-decides job (length work) (length credits)) call.answer
 
   -- a refusal is given if and only if its condition is the first that holds
-  pub credit-refuses : (r : Refusal) → (c ≡ Refused r) ↔ CreditRefuses job (length work) (length credits) r
+  pub credit-refuses : (r : Refusal) → (c ≡ Err r) ↔ CreditRefuses job (length work) (length credits) r
   credit-refuses = call-refuses (credit-decides job (length work) (length credits)) call.answer
 
   -- a refusal leaves the credits as they were
-  pub credit-refused-keeps : (r : Refusal) → c ≡ Refused r → credits' ≡ credits
+  pub credit-refused-keeps : (r : Refusal) → c ≡ Err r → credits' ≡ credits
   unfolding credits_after
   credit-refused-keeps r e = call.credited ∙ ap (λ c. if_accepted c (λ r. credits) (in_front (credits_of job.field job.edge job.coords) credits)) (sym call.answer ∙ e)
 

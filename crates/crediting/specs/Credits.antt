@@ -4,11 +4,10 @@ use Rattle.std.specs.Prelude.{◌≡◌, List, [], ◌∷◌, ◌++◌, ◌⊎�
 use Rattle.ground.specs.Sums.{join}
 use Rattle.lattice.specs.Cells.{Cells, volume}
 use Rattle.job.specs.Job.{Job, shot_count}
-use Rattle.refusals.specs.Refusals.{checked_numbers}
+use Rattle.refusals.specs.Refusals.{checked_numbers, Checked}
 use Rattle.refusals.specs.Tests.{length_test, if_accepted, Test, first_of, first_numbers}
 use Rattle.refusals.specs.declared.Refusal.{Refusal}
 use Rattle.refusals.specs.declared.Refusal.TheVariants.{ShortCredits}
-use Rattle.refusals.specs.declared.Checked.{Checked}
 use Rattle.grid_cover.specs.Cover.{names, lowest_covering}
 use Rattle.measure_intake.specs.Intake.{measure_tests, work_after, MeasureAccepts, MeasureRefuses}
 use Rattle.buffer.specs.Wrote.{in_front}

@@ -5,9 +5,9 @@
 // `measure_intake`, `crediting_carving` and `grid_runs`.
 #![tactic(auto)]
 
-ghost use Rattle.std.specs.Prelude.{◌≡◌, ◌+◌, ◌*◌, ◌/◌, ◌≤◌, ◌<◌, length, replicate};
-ghost use Rattle.job.specs.Job.{job_of, shot_count};
-ghost use Rattle.grid.specs.Grid.{Holds};
+ghost use Rattle.std.specs.Prelude.{◌≡◌, ◌+◌, ◌*◌, ◌/◌, ◌≤◌, ◌<◌, length};
+ghost use Rattle.job.specs.Job.{shot_count};
+ghost use Rattle.job.specs.Seen.{seen};
 ghost use Rattle.crediting_carving.specs.Blocks.{added, size_of, RoomFor};
 ghost use Rattle.crediting.specs.Credits.{credits_of, CreditCall};
 ghost use Rattle.crediting.specs.GridBlocks.{interval_of, block_of, cell_credits};
@@ -15,11 +15,12 @@ ghost use Rattle.buffer.specs.Wrote.{in_front};
 
 use crediting_carving::blocks::{Block, Span};
 use crediting_carving::carve;
+use grid::indexed::Indexed;
 use grid::intervals::cells_of;
 use grid_runs::run_of;
-use job::shot;
+use job::Job;
 use measure_intake::indexed;
-use refusals::{Checked, Refusal};
+use refusals::Refusal;
 
 // The unit cells of an interval of an axis.
 fn interval(width: u16, number: usize) -> Span
@@ -38,12 +39,12 @@ fn interval(width: u16, number: usize) -> Span
 fn block_of(field: u16, grid: u16, cell: usize) -> Block
     requires le_grid { 1 ≤ grid }
     requires grid_bound { grid ≤ 64 }
-    requires grid_bound_2 { grid * (field / grid) ≤ 1024 }
+    requires field_bound { grid * (field / grid) ≤ 1024 }
     requires cell_bound { cell < grid * grid * grid }
     ensures { result ≡ block_of field grid cell }
 {
     let width = field / grid;
-    let n = grid as usize;
+    let n = usize::from(grid);
     Block {
         x: interval(width, cell / n / n),
         y: interval(width, cell / n % n),
@@ -52,77 +53,49 @@ fn block_of(field: u16, grid: u16, cell: usize) -> Block
 }
 
 // Credits the unit cells of a grid cell.
-fn credit_cell(
-    field: u16,
-    edge: u16,
-    grid: u16,
-    coords: &[u16],
-    work: &[u32],
-    cell: usize,
-    credits: &mut [u32],
-)
-    requires holds { Holds (job_of field edge grid coords.now) work.now }
-    requires cell_bound { cell < grid * grid * grid }
-    requires coords_in_bounds { shot_count coords.now ≤ length credits.old }
-    requires room_for { RoomFor (size_of (block_of field grid cell)) credits.old }
-    ensures { credits.new ≡ added credits.old (cell_credits (job_of field edge grid coords.now) cell) }
+fn credit_cell(list: Indexed, cell: usize, credits: &mut [u32])
+    requires cell_bound { cell < list.job.grid * list.job.grid * list.job.grid }
+    requires shots_placed { shot_count list.job.coords.now ≤ length credits.old }
+    requires room_for { RoomFor (size_of (block_of list.job.field list.job.grid cell)) credits.old }
+    ensures { credits.new ≡ added credits.old (cell_credits (seen list.entry.job) cell) }
 {
-    let run = run_of(work, cells_of(grid), cell);
-    carve(coords, edge, run, block_of(field, grid, cell), credits);
+    let job = list.job;
+    let run = run_of(list.work, cells_of(job.grid), cell);
+    let block = block_of(job.field, job.grid, cell);
+    carve(job.coords, job.edge, run, block, credits);
 }
 
-// Sets every place to 0.
-fn clear(credits: &mut [u32])
-    ensures { credits.new ≡ replicate (length credits.old) 0 }
+// Puts in the credits of a list with its index: a place a shot.
+fn credit_shots(list: Indexed, credits: &mut [u32])
+    requires shots_placed { shot_count list.job.coords.now ≡ length credits.old }
+    ensures { let job = list.entry.job in credits.new ≡ credits_of job.field job.edge job.coords.now }
 {
-    for i in 0..credits.len() {
-        credits[i] = 0;
-    }
-}
-
-// Puts in the credits of a list whose index the work slice holds: a place a shot.
-fn credit_shots(field: u16, edge: u16, grid: u16, coords: &[u16], work: &[u32], credits: &mut [u32])
-    requires holds { Holds (job_of field edge grid coords.now) work.now }
-    requires coords_value { shot_count coords.now ≡ length credits.old }
-    ensures { credits.new ≡ credits_of field edge coords.now }
-{
-    clear(credits);
-    for cell in 0..cells_of(grid) {
-        credit_cell(field, edge, grid, coords, work, cell, credits);
+    credits.fill(0);
+    for cell in 0..cells_of(list.job.grid) {
+        credit_cell(list, cell, credits);
     }
 }
 
 // Puts them into the first places of a slice that has a place for each shot; later places keep their values.
-fn store(field: u16, edge: u16, grid: u16, coords: &[u16], work: &[u32], credits: &mut [u32])
-    requires holds { Holds (job_of field edge grid coords.now) work.now }
-    requires coords_in_bounds { shot_count coords.now ≤ length credits.old }
-    ensures { credits.new ≡ in_front (credits_of field edge coords.now) credits.old }
+fn store(list: Indexed, credits: &mut [u32])
+    requires shots_placed { shot_count list.job.coords.now ≤ length credits.old }
+    ensures { let job = list.entry.job in credits.new ≡ in_front (credits_of job.field job.edge job.coords.now) credits.old }
 {
-    let shots = shot::count(coords);
-    credit_shots(field, edge, grid, coords, work, &mut credits[..shots]);
+    let shots = list.job.count();
+    credit_shots(list, &mut credits[..shots]);
 }
 
 // Credits the cells that a list covers, each to its lowest covering shot, and leaves the list's index in the work slice. Refusals as in
 // measuring, and then 16, which leaves the finished index in the work slice and the credits as lent.
-pub fn credit(
-    field: u16,
-    edge: u16,
-    grid: u16,
-    coords: &[u16],
-    work: &mut [u32],
-    credits: &mut [u32],
-) -> Checked
-    ensures { CreditCall (job_of field edge grid coords.now) work.old credits.old
+pub fn credit(job: Job, work: &mut [u32], credits: &mut [u32]) -> Result<(), Refusal>
+    ensures { CreditCall (seen job.entry) work.old credits.old
         result work.new credits.new }
 {
-    let checked = indexed(field, edge, grid, coords, work);
-    let Checked::Accepted = checked else {
-        return checked;
-    };
-    let shots = shot::count(coords);
+    indexed(job, work)?;
+    let shots = job.count();
     if credits.len() < shots {
-        return Checked::Refused(Refusal::ShortCredits { shots: shots });
+        return Err(Refusal::ShortCredits { shots });
     }
-    store(field, edge, grid, coords, work, credits);
-    Checked::Accepted
+    store(Indexed { job, work }, credits);
+    Ok(())
 }

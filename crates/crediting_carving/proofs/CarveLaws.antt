@@ -1,26 +1,31 @@
 -- The credits of a block: nothing where no shot of the run meets it; else the cells that the first such shot covers of it are that shot's,
 -- and those of the six parts around them are credited by the shots after it.
 use mathlib.Core.Path.{◌≡◌, refl, sym, ap, ◌∙◌}
-use mathlib.Core.Bool.{Bool, true, false, cond}
-use mathlib.Core.Option.{some}
-use mathlib.Core.List.{List}
-use Prim.Native.Nat.{ℕ, suc, ◌+◌, ◌-◌, ◌≤◌, ◌<◌}
-use native.Mathlib.Numerals.{add-one}
+use mathlib.Core.Bool.{Bool, true, false, cond, not}
+use Rattle.std.specs.Prelude.{Option, Some, None, unwrap_or}
+use Rattle.std.specs.List.{position, position_or_len}
+use mathlib.Core.List.{List, [], ◌∷◌}
+use Prim.Native.Nat.{ℕ, zero, suc, ◌+◌, ◌-◌, ◌≤◌, ◌<◌}
+use native.Mathlib.Numerals.{add-one, one-add}
 use native.Mathlib.Omega.{arith}
-use lib.Dec.{eqb}
+use lib.Dec.{eqb, ltb}
+use borrow.Author.Tests.{ltb-false}
 use lib.ListN.{length, get_or, take, drop, length-drop}
 use lib.Seq.{take_all}
 use Rattle.ground.specs.Sums.{total}
 use Rattle.ground.specs.FirstPlace.{FirstPlace}
+use Rattle.ground.proofs.SearchLaws.{search-none, search-all, place_here, place-later}
 use Rattle.ground.proofs.Conds.{cond-most}
 use Rattle.job.specs.Job.{shot_count}
 use Rattle.grid_cover.specs.Cover.{first_covering, names}
 use Rattle.grid_cover.proofs.CoverLaws.{rest-next, rest_decides, rest-found, rest-none}
 use Rattle.ground.proofs.TotalLaws.{total-agree, total-up, total-front}
 use Rattle.crediting_carving.specs.declared.blocks.Block.{Block}
-use Rattle.crediting_carving.specs.Blocks.{count_in, size_of, credits_in, added, only, RoomFor, InBlock, Small, Ordered, empty_block, meets_block, Meets, FirstMeeting, shared_block, part_of}
+use Rattle.crediting_carving.specs.declared.blocks.Side.{Side}
+use Rattle.crediting_carving.specs.declared.blocks.Side.TheVariants.{BeforeX, AfterX, BeforeY, AfterY, BeforeZ, AfterZ}
+use Rattle.crediting_carving.specs.Blocks.{count_in, size_of, credits_in, added, only, RoomFor, InBlock, Small, Ordered, empty_block, meets_block, Meets, FirstMeeting, shared_block, place_of, part_of}
 use Rattle.crediting_carving.proofs.BlockLaws.{Inside, count-agree, count-false, count_most, count-parts}
-use Rattle.crediting_carving.proofs.MeetLaws.{none_in, missed-bare, met-shot, shared-inside, shared-ordered, shared-small, shared-covered, inside-in, part-bare, part_in, part_small}
+use Rattle.crediting_carving.proofs.MeetLaws.{missed-bare, met-shot, shared-inside, shared-ordered, shared-small, shared-covered, inside-in, part-bare, part_in, part_small}
 use Rattle.crediting_carving.proofs.AddedLaws.{added-keeps, added_none, added-agree, added_more, room-less, room-added}
 
 -- the credits of the first parts of a block around one in it
@@ -46,11 +51,38 @@ module _ (E : ℕ) (coords : List ℕ) (s : ℕ) (b : Block) where
     pub core-room : Meets E coords s b → {n : ℕ} → n ≡ size_of c → {l : List ℕ} → RoomFor (size_of b) l → RoomFor n l
     core-room m k r = room-less _ _ _ (omega (arith, size-core k, shared-less m)) r
 
-    pub core-credited : {n : ℕ} → n ≡ size_of c → (l : List ℕ) {m : List ℕ} → m ≡ added l (only s n) → m ≡ added l (only s (size_of (shared_block E coords s b)))
-    core-credited k l e = e ∙ ap (λ (n : ℕ). added l (only s n)) (size-core k)
-
   pub core-counted : Meets E coords s b → Small b → {c : Block} → c ≡ shared_block E coords s b → Ordered c × Small c
   core-counted m h is = (core-ordered is m, core-small is m h)
+
+-- ---- the first place of a list that passes a test
+
+module _ (f : ℕ → Bool) where
+  first_place : (l : List ℕ) → FirstPlace (λ i. f (get_or l i 0)) 0 (length l) (position_or_len f l)
+  first_place [] = search-all (search-none (omega arith)) (omega arith)
+  first_place (a ∷ l) = one (f a) refl (first_place l)
+    where
+      one : (t : Bool) → f a ≡ t → FirstPlace (λ i. f (get_or l i 0)) 0 (length l) (position_or_len f l) → FirstPlace (λ i. f (get_or (a ∷ l) i 0)) 0 (suc (length l)) (cond (not t) (1 + position_or_len f l) 0)
+      one true e h = place_here (omega arith) e
+      one false e h = rw one-add (place-later (λ i. f (get_or (a ∷ l) i 0)) e h)
+
+  pub position-place : (l : List ℕ) {o : Option ℕ} → o ≡ position f l → FirstPlace (λ i. f (get_or l i 0)) 0 (length l) (unwrap_or o (length l))
+  position-place l is = rw is (go (ltb (position_or_len f l) (length l)) refl)
+    where
+      go : (t : Bool) → ltb (position_or_len f l) (length l) ≡ t → FirstPlace (λ i. f (get_or l i 0)) 0 (length l) (unwrap_or (cond t (Some (position_or_len f l)) None) (length l))
+      go true e = first_place l
+      go false e =
+          let k : position_or_len f l ≡ length l = omega (arith, (first_place l).within, ltb-false (position_or_len f l) (length l) e) in
+          rw k at (first_place l)
+
+-- the sides in their order
+pub side-place : (i : ℕ) (d : Side) → i < 6 → place_of (get_or (BeforeX ∷ AfterX ∷ BeforeY ∷ AfterY ∷ BeforeZ ∷ AfterZ ∷ []) i d) ≡ i
+side-place zero d h = refl
+side-place (suc zero) d h = refl
+side-place (suc (suc zero)) d h = refl
+side-place (suc (suc (suc zero))) d h = refl
+side-place (suc (suc (suc (suc zero)))) d h = refl
+side-place (suc (suc (suc (suc (suc zero))))) d h = refl
+side-place (suc (suc (suc (suc (suc (suc i)))))) d h = absurd (omega arith)
 
 -- ---- the first shot that meets a block
 
@@ -58,14 +90,6 @@ module _ (E : ℕ) (coords run : List ℕ) (b : Block) where
   -- whether the shot at a place of the run meets the block
   abbrev pub meets_at : ℕ → Bool
   meets_at n = meets_block E coords (get_or run n 0) b
-
-  -- a block without cells
-  pub none-meets : {t : Bool} → t ≡ empty_block b → t ≡ true → FirstMeeting E coords run b (length run)
-  none-meets is e = record {
-    within = omega arith;
-    rest_decides = λ i j k l. absurd (none_in b (sym is ∙ e) i j k l);
-    found = λ h. absurd (omega (arith, h));
-  }
 
   -- one with cells: no shot before the place that a search finds covers one of them
   pub first-meets : {t : Bool} → t ≡ empty_block b → t ≡ false → {n : ℕ} → FirstPlace meets_at 0 (length run) n → FirstMeeting E coords run b n
@@ -97,7 +121,7 @@ module _ (E : ℕ) (coords run : List ℕ) (b : Block) where
     core-inside = shared-inside E coords (get_or run n 0) b meeting
 
     -- the cells that it covers are its own
-    core-names : (i j k : ℕ) → InBlock core i j k → first_covering E coords run i j k ≡ some (get_or run n 0)
+    core-names : (i j k : ℕ) → InBlock core i j k → first_covering E coords run i j k ≡ Some (get_or run n 0)
     core-names i j k l =
         sym (rest-found E coords run i j k n h (shared-covered E coords (get_or run n 0) b (met-shot E coords (get_or run n 0) b meeting) i j k l) (found.rest_decides i j k (inside-in b core core-inside i j k l)))
 

@@ -1,6 +1,6 @@
--- Which shots meet a block: the tests one by one, and what they say of the cells of the block.
+-- Which shots meet a block, and what that says of the cells of the block.
 use mathlib.Core.Path.{◌≡◌, sym, ◌∙◌}
-use mathlib.Core.Bool.{Bool, true, false, ◌&&◌, ◌||◌, and-false, true≢false}
+use mathlib.Core.Bool.{true, false, ◌&&◌, ◌||◌, and-false, true≢false}
 use mathlib.Core.List.{List}
 use Prim.Native.Nat.{ℕ, zero, suc, ◌+◌, ◌≤◌, ◌<◌, min, max}
 use native.Mathlib.Omega.{arith}
@@ -17,18 +17,7 @@ use Rattle.crediting_carving.proofs.BlockLaws.{SpanInside, Inside}
 
 -- ---- a block without cells
 
-module _ (b : Block) {x : Bool} (x_is : x ≡ empty_span b.x) where
-  pub none-on-x : x ≡ true → true ≡ empty_block b
-  none-on-x h = rw (← x_is, h)
-
-  module _ (some-x : x ≡ false) {y : Bool} (y_is : y ≡ empty_span b.y) where
-    pub none-on-y : y ≡ true → true ≡ empty_block b
-    none-on-y h = rw (← x_is, some-x, ← y_is, h)
-
-    pub none-by-z : y ≡ false → {z : Bool} → z ≡ empty_span b.z → z ≡ empty_block b
-    none-by-z h z_is = rw (← x_is, some-x, ← y_is, h, ← z_is)
-
--- such a block has no cell
+-- a block that is empty has no cell
 pub none_in : (b : Block) → empty_block b ≡ true → (i j k : ℕ) → InBlock b i j k → ⊥
 none_in b e i j k h = true≢false (sym e ∙ rw (some_in b.x i h.x, some_in b.y j h.y, some_in b.z k h.z))
   where
@@ -36,32 +25,6 @@ none_in b e i j k h = true≢false (sym e ∙ rw (some_in b.x i h.x, some_in b.y
     some_in s i l = lt-leb s.to s.from (omega (arith, l.low, l.high))
 
 -- ---- a shot that meets a block
-
-pub meet-not : (e a : ℕ) (s : Span) → s.to ≤ a → false ≡ meets_span e a s
-meet-not e a s h = rw (le-ltb a s.to h)
-
-pub meet-if : (e a : ℕ) (s : Span) → a < s.to → ltb s.from (a + e) ≡ meets_span e a s
-meet-if e a s h = rw (lt-ltb a s.to h)
-
-module _ (E : ℕ) (coords : List ℕ) (s : ℕ) (b : Block) where
-  pub meet-outside : shot_count coords ≤ s → false ≡ meets_block E coords s b
-  unfolding meets_block
-  meet-outside h = rw (le-ltb s (shot_count coords) h)
-
-  -- the coordinates and the edge of a shot, read one by one
-  module _ (h : s < shot_count coords) {edge x : ℕ} (is : edge ≡ edge_at E coords s) (x_is : x ≡ x_at coords s) where
-    pub meet-not-x : meets_span edge x b.x ≡ false → false ≡ meets_block E coords s b
-    unfolding meets_block
-    meet-not-x p = rw (lt-ltb s (shot_count coords) h, ← is, ← x_is, p)
-
-    module _ {y : ℕ} (y_is : y ≡ y_at coords s) (p : meets_span edge x b.x ≡ true) where
-      pub meet-not-y : meets_span edge y b.y ≡ false → false ≡ meets_block E coords s b
-      unfolding meets_block
-      meet-not-y q = rw (lt-ltb s (shot_count coords) h, ← is, ← x_is, ← y_is, p, q)
-
-      pub meet-by-z : {z : ℕ} → z ≡ z_at coords s → meets_span edge y b.y ≡ true → meets_span edge z b.z ≡ meets_block E coords s b
-      unfolding meets_block
-      meet-by-z z_is q = rw (lt-ltb s (shot_count coords) h, ← is, ← x_is, ← y_is, ← z_is, p, q)
 
 -- one that covers a cell of the block meets it
 span-meets : (e a : ℕ) (s : Span) (i : ℕ) → InSpan s i → spans e a i ≡ true → meets_span e a s ≡ true
@@ -118,10 +81,6 @@ module _ (E : ℕ) (coords : List ℕ) (s : ℕ) (b : Block) (m : Meets E coords
   pub shared-small : Small b → Small (shared_block E coords s b)
   shared-small h = let c = shared-inside in record { x_in = omega (arith, c.x.high, h.x_in); y_in = omega (arith, c.y.high, h.y_in); z_in = omega (arith, c.z.high, h.z_in) }
 
--- the coordinates, the edge and the spans, read one by one
-pub shared-is : (E : ℕ) (coords : List ℕ) (s : ℕ) (b : Block) {e x y z : ℕ} → e ≡ edge_at E coords s → x ≡ x_at coords s → y ≡ y_at coords s → z ≡ z_at coords s → {p q r : Span} → p ≡ shared_span e x b.x → q ≡ shared_span e y b.y → r ≡ shared_span e z b.z → record { x = p; y = q; z = r } ≡ shared_block E coords s b
-shared-is E coords s b e-is x_is y_is z_is p-is q-is r-is = rw (p-is, q-is, r-is, e-is, x_is, y_is, z_is)
-
 -- its cells are covered, and lie in the block
 span-covered : (e a : ℕ) (s : Span) (i : ℕ) → InSpan (shared_span e a s) i → spans e a i ≡ true
 span-covered e a s i l =
@@ -175,15 +134,6 @@ module _ (E : ℕ) (coords : List ℕ) (s : ℕ) (b : Block) (i j k : ℕ) where
   part-bare (suc (suc (suc zero))) l = off-y (bare-after (edge_at E coords s) (y_at coords s) b.y j l.y)
   part-bare (suc (suc (suc (suc zero)))) l = off-z (bare-before (edge_at E coords s) (z_at coords s) b.z k l.z)
   part-bare (suc (suc (suc (suc (suc n))))) l = off-z (bare-after (edge_at E coords s) (z_at coords s) b.z k l.z)
-
--- all that is none of the first five is the last
-pub part-last : (b c : Block) (side : ℕ) → 5 ≤ side → {s : Span} → s ≡ span_after b.z c.z → record { x = c.x; y = c.y; z = s } ≡ part_of b c side
-part-last b c zero h e = absurd (omega arith)
-part-last b c (suc zero) h e = absurd (omega arith)
-part-last b c (suc (suc zero)) h e = absurd (omega arith)
-part-last b c (suc (suc (suc zero))) h e = absurd (omega arith)
-part-last b c (suc (suc (suc (suc zero)))) h e = absurd (omega arith)
-part-last b c (suc (suc (suc (suc (suc n))))) h e = rw e
 
 -- and they lie in the block
 module _ (b c : Block) (h : Inside b c) where

@@ -7,6 +7,8 @@ use Rattle.job.specs.Job.{shot_count, x_at, y_at, z_at, edge_at}
 use Rattle.grid_cover.specs.Cover.{first_covering, names}
 use Rattle.crediting_carving.specs.declared.blocks.Span.{Span}
 use Rattle.crediting_carving.specs.declared.blocks.Block.{Block}
+use Rattle.crediting_carving.specs.declared.blocks.Side.{Side}
+use Rattle.crediting_carving.specs.declared.blocks.Side.TheVariants.{BeforeX, AfterX, BeforeY, AfterY, BeforeZ, AfterZ}
 
 -- ---- counting the cells of a block
 -- a sum over the cells of a span
@@ -120,3 +122,12 @@ part_of b c (suc (suc zero)) = record { x = c.x; y = span_before b.y c.y; z = b.
 part_of b c (suc (suc (suc zero))) = record { x = c.x; y = span_after b.y c.y; z = b.z }
 part_of b c (suc (suc (suc (suc zero)))) = record { x = c.x; y = c.y; z = span_before b.z c.z }
 part_of b c (suc (suc (suc (suc (suc n))))) = record { x = c.x; y = c.y; z = span_after b.z c.z }
+
+-- the place of a side among them
+abbrev pub place_of : Side → ℕ
+place_of BeforeX = 0
+place_of AfterX = 1
+place_of BeforeY = 2
+place_of AfterY = 3
+place_of BeforeZ = 4
+place_of AfterZ = 5

@@ -8,29 +8,30 @@
 
 pub mod blocks;
 
-ghost use Rattle.std.specs.Prelude.{◌≡◌, ◌≤◌, ◌<◌, length};
+ghost use Rattle.std.specs.Prelude.{◌≡◌, ◌≤◌, ◌<◌, length, unwrap_or, IfSome};
+ghost use Rattle.std.specs.List.{position};
 ghost use Rattle.job.specs.Job.{shot_count};
-ghost use Rattle.crediting_carving.specs.Blocks.{Meets, FirstMeeting, shared_block, size_of, Small, added, only, RoomFor, credits_in};
+ghost use Rattle.crediting_carving.specs.Blocks.{Meets, meets_block, FirstMeeting, shared_block, size_of, Small, added, only, RoomFor, credits_in};
 
-use crate::blocks::{Block, has_no_cell, part, shared, shot_meets, size};
+use crate::blocks::{Block, SIDES};
 
-// The place of the first shot of a run that meets a block, or the run's length; a block without cells is met by none.
-fn first_meeting(coords: &[u16], edge: u16, run: &[u32], block: Block) -> usize
-    ensures { FirstMeeting edge coords.now run.now block result }
+// The place of the first shot of a run that meets a block, whether that has cells or not.
+fn first_met(coords: &[u16], edge: u16, run: &[u32], block: Block) -> Option<usize>
+    ensures { result ≡ position (λ s. meets_block edge coords.now s block) run.now }
 {
-    if has_no_cell(block) {
-        return run.len();
+    run.iter()
+        .position(|&shot| block.is_met(coords, edge, shot))
+}
+
+// The place of the first shot of a run that meets a block; a block without cells is met by none.
+fn first_meeting(coords: &[u16], edge: u16, run: &[u32], block: Block) -> Option<usize>
+    ensures place { FirstMeeting edge coords.now run.now block (unwrap_or result (length run.now)) }
+    ensures in_run { IfSome result (λ n. n < length run.now) }
+{
+    if block.is_empty() {
+        return None;
     }
-    let mut n = 0;
-    loop {
-        if n == run.len() {
-            break n;
-        }
-        if shot_meets(coords, edge, run[n], block) {
-            break n;
-        }
-        n += 1;
-    }
+    first_met(coords, edge, run, block)
 }
 
 // Credits a shot with so many cells more.
@@ -39,8 +40,7 @@ fn add(credits: &mut [u32], shot: u32, cells: u32)
     requires room_for { RoomFor cells credits.old }
     ensures { credits.new ≡ added credits.old (only shot cells) }
 {
-    let place = shot as usize;
-    credits[place] = credits[place] + cells;
+    credits[shot as usize] += cells;
 }
 
 // Credits a shot that meets a block with the cells that it covers of it, and gives the block of these.
@@ -53,8 +53,8 @@ fn credit_shared(coords: &[u16], edge: u16, shot: u32, block: Block, credits: &m
     ensures credits_after { credits.new ≡ added credits.old
         (only shot (size_of (shared_block edge coords.now shot block))) }
 {
-    let core = shared(coords, edge, shot, block);
-    add(credits, shot, size(core));
+    let core = block.shared(coords, edge, shot);
+    add(credits, shot, core.size());
     core
 }
 
@@ -67,14 +67,12 @@ pub fn carve(coords: &[u16], edge: u16, run: &[u32], block: Block, credits: &mut
     requires room_for { RoomFor (size_of block) credits.old }
     ensures { credits.new ≡ added credits.old (credits_in edge coords.now run.now block) }
 {
-    let place = first_meeting(coords, edge, run, block);
-    if place == run.len() {
+    let Some(place) = first_meeting(coords, edge, run, block) else {
         return;
-    }
+    };
     let core = credit_shared(coords, edge, run[place], block, credits);
-    let next = place + 1;
-    let rest = &run[next..];
-    for side in 0..6 {
-        carve(coords, edge, rest, part(block, core, side), credits);
+    let rest = &run[place + 1..];
+    for side in SIDES {
+        carve(coords, edge, rest, block.part(core, side), credits);
     }
 }

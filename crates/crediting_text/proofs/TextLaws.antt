@@ -10,13 +10,10 @@ use Rattle.buffer.specs.Wrote.{Wrote}
 use Rattle.buffer.proofs.WroteLaws.{wrote_none, wrote_as, wrote_then}
 use Rattle.ground.specs.Sums.{join}
 use Rattle.job.specs.Job.{Job, job_of, shot_count, first_shots}
+use Rattle.job.specs.declared.Stored.{Stored}
 use Rattle.refusals.specs.declared.Refusal.{Refusal}
-use Rattle.refusals.specs.declared.Checked.{Checked}
-use Rattle.refusals.specs.declared.Checked.TheVariants.{Accepted, Refused}
 use Rattle.shotfile_reader.specs.Files.{File, file, file_in}
-use Rattle.shotfile_reader.specs.Calls.{ReadCall}
-use Rattle.shotfile_reader.specs.declared.ReadAnswer.{ReadAnswer}
-use Rattle.shotfile_reader.specs.declared.ReadAnswer.TheVariants.{Read, Refused as Unread}
+use Rattle.shotfile_reader.specs.Calls.{ReadCall, ReadAnswer}
 use Rattle.shotfile_reader.proofs.Accepted.{accepted-file, refused-file}
 use Rattle.ground.proofs.JoinLaws.{join-next}
 use Rattle.text_parts.proofs.LineLaws.{digits-length, line-length}
@@ -27,6 +24,8 @@ use Rattle.crediting.specs.Credits.{credits_of, CreditCall}
 use Rattle.crediting.proofs.FieldLaws.{credits-long}
 use Rattle.crediting.proofs.CreditTheorems.{credit-holds, credits-are}
 use Rattle.crediting_text.specs.Credited.{credit_line, credit_lines, credited_text, list_text, file_text, file_credits, ListCredited, FileCredited}
+use Rattle.refusals.specs.Refusals.{Checked}
+use Rattle.std.specs.Prelude.{Ok, Err}
 
 -- ---- the lines
 
@@ -66,11 +65,11 @@ module _ {job : Job} {work credits work' credits' : List ℕ} {c : Checked} (cal
   unfolding list_text
   list-is w = record { text = wrote_as (ap (λ d. credited_text d (credits_of F E coords)) call.answer) w; index = call.index; credited = call.credited }
 
-  pub list-refused : (r : Refusal) → c ≡ Refused r → {n : ℕ} {out out' : List ℕ} → Wrote out out' 0 n (refusal_text r) → ListCredited job work credits out n work' credits' out'
+  pub list-refused : (r : Refusal) → c ≡ Err r → {n : ℕ} {out out' : List ℕ} → Wrote out out' 0 n (refusal_text r) → ListCredited job work credits out n work' credits' out'
   list-refused r e w = list-is (wrote_as (ap (λ d. credited_text d (credits_of F E coords)) (sym e)) w)
 
-  module _ (accepted : c ≡ Accepted) where
-    taken : CreditCall job work credits Accepted work' credits'
+  module _ (accepted : c ≡ Ok tt) where
+    taken : CreditCall job work credits (Ok tt) work' credits'
     taken = subst (λ d. CreditCall job work credits d work' credits') accepted call
 
     -- the shots' places hold their credits, and there are at most 4,096 shots
@@ -89,7 +88,7 @@ module _ {job : Job} {work credits work' credits' : List ℕ} {c : Checked} (cal
 -- ---- a file
 
 module _ {bytes coords coords' : List ℕ} {a : ReadAnswer} (read : ReadCall bytes coords a coords') where
-  pub file-uncredited : {n : ℕ} {work credits out out' : List ℕ} (r : Refusal) → a ≡ Unread r → Wrote out out' 0 n (refusal_text r) → FileCredited bytes coords work credits out n coords' work credits out'
+  pub file-uncredited : {n : ℕ} {work credits out out' : List ℕ} (r : Refusal) → a ≡ Err r → Wrote out out' 0 n (refusal_text r) → FileCredited bytes coords work credits out n coords' work credits out'
   file-uncredited {n} {work} {credits} r e w =
       let k = sym (refused-file read e).0 in
       record {
@@ -99,10 +98,10 @@ module _ {bytes coords coords' : List ℕ} {a : ReadAnswer} (read : ReadCall byt
         credited = ap (λ (f : File). file_credits f (length work) credits) k;
       }
 
-  pub file-credited : {n : ℕ} {work work' credits credits' list out out' : List ℕ} (F E G shots : ℕ) → a ≡ Read F E G shots → list ≡ first_shots shots coords'
-      → ListCredited (job_of F E G list) work credits out n work' credits' out' → FileCredited bytes coords work credits out n coords' work' credits' out'
-  file-credited {n} {work} {work'} {credits} {list = list} F E G shots e l q =
-      let is : file (job_of F E G list) ≡ file_in (shot_count coords) bytes = ap (λ (c : List ℕ). file (job_of F E G c)) l ∙ sym (accepted-file read e).is in
+  pub file-credited : {n : ℕ} {work work' credits credits' out out' : List ℕ} {stored : Stored} {job : Job} → a ≡ Ok stored → job ≡ job_of stored.field stored.edge stored.grid (first_shots stored.shots coords')
+      → ListCredited job work credits out n work' credits' out' → FileCredited bytes coords work credits out n coords' work' credits' out'
+  file-credited {n} {work} {work'} {credits} {job = job} e l q =
+      let is : file job ≡ file_in (shot_count coords) bytes = ap file l ∙ sym (accepted-file read e).is in
       record {
         text = wrote_as (ap (λ (f : File). file_text f (length work) (length credits)) is) q.text;
         coordinates = read.coordinates;

@@ -1,10 +1,8 @@
 -- What the program `credits` prints for a shot file, and what is in the lent slices then: docs/SCOPE.md, 'Credits'.
-use Rattle.std.specs.Prelude.{◌≡◌, List, ℕ, length, get_or}
+use Rattle.std.specs.Prelude.{◌≡◌, List, ℕ, length, get_or, Ok, Err}
 use Rattle.buffer.specs.Wrote.{Wrote}
 use Rattle.ground.specs.Sums.{join}
 use Rattle.job.specs.Job.{Job, shot_count}
-use Rattle.refusals.specs.declared.Checked.{Checked}
-use Rattle.refusals.specs.declared.Checked.TheVariants.{Accepted, Refused}
 use Rattle.shotfile_reader.specs.Files.{File, file, refused, file_in}
 use Rattle.shotfile_reader.specs.Calls.{read_coords}
 use Rattle.measure_intake.specs.Intake.{work_after}
@@ -12,6 +10,7 @@ use Rattle.text_parts.specs.Decimal.{decimal, line}
 use Rattle.text_refusal.specs.RefusalLine.{refusal_text}
 use Rattle.quoting_text.specs.Quoting.{index_after}
 use Rattle.crediting.specs.Credits.{credits_of, credit_checked, credits_after}
+use Rattle.refusals.specs.Refusals.{Checked}
 
 -- a shot's number, a space, its credit, and the end of the line
 abbrev pub credit_line : ℕ → ℕ → List ℕ
@@ -23,8 +22,8 @@ credit_lines credits = join (length credits) λ s. credit_line s (get_or credits
 
 -- the credits of a list, or its refusal
 abbrev pub credited_text : Checked → List ℕ → List ℕ
-credited_text Accepted credits = credit_lines credits
-credited_text (Refused r) credits = refusal_text r
+credited_text (Ok tt) credits = credit_lines credits
+credited_text (Err r) credits = refusal_text r
 
 -- with so many work entries and credit places
 unfoldable pub list_text : Job → ℕ → ℕ → List ℕ

@@ -4,13 +4,11 @@
 #![tactic(auto)]
 
 ghost use Rattle.std.specs.Prelude.{◌+◌, ◌*◌, ◌≤◌, length};
-ghost use Rattle.job.specs.Job.{job_of};
+ghost use Rattle.job.specs.Seen.{seen};
 ghost use Rattle.buffer.specs.Wrote.{Wrote};
 ghost use Rattle.crediting_text.specs.Credited.{credit_line, credit_lines, ListCredited, FileCredited};
 
-use job::shot;
-use refusals::Checked;
-use shotfile_reader::ReadAnswer;
+use job::Job;
 use text_parts::{put_byte, put_digits};
 
 // Puts the line of a shot.
@@ -18,10 +16,11 @@ fn put_credit(out: &mut [u8], at: usize, shot: usize, credit: u32) -> usize
     requires { at + 42 ≤ length out.old }
     ensures { Wrote out.old out.new at result (credit_line shot credit) }
 {
+    // Kept so: a `usize` has no `From` into `u64`, and `try_from` with a proof that it never fails is no plainer.
     let numbered = put_digits(out, at, 20, shot as u64);
-    let split = put_byte(out, numbered, 32);
-    let credited = put_digits(out, split, 20, credit as u64);
-    put_byte(out, credited, 10)
+    let split = put_byte(out, numbered, b' ');
+    let credited = put_digits(out, split, 20, u64::from(credit));
+    put_byte(out, credited, b'\n')
 }
 
 // Puts the lines of all shots at the front.
@@ -30,33 +29,25 @@ fn put_credits(out: &mut [u8], credits: &[u32]) -> usize
     ensures { Wrote out.old out.new 0 result (credit_lines credits.now) }
 {
     let mut next = 0;
-    for shot in 0..credits.len() {
-        next = put_credit(out, next, shot, credits[shot]);
+    for (shot, &credit) in credits.iter().enumerate() {
+        next = put_credit(out, next, shot, credit);
     }
     next
 }
 
 // Credits the cells of a list, and puts what is printed for it to the front.
-fn credit_list(
-    field: u16,
-    edge: u16,
-    grid: u16,
-    coords: &[u16],
-    work: &mut [u32],
-    credits: &mut [u32],
-    out: &mut [u8],
-) -> usize
+fn credit_list(job: Job, work: &mut [u32], credits: &mut [u32], out: &mut [u8]) -> usize
     requires { 172032 ≤ length out.old }
-    ensures { ListCredited (job_of field edge grid coords.now) work.old credits.old
+    ensures { ListCredited (seen job.entry) work.old credits.old
         out.old result work.new credits.new out.new }
 {
-    let checked = crediting::credit(field, edge, grid, coords, work, credits);
+    let checked = crediting::credit(job, work, credits);
     match checked {
-        Checked::Accepted => {
-            let shots = shot::count(coords);
+        Ok(()) => {
+            let shots = job.count();
             put_credits(out, &credits[..shots])
         }
-        Checked::Refused(refusal) => text_refusal::refuse(out, refusal),
+        Err(refusal) => text_refusal::refuse(out, refusal),
     }
 }
 
@@ -75,15 +66,7 @@ pub fn credit_file(
 {
     let read = shotfile_reader::read(bytes, coords);
     match read {
-        ReadAnswer::Read {
-            field,
-            edge,
-            grid,
-            shots,
-        } => {
-            let list = shot::first(coords, shots);
-            credit_list(field, edge, grid, list, work, credits, out)
-        }
-        ReadAnswer::Refused(refusal) => text_refusal::refuse(out, refusal),
+        Ok(stored) => credit_list(stored.job(coords), work, credits, out),
+        Err(refusal) => text_refusal::refuse(out, refusal),
     }
 }

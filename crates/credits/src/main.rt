@@ -5,32 +5,31 @@
 
 ghost use Rattle.std.specs.Prelude.{◌≤◌, length};
 
-use input::Filled;
+use output::Program;
 use std::process::ExitCode;
-use std::rt::{Stderr, Stdout};
 
 // Prints the credits of a file, by way of a buffer.
-fn print_by(stdout: Stdout, stderr: Stderr, bytes: &[u8], out: &mut [u8]) -> ExitCode
+fn print_by(program: Program, bytes: &[u8], out: &mut [u8]) -> ExitCode
     requires { 172032 ≤ length out.old }
 {
     let mut coords = [0u16; 12288];
     let mut work = [0u32; 16384];
     let mut credits = [0u32; 4096];
     let n = crediting_text::credit_file(bytes, &mut coords, &mut work, &mut credits, out);
-    output::write_text(stdout, stderr, b"credits", &out[..n])
+    program.write_text(&out[..n])
 }
 
 // Prints the credits of a file.
-fn print_credits(stdout: Stdout, stderr: Stderr, bytes: &[u8]) -> ExitCode {
+fn print_credits(program: Program, bytes: &[u8]) -> ExitCode {
     let mut out = [0u8; 172032];
-    print_by(stdout, stderr, bytes, &mut out)
+    print_by(program, bytes, &mut out)
 }
 
 fn main(rt: HostRuntime) -> ExitCode {
+    let program = Program::new(b"credits", &rt);
     let mut bytes = [0u8; 28680];
-    let filled = input::take(&rt, rt.stdin(), rt.stderr(), b"credits", &mut bytes);
-    match filled {
-        Filled::Bytes(n) => print_credits(rt.stdout(), rt.stderr(), &bytes[..n]),
-        Filled::Failed => ExitCode::SUCCESS,
+    match input::take(&rt, program, &mut bytes) {
+        Some(n) => print_credits(program, &bytes[..n]),
+        None => ExitCode::SUCCESS,
     }
 }

@@ -9,11 +9,11 @@ use Rattle.buffer.specs.Wrote.{in_front}
 use Rattle.refusals.specs.declared.Refusal.{Refusal}
 use Rattle.job.specs.Job.{Job, job_of, shot_count, first_shots}
 use Rattle.shotfile_reader.specs.Files.{File, file, refused}
-use Rattle.shotfile_reader.specs.declared.ReadAnswer.{ReadAnswer}
-use Rattle.shotfile_reader.specs.declared.ReadAnswer.TheVariants.{Read, Refused as Unread}
+use Rattle.std.specs.Prelude.{Ok, Err}
+use Rattle.job.specs.declared.Stored.{Stored}
+use Rattle.shotfile_reader.specs.Calls.{ReadAnswer}
 use Rattle.shotfile_reader.proofs.Accepted.{FileRead, stored-list, stored-none}
-use Rattle.shotfile_writer.specs.declared.WriteAnswer.{WriteAnswer}
-use Rattle.shotfile_writer.specs.declared.WriteAnswer.TheVariants.{Written, Refused}
+use Rattle.shotfile_writer.specs.Calls.{WriteAnswer}
 use Rattle.shotfile_writer.specs.Files.{file_of}
 use Rattle.shotfile_writer.specs.Calls.{WriteCall}
 use Rattle.shotfile_writer.proofs.Accepted.{AcceptedList, accepted-list}
@@ -29,10 +29,10 @@ module _ {bytes coords coords' : List ℕ} {a : ReadAnswer} (read : VoxCall byte
   vox-read : FileRead (vox_in (shot_count coords) bytes) coords a coords'
   vox-read = record { answer = read.answer; coordinates = read.coordinates; fits = vox-fits (shot_count coords) bytes }
 
-  pub voxels-there : {F E G shots : ℕ} → a ≡ Read F E G shots → shots ≤ shot_count coords'
+  pub voxels-there : {list : Stored} → a ≡ Ok list → list.shots ≤ shot_count coords'
   voxels-there e = let s = stored-list (vox_in (shot_count coords) bytes) vox-read e in omega (arith, s.same_length, s.room)
 
-  pub file-undrawn : {lent : List ℕ} (r : Refusal) → a ≡ Unread r → FileDrawn bytes coords lent (Refused r) coords' lent
+  pub file-undrawn : {lent : List ℕ} (r : Refusal) → a ≡ Err r → FileDrawn bytes coords lent (Err r) coords' lent
   file-undrawn {lent} r e =
       let k = sym (stored-none (vox_in (shot_count coords) bytes) vox-read e).0 in
       record {
@@ -42,10 +42,11 @@ module _ {bytes coords coords' : List ℕ} {a : ReadAnswer} (read : VoxCall byte
         shot_file = ap (λ (f : File). drawn_after f lent) k;
       }
 
-  pub file-drawn : {lent lent' list : List ℕ} {w : WriteAnswer} (F E G shots : ℕ) → a ≡ Read F E G shots → list ≡ first_shots shots coords'
-      → WriteCall (job_of F E G list) lent w lent' → FileDrawn bytes coords lent w coords' lent'
-  file-drawn {lent} {list = list} F E G shots e l q =
-      let is : file (job_of F E G list) ≡ vox_in (shot_count coords) bytes = ap (λ (c : List ℕ). file (job_of F E G c)) l ∙ sym (stored-list (vox_in (shot_count coords) bytes) vox-read e).is in
+  pub file-drawn : {lent lent' : List ℕ} {w : WriteAnswer} {list : Stored} {job : Job} → a ≡ Ok list → job ≡ job_of list.field list.edge list.grid (first_shots list.shots coords')
+      → WriteCall job lent w lent' → FileDrawn bytes coords lent w coords' lent'
+  file-drawn {lent} {list = list} {job = job} e l q =
+      let is : file job ≡ vox_in (shot_count coords) bytes =
+      ap file l ∙ sym (stored-list (vox_in (shot_count coords) bytes) vox-read e).is in
       record {
         answer = q.answer ∙ ap (λ (f : File). drawn_answer f (length lent)) is;
         numbers = q.numbers ∙ ap (λ (f : File). drawn_numbers f (length lent)) is;
@@ -66,14 +67,14 @@ module _ {bytes coords lent coords' lent' : List ℕ} {w : WriteAnswer} (call : 
 
   -- always, where the slice has room for the longest file: the shortest file of its list
   pub drawn-always : {job : Job} → vox_in (shot_count coords) bytes ≡ file job → 28679 ≤ length lent
-      → (w ≡ Written (length (file_of job))) × (lent' ≡ in_front (file_of job) lent)
+      → (w ≡ Ok (length (file_of job))) × (lent' ≡ in_front (file_of job) lent)
   drawn-always {job} is room =
       let v = (vox-list (shot_count coords) bytes is).valid in
       let k = (write-accepts (drawn-call is)).1 (v, omega (arith, file-most job v.few)) in
       let a = accepted-list (drawn-call is) k.1 in
-      (k.1 ∙ ap Written a.long, a.leaves)
+      (k.1 ∙ ap Ok a.long, a.leaves)
 
-  module _ {n : ℕ} (e : w ≡ Written n) where
+  module _ {n : ℕ} (e : w ≡ Ok n) where
     -- what is written is the file of an accepted drawing
     pub record DrawingOf : Type 0 where
       pub job : Job
@@ -83,7 +84,7 @@ module _ {bytes coords lent coords' lent' : List ℕ} {w : WriteAnswer} (call : 
     pub drawing-of : DrawingOf
     drawing-of = go (vox_in (shot_count coords) bytes) refl (sym e ∙ call.answer)
       where
-        go : (f : File) → vox_in (shot_count coords) bytes ≡ f → Written n ≡ drawn_answer f (length lent) → DrawingOf
+        go : (f : File) → vox_in (shot_count coords) bytes ≡ f → Ok n ≡ drawn_answer f (length lent) → DrawingOf
         go (file job) is k = record { job = job; is = is; written = accepted-list (drawn-call is) e }
         go (refused r) is k = let z : ◌≡◌ {A = ℕ} 0 1 = cc in absurd (omega arith)
 

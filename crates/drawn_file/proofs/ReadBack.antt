@@ -8,8 +8,8 @@ use lib.Seq.{take_at}
 use Rattle.job.specs.Job.{shot_count}
 use Rattle.shotfile_reader.specs.Files.{file_in}
 use Rattle.shotfile_reader.proofs.Accepted.{Fits}
-use Rattle.shotfile_writer.specs.declared.WriteAnswer.{WriteAnswer}
-use Rattle.shotfile_writer.specs.declared.WriteAnswer.TheVariants.{Written}
+use Rattle.shotfile_writer.specs.Calls.{WriteAnswer}
+use Rattle.std.specs.Prelude.{Ok}
 use Rattle.shotfile_writer.specs.Files.{file_of}
 use Rattle.shotfile.proofs.RoundTrip.{read-written}
 use Rattle.vox.specs.Vox.{vox_in}
@@ -19,7 +19,7 @@ use Rattle.drawn_file.proofs.DrawnLaws.{drawing-of}
 
 -- where the call answers that it wrote n bytes, a reader of shot files gets from them what `read_vox` gets from the drawing
 pub drawn-again : {bytes coords lent coords' lent' : List ℕ} {w : WriteAnswer} → FileDrawn bytes coords lent w coords' lent'
-    → {n : ℕ} → w ≡ Written n → file_in (shot_count coords) (take n lent') ≡ vox_in (shot_count coords) bytes
+    → {n : ℕ} → w ≡ Ok n → file_in (shot_count coords) (take n lent') ≡ vox_in (shot_count coords) bytes
 drawn-again {bytes} {coords} {lent} call {n} e =
     let d = drawing-of call e in
     let a = d.written in

@@ -5,25 +5,13 @@
 
 ghost use Rattle.drawn_file.specs.Drawn.{FileDrawn};
 
-use shotfile_reader::ReadAnswer;
-use shotfile_writer::WriteAnswer;
+use refusals::Refusal;
 
 // Reads a VOX file, and fills the front of a slice with the shortest shot file of its voxels, or says why not. The coordinates stay in the
 // other slice.
-pub fn write_drawing(bytes: &[u8], coords: &mut [u16], file: &mut [u8]) -> WriteAnswer
+pub fn write_drawing(bytes: &[u8], coords: &mut [u16], file: &mut [u8]) -> Result<usize, Refusal>
     ensures { FileDrawn bytes.now coords.old file.old result coords.new file.new }
 {
-    let read = vox::read_vox(bytes, coords);
-    match read {
-        ReadAnswer::Read {
-            field,
-            edge,
-            grid,
-            shots,
-        } => {
-            let list = job::shot::first(coords, shots);
-            shotfile_writer::write(field, edge, grid, list, file)
-        }
-        ReadAnswer::Refused(refusal) => WriteAnswer::Refused(refusal),
-    }
+    let list = vox::read_vox(bytes, coords)?;
+    shotfile_writer::write(list.job(coords), file)
 }

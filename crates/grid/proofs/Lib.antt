@@ -5,4 +5,3 @@ pub mod ShotLaws  -- the lowest interval that a span meets
 pub mod QuotientLaws  -- a table of quotients
 pub mod CellLaws  -- the runs of a valid list are few
 pub mod StartLaws  -- the starting places of a series of runs
-pub mod PutLaws  -- a number that is wanted or not, put at a place

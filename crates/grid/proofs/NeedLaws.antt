@@ -1,6 +1,9 @@
 -- The need, counted shot by shot: the pairs of a shot are the product of three spans.
-use Rattle.std.proofs.Common.{◌≡◌, ℕ, suc, ◌+◌, ◌-◌, ◌*◌, ◌/◌, ◌<◌, ◌≤◌, true, ◌&&◌, ltb, leb, List, sym, refl, ap, ◌∙◌, mul_comm, div-lt_iff_lt-mul, mul-le-mul, mul-pos, le-div_iff_mul-le, mul-one, div-le_self, div-mul-le_self, add-one, arith, le-leb}
-use native.Mathlib.Nat.{div-le_of_le-mul, div-eq_of_lt}
+use Rattle.std.proofs.Common.{◌≡◌, ℕ, suc, ◌+◌, ◌-◌, ◌*◌, ◌/◌, ◌<◌, ◌≤◌, true, ◌&&◌, ltb, leb, List, sym, refl, ap, ◌∙◌, mul_comm, div-lt_iff_lt-mul, mul-le-mul, mul-pos, le-div_iff_mul-le, mul-one, div-mul-le_self, add-one, arith, le-leb}
+use native.Mathlib.Nat.{div-le_of_le-mul, le-min}
+use native.Mathlib.Decide.{dec_lt}
+use Prim.Native.Nat.{min}
+use lib.ListN.{get_or}
 use Rattle.ground.specs.Sums.{total}
 use Rattle.ground.specs.Numbers.{bit}
 use Rattle.lattice.specs.Shots.{Shot}
@@ -40,23 +43,35 @@ module _ (s c e : ℕ) (h : 1 ≤ s) where
       high : (c - 1) / s ≤ g → c ≤ (g + 1) * s
       high l = omega (arith, (div-lt_iff_lt-mul {k = s} {x = c - 1} {y = g + 1} h).0 (omega arith), some)
 
-  pub first-before : first_met ≤ last_after
+  first-before : first_met ≤ last_after
   first-before = omega (arith, (le-div_iff_mul-le {k = s} {x = (c - 1) / s} {y = c + e} h).1 (omega (arith, div-mul-le_self (c - 1) s)))
 
-  pub first-most : (G : ℕ) → c + e ≤ G * s → first_met ≤ G
+  first-most : (G : ℕ) → c + e ≤ G * s → first_met ≤ G
   first-most G l = div-le_of_le-mul s {m = c - 1} {n = G} (omega (arith, mul_comm s G))
 
-  pub after-most : last_after ≤ c + e + 1
-  after-most = omega (arith, div-le_self (c + e) s)
-
-  pub span-inside : (G : ℕ) → G ≤ last_after → G - first_met ≡ span_of G s c e
+  span-inside : (G : ℕ) → G ≤ last_after → G - first_met ≡ span_of G s c e
   span-inside G l = sym (total-agree G _ _ (λ g k. ap bit (meets-from g)) ∙ count-inside first_met last_after G l)
 
-  pub span-past : (G : ℕ) → last_after ≤ G → last_after - first_met ≡ span_of G s c e
+  span-past : (G : ℕ) → last_after ≤ G → last_after - first_met ≡ span_of G s c e
   span-past G l = sym (total-agree G _ _ (λ g k. ap bit (meets-from g)) ∙ count_past first_met last_after G l)
 
-pub first-of-none : (s c : ℕ) → 1 ≤ s → c ≡ 0 → 0 ≡ (c - 1) / s
-first-of-none s c h e = rw e (sym (div-eq_of_lt {n = 0} {m = s} h))
+  -- both looked up in a table of quotients
+  module _ (G : ℕ) (l : c + e ≤ G * s) {table : List ℕ} (q : Quotients s (c + e + 1) table) where
+    first-is : get_or table (c - 1) 0 ≡ first_met
+    first-is = q.at (c - 1) (omega arith)
+
+    last-is : get_or table (c + e) 0 ≡ (c + e) / s
+    last-is = q.at (c + e) (omega arith)
+
+    pub first-read : get_or table (c - 1) 0 ≤ min (get_or table (c + e) 0 + 1) G
+    first-read = rw (first-is, last-is) (le-min first-before (first-most G l))
+
+    pub span-read : min (get_or table (c + e) 0 + 1) G - get_or table (c - 1) 0 ≡ span_of G s c e
+    span-read = rw (first-is, last-is) (go (dec_lt G last_after))
+      where
+        go : Dec (G < last_after) → min last_after G - first_met ≡ span_of G s c e
+        go (yes k) = let m : min last_after G ≡ G = omega arith in rw m (span-inside G (omega arith))
+        go (no k) = let m : min last_after G ≡ last_after = omega arith in rw m (span-past G (omega arith))
 
 -- ---- the grid cells that a shot belongs to
 

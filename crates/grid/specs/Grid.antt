@@ -1,10 +1,12 @@
 -- The uniform grid index as a function of a list: docs/SCOPE.md, 'The grid index'.
 -- An axis of side F is cut into G intervals of width F / G; the grid cell (gx, gy, gz) has the number (gx * G + gy) * G + gz.
-use Rattle.std.specs.Prelude.{◌≡◌, ℕ, zero, suc, ◌+◌, ◌-◌, ◌*◌, ◌/◌, ◌%◌, ◌≤◌, Bool, ◌&&◌, List, [], ◌∷◌, ◌++◌, length, take, drop, nat_le, slice_index, slice_index_or}
+use Rattle.std.specs.Prelude.{◌≡◌, ℕ, ◌+◌, ◌-◌, ◌*◌, ◌/◌, ◌%◌, ◌≤◌, Bool, ◌&&◌, List, [], ◌∷◌, ◌++◌, length, take, drop, nat_le, slice_index, slice_index_or}
 use Rattle.ground.specs.Sums.{total, join}
 use Rattle.ground.specs.Numbers.{bit, up_to, those}
 use Rattle.lattice.specs.Shots.{Shot}
 use Rattle.job.specs.Job.{Job, shot, shot_count, x_at, y_at, z_at, edge_at, Valid}
+use Rattle.grid.specs.declared.intervals.Axis.{Axis}
+use Rattle.grid.specs.declared.intervals.Axis.TheVariants.{X, Y, Z}
 
 -- interval g of width s, with both its ends, shares a point with the e units from c, with both their ends
 unfoldable pub meets : ℕ → ℕ → ℕ → ℕ → Bool
@@ -22,14 +24,14 @@ touches_cell F G cell t = touches (F / G) (cell / G / G) (cell / G % G) (cell % 
 abbrev pub shots_that : (Shot → Bool) → Job → List ℕ
 shots_that f job = those (λ i. f (shot job i)) (up_to (shot_count job.coords))
 
--- the coordinate of shot number i on an axis: 0 is x, 1 is y, 2 is z
-abbrev pub on_axis : ℕ → List ℕ → ℕ → ℕ
-on_axis zero coords i = x_at coords i
-on_axis (suc zero) coords i = y_at coords i
-on_axis (suc (suc n)) coords i = z_at coords i
+-- the coordinate of shot number i on an axis
+abbrev pub on_axis : Axis → List ℕ → ℕ → ℕ
+on_axis X coords i = x_at coords i
+on_axis Y coords i = y_at coords i
+on_axis Z coords i = z_at coords i
 
 -- shot number i meets interval g of an axis
-abbrev pub meets_on : ℕ → ℕ → ℕ → ℕ → List ℕ → ℕ → Bool
+abbrev pub meets_on : Axis → ℕ → ℕ → ℕ → List ℕ → ℕ → Bool
 meets_on axis s g E coords i = meets s g (on_axis axis coords i) (edge_at E coords i)
 
 -- how many grid cells there are

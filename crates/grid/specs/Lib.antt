@@ -1,2 +1,3 @@
 pub mod Quotients
 pub mod Grid
+pub mod HoldsOnce

@@ -6,26 +6,33 @@ ghost use Rattle.grid.specs.Grid.{meets, on_axis, meets_on, span_of};
 
 use job::shot;
 
+// The three axes of the field.
+#[derive(Clone, Copy)]
+pub enum Axis {
+    X,
+    Y,
+    Z,
+}
+
 // The number of grid cells.
 pub fn cells_of(grid: u16) -> usize
     requires { grid ≤ 64 }
     ensures { result ≡ grid * grid * grid }
 {
-    (grid as usize) * (grid as usize) * (grid as usize)
+    let side = usize::from(grid);
+    side * side * side
 }
 
-// The coordinate of a shot on an axis: 0 is x, 1 is y, 2 is z.
-fn on_axis(coords: &[u16], axis: u16, shot: usize) -> u16
+// The coordinate of a shot on an axis.
+fn on_axis(coords: &[u16], axis: Axis, shot: usize) -> u16
     requires { shot < shot_count coords.now }
     ensures { result ≡ on_axis axis coords.now shot }
 {
-    if axis == 0 {
-        return shot::x_of(coords, shot);
+    match axis {
+        Axis::X => shot::x_of(coords, shot),
+        Axis::Y => shot::y_of(coords, shot),
+        Axis::Z => shot::z_of(coords, shot),
     }
-    if axis == 1 {
-        return shot::y_of(coords, shot);
-    }
-    shot::z_of(coords, shot)
 }
 
 // Whether an interval of an axis shares a point with the edge of a shot, ends included. One comparison and no branch: where the edge ends
@@ -33,16 +40,16 @@ fn on_axis(coords: &[u16], axis: u16, shot: usize) -> u16
 fn interval_meets(width: u16, interval: u16, at: u16, edge: u16) -> bool
     ensures { result ≡ meets width interval at edge }
 {
-    let low = (interval as u32) * (width as u32);
-    let end = (at as u32) + (edge as u32);
-    std::num::wrapping_sub_u32(end, low) <= (width as u32) + (edge as u32)
+    let low = u32::from(interval) * u32::from(width);
+    let end = u32::from(at) + u32::from(edge);
+    end.wrapping_sub(low) <= u32::from(width) + u32::from(edge)
 }
 
-// Whether a shot meets an interval of an axis: 0 is x, 1 is y, 2 is z.
+// Whether a shot meets an interval of an axis.
 pub fn shot_meets(
     coords: &[u16],
     edge: u16,
-    axis: u16,
+    axis: Axis,
     width: u16,
     interval: u16,
     shot: u32,
@@ -62,54 +69,31 @@ fn quotient(width: u16, table: &[u16], at: u16) -> u16
     ensures { result ≡ at / width }
 {
     if at < width {
-        return 0;
+        0
+    } else {
+        table[usize::from(at - width)] + 1
     }
-    table[(at - width) as usize] + 1
 }
 
-// Fills a table with the quotients of the first numbers by a width.
+// Fills a table with the quotients of the first numbers by a width. Each is found from an earlier one, without a division.
 pub(crate) fn quotients(width: u16, numbers: u16, table: &mut [u16])
     requires le_width { 1 ≤ width }
     requires numbers_in_bounds { numbers ≤ length table.old }
     ensures { Quotients width numbers table.new }
 {
     for at in 0..numbers {
-        let q = quotient(width, table, at);
-        table[at as usize] = q;
+        table[usize::from(at)] = quotient(width, table, at);
     }
 }
 
-// The first interval of an axis that a shot from a coordinate on meets.
-fn first_met(width: u16, table: &[u16], at: u16) -> u16
-    requires le_width { 1 ≤ width }
-    requires quotients { Quotients width (at + 1) table.now }
-    ensures { result ≡ (at - 1) / width }
-{
-    if at == 0 {
-        return 0;
-    }
-    table[(at - 1) as usize]
-}
-
-// The interval of an axis in which a place lies.
-fn interval_of(width: u16, table: &[u16], at: usize) -> usize
-    requires { Quotients width (at + 1) table.now }
-    ensures { result ≡ at / width }
-{
-    table[at] as usize
-}
-
-// How many intervals of an axis a shot meets.
+// How many intervals of an axis a shot meets: from the first, in which the unit before it lies, to that in which it ends, or the last.
 pub(crate) fn span(grid: u16, width: u16, table: &[u16], at: u16, edge: u16) -> usize
     requires le_width { 1 ≤ width }
     requires edge_bound { at + edge ≤ grid * width }
     requires quotients { Quotients width (at + edge + 1) table.now }
     ensures { result ≡ span_of grid width at edge }
 {
-    let first = first_met(width, table, at) as usize;
-    let after = interval_of(width, table, (at as usize) + (edge as usize)) + 1;
-    if (grid as usize) < after {
-        return (grid as usize) - first;
-    }
-    after - first
+    let first = usize::from(table[usize::from(at.saturating_sub(1))]);
+    let after = usize::from(table[usize::from(at) + usize::from(edge)]) + 1;
+    after.min(usize::from(grid)) - first
 }

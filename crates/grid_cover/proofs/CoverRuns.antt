@@ -8,6 +8,7 @@ use native.Mathlib.Nat.{div-mul-le_self, lt-div-mul-add, div-lt_iff_lt-mul, add-
 use native.Mathlib.Omega.{arith}
 use lib.Dec.{T, leb, ltb}
 use borrow.Author.Tests.{le-leb, lt-ltb, leb-true, ltb-true}
+use Rattle.std.specs.Prelude.{is_some}
 use Rattle.lattice.specs.Cells.{Cells, below, up}
 use Rattle.lattice.specs.Pattern.{around}
 use Rattle.lattice.specs.Shots.{Shot, spans, covers, any, cells}
@@ -17,7 +18,7 @@ use Rattle.ground.proofs.Bools.{bool-ext, and-true}
 use Rattle.ground.proofs.AnyLaws.{any-to-ext, any-to-some, any-to-at}
 use Rattle.ground.specs.Numbers.{any_to, up_to}
 use Rattle.grid.specs.Grid.{meets, touches_cell, grid_cells, run_of, holding}
-use Rattle.grid_cover.specs.Cover.{shot_covers, is_some, first_covering, lowest_covering, run_covers}
+use Rattle.grid_cover.specs.Cover.{shot_covers, first_covering, lowest_covering, run_covers}
 use Rattle.ground.proofs.Digits.{digit-high, digit_low, digits-below}
 use Rattle.grid.proofs.ShotLaws.{width-times, width-least}
 use Rattle.grid_cover.proofs.CoverLaws.{first-among}

@@ -5,7 +5,7 @@
 
 ghost use Rattle.std.specs.Prelude.{◌≡◌};
 ghost use Rattle.lattice.specs.Shots.{spans};
-ghost use Rattle.grid_cover.specs.Cover.{shot_covers, first_covering, covering_of};
+ghost use Rattle.grid_cover.specs.Cover.{shot_covers, first_covering};
 
 use job::shot;
 
@@ -13,13 +13,11 @@ use job::shot;
 fn spans_cell(edge: u16, at: u16, cell: u16) -> bool
     ensures { result ≡ spans edge at cell }
 {
-    if cell < at {
-        return false;
-    }
-    (cell as u32) < (at as u32) + (edge as u32)
+    at <= cell && u32::from(cell) < u32::from(at) + u32::from(edge)
 }
 
 // Whether a shot covers the cell (i, j, k). A number past the list's shots covers nothing.
+#[tactic(auto, unfolding(crate::specs::Cover::shot_covers))]
 fn shot_covers(coords: &[u16], edge: u16, shot: u32, i: u16, j: u16, k: u16) -> bool
     ensures { result ≡ shot_covers edge coords.now shot i j k }
 {
@@ -28,38 +26,24 @@ fn shot_covers(coords: &[u16], edge: u16, shot: u32, i: u16, j: u16, k: u16) -> 
         return false;
     }
     let side = shot::edge_of(edge, coords, number);
-    if !spans_cell(side, shot::x_of(coords, number), i) {
-        return false;
-    }
-    if !spans_cell(side, shot::y_of(coords, number), j) {
-        return false;
-    }
-    spans_cell(side, shot::z_of(coords, number), k)
+    spans_cell(side, shot::x_of(coords, number), i)
+        && spans_cell(side, shot::y_of(coords, number), j)
+        && spans_cell(side, shot::z_of(coords, number), k)
 }
 
-// What the cover test finds.
-#[derive(Clone, Copy)]
-pub enum Covering {
-    // The number of the first shot of the run that covers the cell.
-    Shot(u32),
-    // No shot of the run covers it.
-    Nothing,
-}
-
-// The first shot of the run that covers the cell (i, j, k): a loop over the run that stops with its answer at that shot. The run may be any
-// numbers. docs/DEBUGGING.md shows how to stop in it.
-pub fn first_covering(coords: &[u16], edge: u16, run: &[u32], i: u16, j: u16, k: u16) -> Covering
-    ensures { result ≡ covering_of (first_covering edge coords.now run.now i j k) }
+// The first shot of the run that covers the cell (i, j, k), by its number. docs/SCOPE.md, 'The shape each place takes', asks for a loop
+// expression that yields its answer by `break`. The run may be any numbers. docs/DEBUGGING.md shows how to stop in it.
+#[tactic(auto, unfolding(crate::specs::Cover::first_covering, crate::specs::Cover::first))]
+pub fn first_covering(coords: &[u16], edge: u16, run: &[u32], i: u16, j: u16, k: u16) -> Option<u32>
+    ensures { result ≡ first_covering edge coords.now run.now i j k }
 {
-    let mut n = 0;
+    let mut shots = run.iter();
     loop {
-        if n == run.len() {
-            break Covering::Nothing;
-        }
-        let shot = run[n];
+        let Some(&shot) = shots.next() else {
+            break None;
+        };
         if shot_covers(coords, edge, shot, i, j, k) {
-            break Covering::Shot(shot);
+            break Some(shot);
         }
-        n += 1;
     }
 }

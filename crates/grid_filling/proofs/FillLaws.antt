@@ -1,13 +1,14 @@
--- The turns of the loops that put the index into a work slice: cell by cell in a row, row by row in a slab, slab by slab.
+-- The turns of the loop that puts the cells of a row into a work slice; what narrowing a slab and a row gives.
 use mathlib.Core.Path.{◌≡◌, sym, ap}
 use mathlib.Core.List.{List}
 use Prim.Native.Nat.{ℕ, ◌+◌, ◌-◌, ◌*◌, ◌/◌, ◌≤◌, ◌<◌}
-use native.Mathlib.Nat.{add-zero, add_assoc, add-mul, one-mul, zero-mul}
+use native.Mathlib.Nat.{add-zero, add_assoc}
 use native.Mathlib.Omega.{arith}
 use lib.ListN.{length, set}
 use Rattle.job.specs.Job.{Job, shot_count, Valid}
 use Rattle.buffer.specs.Wrote.{Wrote}
 use Rattle.ground.specs.Numbers.{up_to, AllBelow}
+use Rattle.grid.specs.declared.intervals.Axis.TheVariants.{X, Y, Z}
 use Rattle.grid.specs.Grid.{grid_cells, meets_on, run_of, row_of, slab_of}
 use Rattle.grid_filling.specs.Filling.{narrowed, Ready, Grew}
 use Rattle.ground.proofs.NumberLaws.{up_to-length, those-length, below-up_to}
@@ -35,10 +36,10 @@ module _ (job : Job) (v : Valid job) (line : ℕ) (within : line < job.grid * jo
       ready : Ready (run_of job) (grid_cells job) (line * G + gz) next w
       ready = ready-after (run_of job) (grid_cells job) p a
 
-      run_is : run_of job (line * G + gz) ≡ narrowed 2 (F / G) gz E coords row
+      run_is : run_of job (line * G + gz) ≡ narrowed Z (F / G) gz E coords row
       run_is = rw is (run-narrow job line gz h)
 
-      pub cell-asked : {cells room : ℕ} → cells ≡ grid_cells job → length row ≤ room → (line * G + gz < cells + 1) × (cells + 1 ≤ next × (next < 4294967296 × (AllBelow (shot_count coords) row × (length row ≤ room × next + length (narrowed 2 (F / G) gz E coords row) ≤ length w))))
+      pub cell-asked : {cells room : ℕ} → cells ≡ grid_cells job → length row ≤ room → (line * G + gz < cells + 1) × (cells + 1 ≤ next × (next < 4294967296 × (AllBelow (shot_count coords) row × (length row ≤ room × next + length (narrowed Z (F / G) gz E coords row) ≤ length w))))
       cell-asked e fits = (
         omega (arith, cell_below gz h),
         (
@@ -53,7 +54,7 @@ module _ (job : Job) (v : Valid job) (line : ℕ) (within : line < job.grid * jo
         ),
       )
 
-      pub cell-turn : {cells r : ℕ} {w' : List ℕ} → cells ≡ grid_cells job → Wrote (set w (line * G + gz) (next - (cells + 1))) w' next r (narrowed 2 (F / G) gz E coords row) → Grew (run_of job) (grid_cells job) (line * G) (line * G + (gz + 1)) w₀ w' r
+      pub cell-turn : {cells r : ℕ} {w' : List ℕ} → cells ≡ grid_cells job → Wrote (set w (line * G + gz) (next - (cells + 1))) w' next r (narrowed Z (F / G) gz E coords row) → Grew (run_of job) (grid_cells job) (line * G) (line * G + (gz + 1)) w₀ w' r
       cell-turn {cells} {r} {w'} e b =
           rw (← add_assoc (line * G) gz 1)
           (grew_then (run_of job) (grid_cells job) a (grew-cell (run_of job) (grid_cells job) (line * G + gz) next (cell_below gz h) ready (rw (e, ← run_is) at b)))
@@ -72,49 +73,14 @@ module _ (job : Job) (v : Valid job) (gx : ℕ) (within : gx < job.grid) where
   pub row-asked : (slab : List ℕ) {room : ℕ} → slab ≡ slab_of job gx → 4096 ≤ room → AllBelow (shot_count coords) slab × length slab ≤ room
   row-asked slab is h = (rw is (slab-below job gx), omega (arith, ap length is, slab-few job v gx))
 
-  pub row-few : (gy : ℕ) (slab : List ℕ) → slab ≡ slab_of job gx → length (narrowed 1 (F / G) gy E coords slab) ≤ 4096
-  row-few gy slab is = omega (arith, those-length (meets_on 1 (F / G) gy E coords) slab, ap length is, slab-few job v gx)
+  pub row-few : (gy : ℕ) (slab : List ℕ) → slab ≡ slab_of job gx → length (narrowed Y (F / G) gy E coords slab) ≤ 4096
+  row-few gy slab is = omega (arith, those-length (meets_on Y (F / G) gy E coords) slab, ap length is, slab-few job v gx)
 
-  pub row_is : (gy : ℕ) → gy < G → (slab : List ℕ) → slab ≡ slab_of job gx → narrowed 1 (F / G) gy E coords slab ≡ row_of job (gx * G + gy)
+  pub row_is : (gy : ℕ) → gy < G → (slab : List ℕ) → slab ≡ slab_of job gx → narrowed Y (F / G) gy E coords slab ≡ row_of job (gx * G + gy)
   row_is gy h slab is = rw is (sym (row-narrow job gx gy h))
 
   pub slab-asked : (all : List ℕ) → all ≡ up_to (shot_count coords) → AllBelow (shot_count coords) all × length all ≤ 4096
   slab-asked all is = (rw is (below-up_to (shot_count coords)), omega (arith, ap length is, up_to-length (shot_count coords), v.few))
 
-  pub slab-is : (all : List ℕ) → all ≡ up_to (shot_count coords) → narrowed 0 (F / G) gx E coords all ≡ slab_of job gx
+  pub slab-is : (all : List ℕ) → all ≡ up_to (shot_count coords) → narrowed X (F / G) gx E coords all ≡ slab_of job gx
   slab-is all is = rw is (sym (slab-narrow job gx))
-
-module _ (job : Job) (gx : ℕ) {at : ℕ} {w₀ : List ℕ} (p : Ready (run_of job) (grid_cells job) (gx * job.grid * job.grid) at w₀) where
-  open job use {grid as G}
-
-  pub rows_none : Grew (run_of job) (grid_cells job) (gx * G * G) ((gx * G + 0) * G) w₀ w₀ at
-  rows_none = rw (add-zero (gx * G)) (grew_none (run_of job) (grid_cells job) (gx * G * G) at w₀ p)
-
-  module _ (gy : ℕ) {w : List ℕ} {next : ℕ} (a : Grew (run_of job) (grid_cells job) (gx * G * G) ((gx * G + gy) * G) w₀ w next) where
-    pub row-ready : Ready (run_of job) (grid_cells job) ((gx * G + gy) * G) next w
-    row-ready = ready-after (run_of job) (grid_cells job) p a
-
-    pub row-turn : {w' : List ℕ} {r : ℕ} → Grew (run_of job) (grid_cells job) ((gx * G + gy) * G) ((gx * G + gy) * G + G) w w' r → Grew (run_of job) (grid_cells job) (gx * G * G) ((gx * G + (gy + 1)) * G) w₀ w' r
-    row-turn b =
-        let e : (gx * G + (gy + 1)) * G ≡ (gx * G + gy) * G + G = rw (← add_assoc (gx * G) gy 1, add-mul (gx * G + gy) 1 G, one-mul G) in
-        rw e (grew_then (run_of job) (grid_cells job) a b)
-
-    pub rows_all : gy ≡ G → Grew (run_of job) (grid_cells job) (gx * G * G) ((gx + 1) * G * G) w₀ w next
-    rows_all e =
-        let f : (gx + 1) * G ≡ gx * G + gy = rw (add-mul gx 1 G, one-mul G, e) in
-        rw f a
-
--- ---- the slabs
-
-module _ (job : Job) {at : ℕ} {w₀ : List ℕ} (p : Ready (run_of job) (grid_cells job) 0 at w₀) where
-  open job use {grid as G}
-
-  pub slabs-none : Grew (run_of job) (grid_cells job) 0 (0 * G * G) w₀ w₀ at
-  slabs-none = rw (zero-mul G, zero-mul G) (grew_none (run_of job) (grid_cells job) 0 at w₀ p)
-
-  module _ (gx : ℕ) {w : List ℕ} {next : ℕ} (a : Grew (run_of job) (grid_cells job) 0 (gx * G * G) w₀ w next) where
-    pub slab-ready : Ready (run_of job) (grid_cells job) (gx * G * G) next w
-    slab-ready = ready-after (run_of job) (grid_cells job) p a
-
-    pub slab-turn : {w' : List ℕ} {r : ℕ} → Grew (run_of job) (grid_cells job) (gx * G * G) ((gx + 1) * G * G) w w' r → Grew (run_of job) (grid_cells job) 0 ((gx + 1) * G * G) w₀ w' r
-    slab-turn b = grew_then (run_of job) (grid_cells job) a b

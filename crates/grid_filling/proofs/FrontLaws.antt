@@ -6,6 +6,7 @@ use Prim.Native.Nat.{ℕ, ◌+◌, ◌≤◌, ◌<◌}
 use native.Mathlib.Omega.{arith}
 use lib.ListN.{length, get_or, take, set, length-append}
 use lib.Seq.{take_at, take-length, set_at, append_snoc, length-take-le}
+use Rattle.std.specs.Int.{from_bool}
 use Rattle.ground.specs.Numbers.{bit, those}
 use Rattle.grid_filling.specs.Filling.{Front}
 use Rattle.ground.proofs.NumberLaws.{those-next, those-length}
@@ -38,6 +39,11 @@ module _ {w : List ℕ} {n : ℕ} {xs : List ℕ} (a : Front w n xs) where
             rest = b ∷ r;
             is = rw (e, append-nil xs) (set_at xs y r b n (sym a.count));
           }
+
+-- a bool as a number
+pub bit-from : (t : Bool) → from_bool t ≡ bit t
+bit-from true = refl
+bit-from false = refl
 
 -- the numbers of a list that pass a test, kept one by one
 module _ (f : ℕ → Bool) (l w : List ℕ) where

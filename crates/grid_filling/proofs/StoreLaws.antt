@@ -6,10 +6,10 @@ use native.Mathlib.Nat.{add-zero}
 use native.Mathlib.Numerals.{add-one}
 use native.Mathlib.Omega.{arith}
 use lib.ListN.{length, take, drop, set, get_or, length-append, length-drop, length-set, take-append-drop}
-use lib.Seq.{take-suc, take-length, length-take-le, drop-drop, drop-cons, set_at, set-append_left, append_snoc, drop-length}
+use lib.Seq.{length-take-le, drop-drop, drop-cons, set_at, set-append_left, append_snoc, drop-length}
 use Rattle.ground.specs.Sums.{join}
 use Rattle.buffer.specs.Wrote.{Wrote}
-use Rattle.buffer.proofs.WroteLaws.{wrote_none, wrote_one, wrote_then, wrote-length, wrote-behind}
+use Rattle.buffer.proofs.WroteLaws.{wrote-length, wrote-behind}
 use Rattle.ground.specs.Numbers.{up_to}
 use Rattle.grid.specs.Grid.{starts}
 use Rattle.grid_filling.specs.Filling.{run_place, RunsIn, Ready, Grew}
@@ -32,22 +32,6 @@ module _ (w : List ℕ) where
 
   pub numbered-all : (i : ℕ) {b : List ℕ} → i ≡ length w → b ≡ up_to i ++ drop i w → b ≡ up_to (length w)
   numbered-all i h e = e ∙ rw (h, drop-length w) (append-nil (up_to (length w)))
-
--- ---- a list put into a slice, number by number
-
-module _ (l w : List ℕ) (at : ℕ) (room : at + length l ≤ length w) where
-  pub put-none : Wrote w w at (at + 0) (take 0 l)
-  put-none = rw (add-zero at) (wrote_none w at (omega arith))
-
-  module _ (i : ℕ) {b : List ℕ} where
-    pub put-turn : i < length l → Wrote w b at (at + i) (take i l) → Wrote w (set b (at + i) (get_or l i 0)) at (at + (i + 1)) (take (i + 1) l)
-    put-turn h a =
-        let place : at + (i + 1) ≡ at + i + 1 = omega arith in
-        let more : take (i + 1) l ≡ take i l ++ get_or l i 0 ∷ [] = rw (add-one i) (take-suc l i 0 h) in
-        rw (place, more) (wrote_then a (wrote_one b (at + i) (get_or l i 0) (omega (arith, wrote-length a))))
-
-    pub put_all : i ≡ length l → Wrote w b at (at + i) (take i l) → Wrote w b at (at + length l) l
-    put_all e a = rw (e, take-length l) at a
 
 -- ---- the index, cell by cell
 

@@ -3,6 +3,7 @@
 use Rattle.std.specs.Prelude.{◌≡◌, List, ◌++◌, ℕ, ◌+◌, ◌≤◌, length, drop}
 use Rattle.ground.specs.Sums.{join}
 use Rattle.ground.specs.Numbers.{those}
+use Rattle.grid.specs.declared.intervals.Axis.{Axis}
 use Rattle.grid.specs.Grid.{meets_on, starts}
 
 -- a slice that begins with the n numbers of a list, and then has anything
@@ -11,8 +12,8 @@ pub record Front (w : List ℕ) (n : ℕ) (xs : List ℕ) : Type 0 where
   pub rest : List ℕ
   pub is : w ≡ xs ++ rest
 
--- of the shots that a list numbers, those that meet interval g of an axis: 0 is x, 1 is y, 2 is z
-abbrev pub narrowed : ℕ → ℕ → ℕ → ℕ → List ℕ → List ℕ → List ℕ
+-- of the shots that a list numbers, those that meet interval g of an axis
+abbrev pub narrowed : Axis → ℕ → ℕ → ℕ → List ℕ → List ℕ → List ℕ
 narrowed axis s g E coords l = those (meets_on axis s g E coords) l
 
 -- the place where the run of cell c goes

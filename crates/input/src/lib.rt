@@ -1,48 +1,38 @@
 // Standard input into a lent slice, until the slice is full or the input ends. A pipe may deliver in pieces.
-// The only crate of a program that reads; it stands on `output`, by which it says what is in the way.
+// The only crate of a program that reads; it stands on `output`, whose programs they are and by which it says what is in the way.
 #![tactic(auto)]
 
 ghost use Rattle.std.specs.Prelude.{length, ◌-◌, ◌≤◌};
 ghost use Rattle.input.specs.Filled.{Between};
 
+use output::Program;
 use std::env::FillError;
 use std::io::Read;
-use std::rt::{Env, Stderr, Stdin};
+use std::rt::{Env, Stdin};
 
-// How many bytes are there; or that a read failed, or that something else was in the way, which is said.
-#[derive(Clone, Copy)]
-pub enum Filled {
-    Bytes(usize),
-    Failed,
-}
-
-// One read behind the first n bytes; as many bytes as before where the input has ended.
-fn read_more(mut stdin: Stdin, buffer: &mut [u8], n: usize) -> Filled
+// How many bytes are in the slice after one read behind the first n, as many as before where the input has ended; none where it failed.
+fn read_more(mut stdin: Stdin, buffer: &mut [u8], n: usize) -> Option<usize>
     requires { n ≤ length buffer.old }
     ensures { Between n (length buffer.old) result }
 {
-    let Ok(more) = stdin.read(&mut buffer[n..]) else {
-        return Filled::Failed;
-    };
-    Filled::Bytes(n + more)
+    let more = stdin.read(&mut buffer[n..]).ok()?;
+    Some(n + more)
 }
 
-// Reads until the slice is full or the input ends.
-pub fn fill(stdin: Stdin, buffer: &mut [u8]) -> Filled
+// Reads until the slice is full or the input ends; gives how many bytes there are, or none where a read failed.
+pub fn fill(stdin: Stdin, buffer: &mut [u8]) -> Option<usize>
     ensures { Between 0 (length buffer.old) result }
 {
     let mut n = 0;
+    // Kept so: a read may bring fewer bytes than there is room for, so that no range has the places where reads begin.
     while n < buffer.len() {
-        let filled = read_more(stdin, buffer, n);
-        let Filled::Bytes(m) = filled else {
-            return Filled::Failed;
-        };
+        let m = read_more(stdin, buffer, n)?;
         if m <= n {
-            return Filled::Bytes(n);
+            return Some(n);
         }
         n = m;
     }
-    Filled::Bytes(n)
+    Some(n)
 }
 
 // Whether the program was started with a word at this place; its name stands at place 0.
@@ -52,81 +42,62 @@ pub fn has_word(env: &impl Env, place: usize) -> bool {
 }
 
 // Standard input; where a read failed, that is said.
-fn read(stdin: Stdin, stderr: Stderr, program: &[u8], buffer: &mut [u8]) -> Filled
+fn read(program: Program, buffer: &mut [u8]) -> Option<usize>
     ensures { Between 0 (length buffer.old) result }
 {
-    let filled = fill(stdin, buffer);
-    let Filled::Bytes(n) = filled else {
-        output::say_unreadable(stderr, program);
-        return Filled::Failed;
-    };
-    Filled::Bytes(n)
+    let filled = fill(program.stdin, buffer);
+    if filled.is_none() {
+        program.tell_unreadable();
+    }
+    filled
 }
 
 // What was filled, unless it fills all the room, since then bytes of the input may be missing: these words are said of it.
 fn unless_full(
-    stderr: Stderr,
-    program: &[u8],
-    filled: Filled,
+    program: Program,
+    filled: Option<usize>,
     room: usize,
     too_long: &[u8],
-) -> Filled
+) -> Option<usize>
     requires { Between 0 room filled }
     ensures { Between 0 (room - 1) result }
 {
-    let Filled::Bytes(n) = filled else {
-        return Filled::Failed;
-    };
+    let n = filled?;
     if n == room {
-        output::say(stderr, program);
-        output::say(stderr, too_long);
-        return Filled::Failed;
+        program.tell(too_long);
+        return None;
     }
-    Filled::Bytes(n)
+    Some(n)
 }
 
 // What a program works on, which is standard input alone. Where it is given arguments, or a read failed, it has said so and works on nothing.
-pub fn take(
-    env: &impl Env,
-    stdin: Stdin,
-    stderr: Stderr,
-    program: &[u8],
-    buffer: &mut [u8],
-) -> Filled
+pub fn take(env: &impl Env, program: Program, buffer: &mut [u8]) -> Option<usize>
     ensures { Between 0 (length buffer.old) result }
 {
     if has_word(env, 1) {
-        output::say_takes_none(stderr, program);
-        return Filled::Failed;
+        program.tell_takes_none();
+        return None;
     }
-    read(stdin, stderr, program, buffer)
+    read(program, buffer)
 }
 
 // The same where a full slice may lack bytes of the input: these words are said of it then.
 pub fn take_whole(
     env: &impl Env,
-    stdin: Stdin,
-    stderr: Stderr,
-    program: &[u8],
+    program: Program,
     buffer: &mut [u8],
     too_long: &[u8],
-) -> Filled
+) -> Option<usize>
     ensures { Between 0 (length buffer.old - 1) result }
 {
-    let filled = take(env, stdin, stderr, program, buffer);
-    unless_full(stderr, program, filled, buffer.len(), too_long)
+    let filled = take(env, program, buffer);
+    unless_full(program, filled, buffer.len(), too_long)
 }
 
 // The same for a program that has arguments, which are not looked at here.
-pub fn read_whole(
-    stdin: Stdin,
-    stderr: Stderr,
-    program: &[u8],
-    buffer: &mut [u8],
-    too_long: &[u8],
-) -> Filled
+pub fn read_whole(program: Program, buffer: &mut [u8], too_long: &[u8]) -> Option<usize>
     ensures { Between 0 (length buffer.old - 1) result }
 {
-    let filled = read(stdin, stderr, program, buffer);
-    unless_full(stderr, program, filled, buffer.len(), too_long)
+    let filled = read(program, buffer);
+    unless_full(program, filled, buffer.len(), too_long)
 }

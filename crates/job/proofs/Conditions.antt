@@ -14,7 +14,6 @@ use Rattle.lattice.specs.Shots.{cells, any}
 use Rattle.lattice.proofs.ShotLaws.{cells-within}
 use Rattle.refusals.specs.declared.Refusal.{Refusal}
 use Rattle.refusals.specs.declared.Refusal.TheVariants.{BrokenShot, TooManyShots, FieldRange, EdgeRange, GridRange, OutsideField}
-use Rattle.refusals.specs.declared.Checked.TheVariants.{Accepted}
 use Rattle.job.specs.Job.{Job, shots, shot, shot_count, Valid}
 use Rattle.job.specs.Checking.{outside, leaves, first_leaving, setting_tests, shot_tests, tests, checked}
 use Rattle.job.specs.Conditions.{FirstOutside, Condition, broken_shot, too_many_shots, field_range, edge_range, grid_range, outside_field, None}
@@ -25,6 +24,7 @@ use Rattle.ground.proofs.Bools.{or-false, or-true, or-true-left, or_true_right}
 use Rattle.job.proofs.Shots.{shots-count, shots-at, any-leaves, stays, stays-not, all_stay, leaving-first, stay-at}
 use Rattle.refusals.proofs.FirstOf.{passes, none_each, none-iff}
 use Rattle.refusals.proofs.Deciding.{decides-by, decides-then, decides-as}
+use Rattle.std.specs.Prelude.{Ok}
 
 module _ (job : Job) where
   open job use {field as F, edge as E, grid as G, coords}
@@ -118,7 +118,7 @@ module _ (job : Job) where
   shots-decide = decides-by (Condition job) (shot_tests F (shots job)) shots-say
 
   -- ---- a list is accepted if and only if it is valid
-  valid-if : checked job ≡ Accepted → Valid job
+  valid-if : checked job ≡ Ok tt → Valid job
   unfolding tests setting_tests shot_tests
   valid-if e =
       let p = (passes (tests job)).0 e in
@@ -163,7 +163,7 @@ module _ (job : Job) where
       ((λ n. valid-if ((none-iff (Condition job) (tests job) tests-say).1 n), λ v. none_each (Condition job) (valid-none v) (tests job)))
       (λ r. (λ f. f, λ f. f))
 
-  pub accepted-valid : (checked job ≡ Accepted) ↔ Valid job
+  pub accepted-valid : (checked job ≡ Ok tt) ↔ Valid job
   accepted-valid = job-decides.accepted
 
 -- the cells of a valid list lie in the field

@@ -3,9 +3,9 @@
 use Rattle.std.specs.Prelude.{Bool, not, cond, ◌||◌, List, [], ◌∷◌, ◌++◌, ℕ, suc, ◌+◌, ◌%◌, eqb, ltb, length}
 use Rattle.lattice.specs.Shots.{Shot, any}
 use Rattle.refusals.specs.declared.Refusal.TheVariants.{BrokenShot, TooManyShots, FieldRange, EdgeRange, GridRange, OutsideField}
-use Rattle.refusals.specs.declared.Checked.{Checked}
 use Rattle.refusals.specs.Tests.{Test, first_of}
 use Rattle.job.specs.Job.{Job, shots, shot_count}
+use Rattle.refusals.specs.Refusals.{Checked}
 
 -- a is below least or above most
 abbrev pub outside : ℕ → ℕ → ℕ → Bool

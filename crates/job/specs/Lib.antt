@@ -1,3 +1,5 @@
 pub mod Job
 pub mod Checking
 pub mod Conditions
+pub mod Seen
+pub mod ValidOnce

@@ -1,8 +1,7 @@
 -- The unit edges and the corner test as the pattern byte shows them: tests that are computed at all 256 bytes.
 use mathlib.Core.Path.{◌≡◌, sym, ◌∙◌, ap}
-use mathlib.Core.Bool.{Bool, true, false, cond, not}
-use Prim.Native.Nat.{ℕ, zero, suc, zero-le, ◌+◌, ◌*◌, ◌/◌, ◌%◌, ◌<◌, ◌≤◌}
-use native.Mathlib.Omega.{arith}
+use mathlib.Core.Bool.{Bool, true, false, cond, not, ◌&&◌, ◌||◌}
+use Prim.Native.Nat.{ℕ, ◌+◌, ◌*◌, ◌/◌, ◌%◌, ◌<◌}
 use lib.Dec.{T, eqb, eqb→eq}
 use lib.Bits.{bit_and, bit_xor}
 use lib.Count.{ones, ones_in}
@@ -13,7 +12,7 @@ use Rattle.lattice.specs.Pattern.{of_byte, corner, some_nonzero, w, ax, ay, az, 
 use Rattle.lattice_edges.specs.UnitEdges.{four_about}
 use Rattle.lattice_edges.specs.declared.UnitEdge.{UnitEdge}
 use Rattle.lattice_edges.specs.declared.UnitEdge.TheVariants.{BelowX, AboveX, BelowY, AboveY, BelowZ, AboveZ}
-use Rattle.ground.proofs.Bools.{not-off, same, same_at}
+use Rattle.ground.proofs.Bools.{same, same_at}
 use Rattle.ground.proofs.Conds.{chosen-true, chosen-false}
 use Rattle.ground.proofs.Cases.{each, each_at, each_four-at, each_from, each_below-at}
 
@@ -73,22 +72,20 @@ low-gathers e k p h b c =
     ∙ ap (λ e. four_about e (of_byte p) b c) (sym k)
 
 -- ---- what a unit edge counts
--- the low four bits decide
-pub edge-low : (n q : ℕ) → q < 256 → q % 16 ≡ n → edge (λ b c. of_byte n false b c) ≡ edge (λ b c. of_byte q false b c)
-unfolding of_byte
-edge-low n q h k =
-    ap (λ n. edge (λ b c. of_byte n false b c)) (sym k)
-    ∙ eqb→eq (edge (λ b c. of_byte (q % 16) false b c)) (edge (λ b c. of_byte q false b c))
-    (each_below-at (λ q. eqb (edge (λ b c. of_byte (q % 16) false b c)) (edge (λ b c. of_byte q false b c))) 256 tt q h)
+-- the low four bits decide: a cell by itself counts 1, and two opposite ones 2
+abbrev pub by_low : ℕ → ℕ
+by_low n = cond (eqb n 1 || eqb n 2 || eqb n 4 || eqb n 8) 1 (cond (eqb n 6 || eqb n 9) 2 0)
 
--- a number that is none of 0, 1, .. n - 1
-abbrev Past : ℕ → ℕ → Type 0
-Past zero q = Unit {0}
-Past (suc n) q = Past n q × (q ≡ n → ⊥)
+low_counted : ℕ → Bool
+low_counted q = eqb (by_low (q % 16)) (edge (λ b c. of_byte q false b c))
 
-pub past : (n q : ℕ) → Past n q → n ≤ q
-past zero q h = zero-le
-past (suc n) q h = omega (arith, past n q h.0, h.1)
+all-low : T (each_from low_counted 0 256)
+unfolding low_counted of_byte
+all-low = tt
+
+pub low-counts : (q : ℕ) → q < 256 → by_low (q % 16) ≡ edge (λ b c. of_byte q false b c)
+unfolding low_counted
+low-counts q h = eqb→eq (by_low (q % 16)) (edge (λ b c. of_byte q false b c)) (each_below-at low_counted 256 all-low q h)
 
 -- how many of the four cells are covered decides, but for two of an outer edge
 abbrev edge_by_count : (Bool → Bool → Bool) → Bool
@@ -121,32 +118,12 @@ steady-y p = bit_and (bit_xor p (p / 4)) 51
 abbrev steady-z : ℕ → ℕ
 steady-z p = bit_and (bit_xor p (p / 2)) 85
 
-on_yz : ℕ → Bool
-on_yz p = cond (eqb (steady-y p) 0) (not (corner (of_byte p))) (same (not (eqb (steady-z p) 0)) (corner (of_byte p)))
+abbrev pub on_xyz : ℕ → Bool
+on_xyz p = not (eqb (p / 16) (p % 16)) && (not (eqb (steady-y p) 0) && not (eqb (steady-z p) 0))
 
-on_xyz : ℕ → Bool
-on_xyz p = cond (eqb (p / 16) (p % 16)) (not (corner (of_byte p))) (on_yz p)
-
-all-on : T (each_from on_xyz 0 256)
-unfolding on_xyz on_yz of_byte corner some_nonzero w ax ay az ex ey ez ix iy iz
+all-on : T (each_from (λ p. same (on_xyz p) (corner (of_byte p))) 0 256)
+unfolding of_byte corner some_nonzero w ax ay az ex ey ez ix iy iz
 all-on = tt
 
-module _ (p : ℕ) (h : p < 256) where
-  pub steady-on-x : p / 16 ≡ p % 16 → false ≡ corner (of_byte p)
-  unfolding on_xyz
-  steady-on-x e = sym (not-off (corner (of_byte p))
-      (chosen-true (eqb (p / 16) (p % 16)) (not (corner (of_byte p))) (on_yz p) (each_below-at on_xyz 256 all-on p h) (eq-eqb (p / 16) (p % 16) e)))
-
-  past-x : (p / 16 ≡ p % 16 → ⊥) → T (on_yz p)
-  unfolding on_xyz
-  past-x e = chosen-false (eqb (p / 16) (p % 16)) (not (corner (of_byte p))) (on_yz p) (each_below-at on_xyz 256 all-on p h) (ne_eqb (p / 16) (p % 16) e)
-
-  pub steady-on-y : (p / 16 ≡ p % 16 → ⊥) → steady-y p ≡ 0 → false ≡ corner (of_byte p)
-  unfolding on_yz
-  steady-on-y e f = sym (not-off (corner (of_byte p))
-      (chosen-true (eqb (steady-y p) 0) (not (corner (of_byte p))) (same (not (eqb (steady-z p) 0)) (corner (of_byte p))) (past-x e) (eq-eqb (steady-y p) 0 f)))
-
-  pub z-decides : (p / 16 ≡ p % 16 → ⊥) → (steady-y p ≡ 0 → ⊥) → not (eqb (steady-z p) 0) ≡ corner (of_byte p)
-  unfolding on_yz
-  z-decides e f = same_at (not (eqb (steady-z p) 0)) (corner (of_byte p))
-      (chosen-false (eqb (steady-y p) 0) (not (corner (of_byte p))) (same (not (eqb (steady-z p) 0)) (corner (of_byte p))) (past-x e) (ne_eqb (steady-y p) 0 f))
+pub each-axis : (p : ℕ) → p < 256 → on_xyz p ≡ corner (of_byte p)
+each-axis p h = same_at (on_xyz p) (corner (of_byte p)) (each_below-at (λ p. same (on_xyz p) (corner (of_byte p))) 256 all-on p h)

@@ -1,17 +1,12 @@
 -- The corner sums: no term of a field of 1,024 is larger than 2³², so that the sums over all its points fit 64 bits.
-use mathlib.Core.Path.{◌≡◌, refl, sym, ◌∙◌, ap, ap₂, subst, fun_ext}
+use mathlib.Core.Path.{◌≡◌, refl, sym, ◌∙◌, ap, ap₂, fun_ext}
 use mathlib.Core.List.{List, [], ◌∷◌, ◌++◌}
-use Prim.Native.Nat.{ℕ, ◌+◌, ◌-◌, ◌*◌, ◌<◌, ◌≤◌}
+use Prim.Native.Nat.{ℕ, ◌+◌, ◌-◌, ◌*◌, ◌≤◌}
 use native.Mathlib.Omega.{arith}
 use lib.IntN.{ℤ, pos, nat_abs, ◌+ℤ◌, ◌*ℤ◌, +ℤ_idr}
 use lib.ListN.{length, length-append}
-use lib.Dec.{T}
-use lib.Signed.{mag, non_neg}
-use mir.Syntax.{w8, w64}
-use mir.Val.{Fits, SFits, to_z, of_z}
-use mir.Facts.{to_z-of_z, to_z_pos}
 use Rattle.lattice.specs.Cells.{Cells, Within, field_points}
-use Rattle.lattice.specs.Pattern.{of_byte, Term}
+use Rattle.lattice.specs.Pattern.{Pattern, of_byte, Term, volume_term, area_term, edge_term, inner_term}
 use Rattle.lattice.specs.Figures.{Figure, Volume, Area, EdgeLength, InnerLength, cell_count, term, largest_term}
 use Rattle.lattice.specs.Listing.{Corner, corners, term_at, over, corner_sum}
 use Rattle.lattice_sums.specs.CornerSums.{sum_in, value, sums_by, sums_of, added, Room, RoomFor, Whole, totals_of}
@@ -21,53 +16,19 @@ use Rattle.ground.proofs.Integers.{nat_abs-add}
 use Rattle.lattice.proofs.TermBounds.{scaled_small, term-small}
 use Rattle.lattice.proofs.ListingLaws.{over-append}
 use Rattle.lattice.proofs.Agreement.{corner-sums, count-is}
-use Rattle.lattice_weights.proofs.PackedLaws.{fits64}
+use Rattle.lattice_tables.specs.Tables.{weight_of}
+use Rattle.lattice_tables.specs.declared.Weight.{Weight}
+use Rattle.lattice_weights.proofs.PackedLaws.{weight_of-within}
+use native.Mathlib.Nat.{le_refl}
 
--- ---- a result that went through a place of memory
-pub told8 : {z v : ℤ} → mag z < 128 → z ≡ v → to_z w8 (of_z w8 z) ≡ v
-told8 h e = to_z-of_z {w = w8} (record { sfits = h }) ∙ e
-
-pub told64 : {z v : ℤ} → mag z < 9223372036854775808 → z ≡ v → to_z w64 (of_z w64 z) ≡ v
-told64 h e = to_z-of_z {w = w64} (record { sfits = h }) ∙ e
-
--- a number that is not negative fits where its magnitude goes
-pub whole-asked : (v : ℤ) → v ≡ pos (nat_abs v) → SFits w64 v → T (non_neg (to_z w64 (of_z w64 v))) × Fits w64 (nat_abs (to_z w64 (of_z w64 v)))
-whole-asked v e h = rw (to_z-of_z h) (subst (λ (z : ℤ). T (non_neg z)) (sym e) tt, record { fits = omega (arith, ap mag e, h.sfits) })
-
--- a sum that totals can hold, as it is asked for and told
-module _ (v : ℤ) {m : ℕ} (e : v ≡ pos m) (h : mag v < 9223372036854775808) where
-  pub held-asked : to_z w64 (of_z w64 v) ≡ pos (nat_abs (to_z w64 (of_z w64 v)))
-  held-asked = told64 h e ∙ ap (λ z. pos (nat_abs z)) (sym (told64 h e))
-
-  pub held-told : {n : ℕ} → n ≡ nat_abs (to_z w64 (of_z w64 v)) → v ≡ pos n
-  held-told k = e ∙ ap pos (sym (k ∙ ap nat_abs (told64 h e)))
-
--- n · v, where n and v are small
-module _ (n : ℕ) (v : ℤ) (hn : n ≤ 1073741824) (hv : nat_abs v ≤ 4) where
-  pub n-is : to_z w64 n ≡ pos n
-  n-is = to_z_pos w64 (omega arith)
-
-  pub v-fits : SFits w64 v
-  v-fits = fits64 v (omega arith)
-
-  pub product-fits : SFits w64 (pos n *ℤ v)
-  product-fits = fits64 (pos n *ℤ v) (omega (arith, scaled_small 1073741824 4 n v hn hv))
+-- ---- a weight, so many times
+pub weighed-small : (n : ℕ) (k : Weight) (p : Pattern) {r : ℤ} → r ≡ pos n *ℤ weight_of k p → nat_abs r ≤ n * 4
+weighed-small n k p e = rw e (scaled_small n 4 n (weight_of k p) (le_refl n) (weight_of-within k p))
 
 -- ---- one corner more
 -- a sum of n terms with one more
 sum_room : (n : ℕ) (s t : ℤ) → nat_abs s ≤ n * largest_term → nat_abs t ≤ largest_term → nat_abs (s +ℤ t) ≤ (n + 1) * largest_term
 sum_room n s t hs ht = omega (arith, nat_abs-add s t, hs, ht)
-
--- a sum with room for one more term, as the code takes it
-module _ (s t : ℤ) (hs : nat_abs s ≤ (field_points 1024 - 1) * largest_term) (ht : nat_abs t ≤ largest_term) (kt : mag t < 9223372036854775808) where
-  sum_fits : SFits w64 s
-  sum_fits = fits64 s (omega arith)
-
-  pub sum-asked : nat_abs (to_z w64 (of_z w64 s)) + nat_abs (to_z w64 (of_z w64 t)) < 9223372036854775808
-  sum-asked = rw (to_z-of_z sum_fits, told64 kt refl) (omega arith)
-
-  pub sum_told : {r v : ℤ} → mag r < 9223372036854775808 → r ≡ to_z w64 (of_z w64 s) +ℤ to_z w64 (of_z w64 t) → t ≡ v → to_z w64 (of_z w64 r) ≡ s +ℤ v
-  sum_told kr e k = told64 kr (e ∙ ap₂ ◌+ℤ◌ (to_z-of_z sum_fits) (told64 kt k))
 
 pub sum_bound : (f : Figure) (t : CornerSums) → RoomFor 1 t → nat_abs (sum_in f t) ≤ (field_points 1024 - 1) * largest_term
 sum_bound f t r = omega (arith, r.sum_within f, r.few)
@@ -78,6 +39,12 @@ sum_by Volume g n = refl
 sum_by Area g n = refl
 sum_by EdgeLength g n = refl
 sum_by InnerLength g n = refl
+
+pub added-is : (t : CornerSums) (v : Corner) {a b c d : ℤ} → a ≡ t.volume +ℤ term_at volume_term v → b ≡ t.area +ℤ term_at area_term v
+    → c ≡ t.edge +ℤ term_at edge_term v → d ≡ t.inner +ℤ term_at inner_term v
+    → record { volume = a; area = b; edge = c; inner = d; corners = t.corners + 1 } ≡ added t v
+unfolding added
+added-is t v ea eb ec ed = rw (ea, eb, ec, ed)
 
 pub added-room : (t : CornerSums) (v : Corner) → v.x ≤ 1024 → v.y ≤ 1024 → v.z ≤ 1024 → (n : ℕ) → Room t n → Room (added t v) (n + 1)
 unfolding added

@@ -2,16 +2,57 @@
 // Each table's rule is tested once over the whole table. The tables are read as a whole, by `lattice_weights`. Stands on `lattice`.
 #![tactic(auto)]
 
-ghost use Rattle.lattice.specs.Pattern.{w, ax, ay, az, ex, ey, ez, ix, iy, iz};
-ghost use Rattle.lattice_tables.specs.Tables.{Weighs};
+ghost use Rattle.lattice_tables.specs.Tables.{weight_of, Weighs};
 
-// w: over covered cells, the product of three signs.
-pub fn table_w() -> [i8; 256]
-    ensures { Weighs w result }
-{
-    W
+// The ten weights: one of the volume, and one for each axis of the area, the outer and the inner length.
+#[derive(Clone, Copy, Debug, PartialEq, Eq)]
+pub enum Weight {
+    W,
+    Ax,
+    Ay,
+    Az,
+    Ex,
+    Ey,
+    Ez,
+    Ix,
+    Iy,
+    Iz,
 }
 
+impl Weight {
+    pub const ALL: [Weight; 10] = [
+        Weight::W,
+        Weight::Ax,
+        Weight::Ay,
+        Weight::Az,
+        Weight::Ex,
+        Weight::Ey,
+        Weight::Ez,
+        Weight::Ix,
+        Weight::Iy,
+        Weight::Iz,
+    ];
+}
+
+// The table of a weight.
+pub fn table(which: Weight) -> &'static [i8; 256]
+    ensures { Weighs (weight_of which) result.now }
+{
+    match which {
+        Weight::W => &W,
+        Weight::Ax => &AX,
+        Weight::Ay => &AY,
+        Weight::Az => &AZ,
+        Weight::Ex => &EX,
+        Weight::Ey => &EY,
+        Weight::Ez => &EZ,
+        Weight::Ix => &IX,
+        Weight::Iy => &IY,
+        Weight::Iz => &IZ,
+    }
+}
+
+// w: over covered cells, the product of three signs.
 const W: [i8; 256] = [
     0, 1, -1, 0, -1, 0, -2, -1, 1, 2, 0, 1, 0, 1, -1, 0, -1, 0, -2, -1, -2, -1, -3, -2, 0, 1, -1,
     0, -1, 0, -2, -1, 1, 2, 0, 1, 0, 1, -1, 0, 2, 3, 1, 2, 1, 2, 0, 1, 0, 1, -1, 0, -1, 0, -2, -1,
@@ -26,12 +67,6 @@ const W: [i8; 256] = [
 ];
 
 // ax: over the unit squares at the point across x that count as area, the product of their signs.
-pub fn table_ax() -> [i8; 256]
-    ensures { Weighs ax result }
-{
-    AX
-}
-
 const AX: [i8; 256] = [
     0, 1, -1, 0, -1, 0, -2, -1, 1, 2, 0, 1, 0, 1, -1, 0, 1, 0, 0, -1, 0, -1, -1, -2, 2, 1, 1, 0, 1,
     0, 0, -1, -1, 0, 0, 1, -2, -1, -1, 0, 0, 1, 1, 2, -1, 0, 0, 1, 0, -1, 1, 0, -1, -2, 0, -1, 1,
@@ -45,12 +80,6 @@ const AX: [i8; 256] = [
 ];
 
 // ay: the same across y.
-pub fn table_ay() -> [i8; 256]
-    ensures { Weighs ay result }
-{
-    AY
-}
-
 const AY: [i8; 256] = [
     0, 1, -1, 0, 1, 0, 0, -1, -1, 0, 0, 1, 0, -1, 1, 0, -1, 0, -2, -1, 0, -1, -1, -2, -2, -1, -1,
     0, -1, -2, 0, -1, 1, 2, 0, 1, 2, 1, 1, 0, 0, 1, 1, 2, 1, 0, 2, 1, 0, 1, -1, 0, 1, 0, 0, -1, -1,
@@ -64,12 +93,6 @@ const AY: [i8; 256] = [
 ];
 
 // az: the same across z.
-pub fn table_az() -> [i8; 256]
-    ensures { Weighs az result }
-{
-    AZ
-}
-
 const AZ: [i8; 256] = [
     0, 1, 1, 0, -1, 0, 0, -1, -1, 0, 0, -1, 0, 1, 1, 0, -1, 0, 0, -1, -2, -1, -1, -2, -2, -1, -1,
     -2, -1, 0, 0, -1, -1, 0, 0, -1, -2, -1, -1, -2, -2, -1, -1, -2, -1, 0, 0, -1, 0, 1, 1, 0, -1,
@@ -83,12 +106,6 @@ const AZ: [i8; 256] = [
 ];
 
 // ex: the outer count of the unit edge below the point on x, less that of the one above.
-pub fn table_ex() -> [i8; 256]
-    ensures { Weighs ex result }
-{
-    EX
-}
-
 const EX: [i8; 256] = [
     0, 1, 1, 0, 1, 0, 2, 0, 1, 2, 0, 0, 0, 0, 0, 0, -1, 0, 0, -1, 0, -1, 1, -1, 0, 1, -1, -1, -1,
     -1, -1, -1, -1, 0, 0, -1, 0, -1, 1, -1, 0, 1, -1, -1, -1, -1, -1, -1, 0, 1, 1, 0, 1, 0, 2, 0,
@@ -102,12 +119,6 @@ const EX: [i8; 256] = [
 ];
 
 // ey: the same on y.
-pub fn table_ey() -> [i8; 256]
-    ensures { Weighs ey result }
-{
-    EY
-}
-
 const EY: [i8; 256] = [
     0, 1, 1, 0, -1, 0, 0, -1, -1, 0, 0, -1, 0, 1, 1, 0, 1, 0, 2, 0, 0, -1, 1, -1, 0, -1, 1, -1, 1,
     0, 2, 0, 1, 2, 0, 0, 0, 1, -1, -1, 0, 1, -1, -1, 1, 2, 0, 0, 0, 0, 0, 0, -1, -1, -1, -1, -1,
@@ -121,12 +132,6 @@ const EY: [i8; 256] = [
 ];
 
 // ez: the same on z.
-pub fn table_ez() -> [i8; 256]
-    ensures { Weighs ez result }
-{
-    EZ
-}
-
 const EZ: [i8; 256] = [
     0, 1, -1, 0, 1, 0, 0, -1, -1, 0, 0, 1, 0, -1, 1, 0, 1, 0, 0, -1, 2, 0, 1, -1, 0, -1, 1, 0, 1,
     -1, 2, 0, -1, 0, 0, 1, 0, -1, 1, 0, -2, -1, 0, 1, -1, -2, 1, 0, 0, -1, 1, 0, 1, -1, 2, 0, -1,
@@ -140,12 +145,6 @@ const EZ: [i8; 256] = [
 ];
 
 // ix: the inner count of the unit edge below the point on x, less that of the one above.
-pub fn table_ix() -> [i8; 256]
-    ensures { Weighs ix result }
-{
-    IX
-}
-
 const IX: [i8; 256] = [
     0, 0, 0, 0, 0, 0, 0, 1, // 07: three of the four cells below on x
     0, 0, 0, 1, 0, 1, 1, 0, 0, 0, 0, 0, 0, 0, 0, 1, 0, 0, 0, 1, 0, 1, 1, 0, 0, 0, 0, 0, 0, 0, 0, 1,
@@ -160,12 +159,6 @@ const IX: [i8; 256] = [
 ];
 
 // iy: the same on y.
-pub fn table_iy() -> [i8; 256]
-    ensures { Weighs iy result }
-{
-    IY
-}
-
 const IY: [i8; 256] = [
     0, 0, 0, 0, 0, 0, 0, 0, 0, 0, 0, 0, 0, 0, 0, 0, 0, 0, 0, 1, // 13: three of the four cells below on y
     0, 0, 0, 1, 0, 0, 0, 1, 0, 0, 0, 1, 0, 0, 0, 1, 0, 0, 0, 1, 0, 0, 0, 1, 0, 0, 0, 1, 0, 1, 1, 0,
@@ -179,12 +172,6 @@ const IY: [i8; 256] = [
 ];
 
 // iz: the same on z.
-pub fn table_iz() -> [i8; 256]
-    ensures { Weighs iz result }
-{
-    IZ
-}
-
 const IZ: [i8; 256] = [
     0, 0, 0, 0, 0, 0, 0, 0, 0, 0, 0, 0, 0, 0, 0, 0, 0, 0, 0, 0, 0, 1, // 15: three of the four cells below on z
     0, 1, 0, 0, 0, 0, 0, 1, 0, 1, 0, 0, 0, 0, 0, 0, 0, 0, 0, 0, -1, -1, 0, 0, -1, -1, 0, 0, 0, 0,

@@ -1,19 +1,17 @@
 -- What listing a shot file answers, and what is in the lent slices then: the list that the file holds is listed. docs/SCOPE.md, 'Corner
 -- points'.
-use Rattle.std.specs.Prelude.{◌≡◌, List, ℕ, length}
+use Rattle.std.specs.Prelude.{◌≡◌, List, ℕ, length, Err}
 use Rattle.job.specs.Job.{shot_count}
 use Rattle.shotfile_reader.specs.Files.{File, file, refused, file_in}
 use Rattle.shotfile_reader.specs.Calls.{read_coords}
-use Rattle.measure_intake.specs.Intake.{MeasuredNumbers, measured_numbers, refused_numbers}
-use Rattle.measure_intake.specs.declared.Measured.{Measured}
-use Rattle.measure_intake.specs.declared.Measured.TheVariants.{Refused}
+use Rattle.measure_intake.specs.Intake.{MeasuredNumbers, measured_numbers, refused_numbers, Measured}
 use Rattle.measure.specs.Answers.{list_answer, list_numbers, listing_after}
 use Rattle.quoting_text.specs.Quoting.{index_after}
 
 -- with so many work entries and bytes of the buffer; a file that is refused is not listed
 abbrev pub listed_answer : File → ℕ → ℕ → Measured
 listed_answer (file job) entries room = list_answer job entries room
-listed_answer (refused r) entries room = Refused r
+listed_answer (refused r) entries room = Err r
 
 abbrev pub listed_numbers : File → ℕ → ℕ → MeasuredNumbers
 listed_numbers (file job) entries room = list_numbers job entries room

@@ -4,25 +4,19 @@
 
 ghost use Rattle.listing_file.specs.Listing.{FileListed};
 
-use measure_intake::Measured;
-use shotfile_reader::ReadAnswer;
+use lattice_sums::sums::Totals;
+use refusals::Refusal;
 
 // Reads a shot file, measures the list that it holds, and fills the front of the buffer with its corner listing, 7 bytes a corner.
-pub fn list_file(bytes: &[u8], coords: &mut [u16], work: &mut [u32], buffer: &mut [u8]) -> Measured
+pub fn list_file(
+    bytes: &[u8],
+    coords: &mut [u16],
+    work: &mut [u32],
+    buffer: &mut [u8],
+) -> Result<Totals, Refusal>
     ensures { FileListed bytes.now coords.old work.old buffer.old
         result coords.new work.new buffer.new }
 {
-    let read = shotfile_reader::read(bytes, coords);
-    match read {
-        ReadAnswer::Read {
-            field,
-            edge,
-            grid,
-            shots,
-        } => {
-            let list = job::shot::first(coords, shots);
-            measure::list(field, edge, grid, list, work, buffer)
-        }
-        ReadAnswer::Refused(refusal) => Measured::Refused(refusal),
-    }
+    let stored = shotfile_reader::read(bytes, coords)?;
+    measure::list(stored.job(coords), work, buffer)
 }

@@ -9,17 +9,16 @@ use Rattle.lattice.specs.Listing.{listing}
 use Rattle.lattice_sums.specs.CornerSums.{totals_of}
 use Rattle.lattice_sums.specs.declared.sums.Totals.{Totals}
 use Rattle.job.specs.Job.{Job}
-use Rattle.refusals.specs.declared.Checked.{Checked}
-use Rattle.refusals.specs.declared.Checked.TheVariants.{Accepted as Passed}
 use Rattle.grid.specs.Grid.{index_of, Holds}
 use Rattle.measure_intake.specs.Intake.{solid, measure_checked, measure_answer, measured_numbers, numbers_after, measure_numbers, work_after, MeasureAccepts, MeasureCall}
-use Rattle.measure_intake.specs.declared.Measured.TheVariants.{Quote}
 use Rattle.measure_intake.proofs.Refused.{answer-accepted, measure-decides, work-stored}
 use Rattle.measure.proofs.Refused.{list-decides}
 use Rattle.measure.specs.Answers.{list_checked, list_answer, list_numbers, listing_after, ListCall}
 use Rattle.buffer.specs.Wrote.{in_front}
 use Rattle.refusals.specs.Tests.{if_accepted}
 use Rattle.lattice.proofs.ListingLaws.{length-listing}
+use Rattle.refusals.specs.Refusals.{Checked}
+use Rattle.std.specs.Prelude.{Ok}
 
 -- an accepted list, with these totals and this work slice
 pub record Accepted (job : Job) (t : Totals) (work' : List ℕ) : Type 0 where
@@ -27,7 +26,7 @@ pub record Accepted (job : Job) (t : Totals) (work' : List ℕ) : Type 0 where
   pub holds-index : Holds job work'
 
 -- the numbers of checks that pass are the totals
-passed-totals : {c : Checked} (n : ℕ) (s : Cells) {t : Totals} → measured_numbers (Quote t) ≡ numbers_after c n s → c ≡ Passed → t ≡ totals_of n s
+passed-totals : {c : Checked} (n : ℕ) (s : Cells) {t : Totals} → measured_numbers (Ok t) ≡ numbers_after c n s → c ≡ Ok tt → t ≡ totals_of n s
 unfolding measured_numbers
 passed-totals n s e k = ap (λ m. m.totals) (e ∙ ap (λ c. numbers_after c n s) k)
 
@@ -35,7 +34,7 @@ passed-totals n s e k = ap (λ m. m.totals) (e ∙ ap (λ c. numbers_after c n s
 passed-holds : (job : Job) (work : List ℕ) {work' : List ℕ} → work' ≡ work_after job work → MeasureAccepts job (length work) → Holds job work'
 passed-holds job work e a = record { valid = a.0; rest = drop (length (index_of job)) work; is = e ∙ work-stored job work a }
 
-pub measure-accepted : {job : Job} {work work' : List ℕ} {t : Totals} → MeasureCall job work (Quote t) work' → Accepted job t work'
+pub measure-accepted : {job : Job} {work work' : List ℕ} {t : Totals} → MeasureCall job work (Ok t) work' → Accepted job t work'
 unfolding measure_answer measure_numbers
 measure-accepted {job} {work} {work'} {t} call =
     let k = (answer-accepted (measure_checked job (length work)) job.field (solid job)).0 (t, sym call.answer) in
@@ -44,10 +43,10 @@ measure-accepted {job} {work} {work'} {t} call =
       holds-index = passed-holds job work call.index ((measure-decides job (length work)).accepted.0 k);
     }
 
-module _ {job : Job} {work buffer work' buffer' : List ℕ} {t : Totals} (call : ListCall job work buffer (Quote t) work' buffer') where
+module _ {job : Job} {work buffer work' buffer' : List ℕ} {t : Totals} (call : ListCall job work buffer (Ok t) work' buffer') where
   open job use {field as F}
 
-  passed : list_checked job (length work) (length buffer) ≡ Passed
+  passed : list_checked job (length work) (length buffer) ≡ Ok tt
   unfolding list_answer
   passed = (answer-accepted (list_checked job (length work) (length buffer)) F (solid job)).0 (t, sym call.answer)
 

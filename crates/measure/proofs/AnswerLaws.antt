@@ -15,18 +15,16 @@ use Rattle.lattice.proofs.ListingLaws.{length-bytes, length-corners}
 use Rattle.refusals.specs.Tests.{if_accepted, first_of}
 use Rattle.refusals.specs.declared.Refusal.{Refusal}
 use Rattle.refusals.specs.declared.Refusal.TheVariants.{ShortListing}
-use Rattle.refusals.specs.declared.Checked.{Checked}
-use Rattle.refusals.specs.declared.Checked.TheVariants.{Accepted, Refused}
 use Rattle.refusals.proofs.FirstOf.{first-passed, first-stopped}
 use Rattle.sweep_tally.specs.Found.{state, found}
 use Rattle.sweep_tally.proofs.Result.{found-sums, found-bytes}
-use Rattle.measure_intake.specs.Intake.{solid, measure_tests, answer_of, measured_numbers, IndexCall}
+use Rattle.measure_intake.specs.Intake.{solid, measure_tests, answer_of, measured_numbers, IndexCall, Measured}
 use Rattle.measure_intake.proofs.IntakeLaws.{answer-numbers}
 use Rattle.refusals.proofs.OneMore.{too_short, long-enough}
 use Rattle.measure.specs.Answers.{short_listing, list_tests, list_checked, list_answer, list_numbers, listing_after, CornersListed, ListCall}
-use Rattle.measure_intake.specs.declared.Measured.{Measured}
-use Rattle.measure_intake.specs.declared.Measured.TheVariants.{Quote, Refused as Unmeasured}
 use Rattle.buffer.specs.Wrote.{in_front}
+use Rattle.refusals.specs.Refusals.{Checked}
+use Rattle.std.specs.Prelude.{Ok, Err}
 
 -- ---- the sums of a sweep are the totals
 module _ (n : ℕ) (s : Cells) (within : Within n s) where
@@ -53,17 +51,17 @@ module _ (n : ℕ) (s : Cells) (before : List ℕ) where
   left : Checked → List ℕ
   left c = if_accepted c (λ r. before) (in_front (listing n s) before)
 
-  pub short-listing : {c : ℕ} → c ≡ corner_count n s → length before / 7 < c → CornersListed n s before (Unmeasured (ShortListing c)) before
+  pub short-listing : {c : ℕ} → c ≡ corner_count n s → length before / 7 < c → CornersListed n s before (Err (ShortListing c)) before
   unfolding left first_of
   short-listing e h =
       let l = sym (too_short [] (length before) (7 * corner_count n s) (ShortListing (corner_count n s)) refl (omega (arith, e))) in
-      record { answer = ap (λ c. Unmeasured (ShortListing c)) e ∙ ap (λ c. answer_of c n s) l; listing = ap left l }
+      record { answer = ap (λ c. Err (ShortListing c)) e ∙ ap (λ c. answer_of c n s) l; listing = ap left l }
 
-  pub long-listing : {t : Totals} {after : List ℕ} → 7 * corner_count n s ≤ length before → t ≡ totals_of n s → after ≡ in_front (listing n s) before → CornersListed n s before (Quote t) after
+  pub long-listing : {t : Totals} {after : List ℕ} → 7 * corner_count n s ≤ length before → t ≡ totals_of n s → after ≡ in_front (listing n s) before → CornersListed n s before (Ok t) after
   unfolding left first_of
   long-listing h e k =
       let l = sym (long-enough [] (length before) (7 * corner_count n s) (ShortListing (corner_count n s)) refl h) in
-      record { answer = ap Quote e ∙ ap (λ c. answer_of c n s) l; listing = k ∙ ap left l }
+      record { answer = ap Ok e ∙ ap (λ c. answer_of c n s) l; listing = k ∙ ap left l }
 
 pub totals-corners : (n : ℕ) (s : Cells) {t : Totals} → t ≡ totals_of n s → t.corners ≡ corner_count n s
 unfolding totals_of
@@ -85,12 +83,12 @@ module _ {job : Job} {work work' : List ℕ} {c : Checked} (call : IndexCall job
         listing = k ∙ ap (left F (solid job) buffer) h;
       }
 
-  pub refused-list : (r : Refusal) → c ≡ Refused r → ListCall job work buffer (Unmeasured r) work' buffer
+  pub refused-list : (r : Refusal) → c ≡ Err r → ListCall job work buffer (Err r) work' buffer
   unfolding list_tests left
   refused-list r k =
       list-is (sym (first-stopped (short_listing F (solid job) (length buffer) ∷ []) (measure_tests job (length work)) (sym call.answer ∙ k))) refl refl
 
-  pub accepted-list : {m : Measured} {buffer' : List ℕ} → c ≡ Accepted → CornersListed F (solid job) buffer m buffer' → ListCall job work buffer m work' buffer'
+  pub accepted-list : {m : Measured} {buffer' : List ℕ} → c ≡ Ok tt → CornersListed F (solid job) buffer m buffer' → ListCall job work buffer m work' buffer'
   unfolding list_tests left
   accepted-list k l =
       list-is (sym (first-passed (short_listing F (solid job) (length buffer) ∷ []) (measure_tests job (length work)) (sym call.answer ∙ k))) l.answer l.listing

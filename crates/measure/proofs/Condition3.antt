@@ -29,12 +29,12 @@ use Rattle.lattice_sums.proofs.CornerSumLaws.{sum_by, sums-whole}
 use Rattle.job.proofs.Conditions.{valid-within}
 use Rattle.job.proofs.Shots.{any_at, at-any}
 use Rattle.grid.specs.Grid.{Holds}
-use Rattle.measure_intake.specs.declared.Measured.TheVariants.{Quote}
 use Rattle.measure_intake.specs.Intake.{solid, MeasureCall}
 use Rattle.measure.specs.Answers.{ListCall}
 use Rattle.measure.specs.Agreement.{Agrees, Lists, SameCells, Among}
 use Rattle.measure.proofs.AnswerLaws.{totals-corners}
 use Rattle.measure.proofs.AcceptedLaws.{Accepted, measure-accepted, list-accepted, list-stored}
+use Rattle.std.specs.Prelude.{Ok}
 
 -- ---- 1. totals = cell counts = corner sums, and the corner count = the number of corner points
 module _ {job : Job} {work' : List ℕ} {t : Totals} (a : Accepted job t work') where
@@ -61,7 +61,7 @@ module _ {job : Job} {work' : List ℕ} {t : Totals} (a : Accepted job t work') 
     outside_weighs_nothing = agreement.outside_weighs_nothing F (solid job) within;
   }
 
-module _ {job : Job} {work work' : List ℕ} {t : Totals} (call : MeasureCall job work (Quote t) work') where
+module _ {job : Job} {work work' : List ℕ} {t : Totals} (call : MeasureCall job work (Ok t) work') where
   open job use {field as F}
 
   pub measure-agrees : Agrees F (solid job) t
@@ -70,7 +70,7 @@ module _ {job : Job} {work work' : List ℕ} {t : Totals} (call : MeasureCall jo
   pub measure-holds : Holds job work'
   measure-holds = (measure-accepted call).holds-index
 
-module _ {job : Job} {work buffer work' buffer' : List ℕ} {t : Totals} (call : ListCall job work buffer (Quote t) work' buffer') where
+module _ {job : Job} {work buffer work' buffer' : List ℕ} {t : Totals} (call : ListCall job work buffer (Ok t) work' buffer') where
   open job use {field as F}
 
   pub list-agrees : Agrees F (solid job) t
@@ -104,8 +104,8 @@ module _ {job : Job} {work buffer work' buffer' : List ℕ} {t : Totals} (call :
       })
 
 -- ---- 3. two lists that `list` accepts, whatever their fields, edges, grids and orders: the same bytes exactly when they cover the same cells
-module _ {job : Job} {work buffer work' buffer' : List ℕ} {t : Totals} (one : ListCall job work buffer (Quote t) work' buffer')
-    {job₂ : Job} {work₂ buffer₂ work₂' buffer₂' : List ℕ} {t₂ : Totals} (two : ListCall job₂ work₂ buffer₂ (Quote t₂) work₂' buffer₂') where
+module _ {job : Job} {work buffer work' buffer' : List ℕ} {t : Totals} (one : ListCall job work buffer (Ok t) work' buffer')
+    {job₂ : Job} {work₂ buffer₂ work₂' buffer₂' : List ℕ} {t₂ : Totals} (two : ListCall job₂ work₂ buffer₂ (Ok t₂) work₂' buffer₂') where
   open job use {field as F}
 
   pub same_bytes : SameBytes (take (7 * t.corners) buffer') (take (7 * t₂.corners) buffer₂') ↔ SameCells (solid job) (solid job₂)
@@ -132,13 +132,13 @@ module _ {job : Job} {work' : List ℕ} {t : Totals} (one : Accepted job t work'
   count_same = count-corners one ∙ ap length corners-same ∙ sym (count-corners two)
 
 -- the grid does not matter: a list, in any two grids that a call accepts, has the same totals and corner count, and the same listing bytes
-module _ {job : Job} {work work' : List ℕ} {t : Totals} (one : MeasureCall job work (Quote t) work')
-    {G₂ : ℕ} {work₂ work₂' : List ℕ} {t₂ : Totals} (two : MeasureCall (with_grid G₂ job) work₂ (Quote t₂) work₂') where
+module _ {job : Job} {work work' : List ℕ} {t : Totals} (one : MeasureCall job work (Ok t) work')
+    {G₂ : ℕ} {work₂ work₂' : List ℕ} {t₂ : Totals} (two : MeasureCall (with_grid G₂ job) work₂ (Ok t₂) work₂') where
   pub measured-any-grid : t ≡ t₂
   measured-any-grid = (measure-accepted one).totals-are ∙ sym (measure-accepted two).totals-are
 
-module _ {job : Job} {work buffer work' buffer' : List ℕ} {t : Totals} (one : ListCall job work buffer (Quote t) work' buffer')
-    {G₂ : ℕ} {work₂ buffer₂ work₂' buffer₂' : List ℕ} {t₂ : Totals} (two : ListCall (with_grid G₂ job) work₂ buffer₂ (Quote t₂) work₂' buffer₂') where
+module _ {job : Job} {work buffer work' buffer' : List ℕ} {t : Totals} (one : ListCall job work buffer (Ok t) work' buffer')
+    {G₂ : ℕ} {work₂ buffer₂ work₂' buffer₂' : List ℕ} {t₂ : Totals} (two : ListCall (with_grid G₂ job) work₂ buffer₂ (Ok t₂) work₂' buffer₂') where
   pub totals-any-grid : t ≡ t₂
   totals-any-grid = (list-accepted one).totals-are ∙ sym (list-accepted two).totals-are
 

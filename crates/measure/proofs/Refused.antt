@@ -12,15 +12,14 @@ use Rattle.lattice_sums.specs.declared.sums.Totals.{Totals}
 use Rattle.refusals.specs.declared.Refusal.{Refusal}
 use Rattle.refusals.specs.declared.Refusal.TheVariants.{ShortListing}
 use Rattle.grid.specs.Grid.{index_of}
-use Rattle.measure_intake.specs.Intake.{solid, answer_of, MeasureAccepts, MeasureRefuses}
-use Rattle.measure_intake.specs.declared.Measured.{Measured}
-use Rattle.measure_intake.specs.declared.Measured.TheVariants.{Quote, Refused as Unmeasured}
+use Rattle.measure_intake.specs.Intake.{solid, answer_of, MeasureAccepts, MeasureRefuses, Measured}
 use Rattle.refusals.specs.Deciding.{Decides}
 use Rattle.refusals.proofs.Deciding.{decides-more}
 use Rattle.measure_intake.proofs.Refused.{answer-refused, answer-accepted, measure-decides, work-stored, work-kept}
 use Rattle.measure.specs.Answers.{list_tests, list_checked, list_answer, listing_after, ListCall, ListAccepts, ListRefuses}
 use Rattle.buffer.specs.Wrote.{in_front}
 use Rattle.refusals.specs.Tests.{if_accepted}
+use Rattle.std.specs.Prelude.{Ok, Err}
 
 -- ---- the checks of listing
 module _ (job : Job) (entries room : ℕ) where
@@ -31,11 +30,11 @@ module _ (job : Job) (entries room : ℕ) where
   list-decides = let n = corner_count F (solid job) in decides-more (measure-decides job entries) room (7 * n) (ShortListing n)
 
   -- the listing of an accepted list fits the buffer
-  pub listing-fits : {t : Totals} → Quote t ≡ list_answer job entries room → 7 * t.corners ≤ room
+  pub listing-fits : {t : Totals} → Ok t ≡ list_answer job entries room → 7 * t.corners ≤ room
   unfolding list_answer totals_of
   listing-fits {t} e =
       let k = (answer-accepted (list_checked job entries room) F (solid job)).0 (t, sym e) in
-      let same : Quote t ≡ Quote (totals_of F (solid job)) = e ∙ ap (λ c. answer_of c F (solid job)) k in
+      let same : Ok t ≡ Ok (totals_of F (solid job)) = e ∙ ap (λ c. answer_of c F (solid job)) k in
       let u : t ≡ totals_of F (solid job) = cc in
       subst (λ (n : ℕ). 7 * n ≤ room) (sym (ap (λ (t : Totals). t.corners) u)) (list-decides.accepted.0 k).1
 
@@ -44,7 +43,7 @@ module _ {job : Job} {work buffer work' buffer' : List ℕ} {m : Measured} (call
   open job use {field as F}
 
   -- a quote is given if and only if the list is valid and both lent slices are long enough
-  pub list-accepts : ((t : Totals) × (m ≡ Quote t)) ↔ ListAccepts job (length work) (length buffer)
+  pub list-accepts : ((t : Totals) × (m ≡ Ok t)) ↔ ListAccepts job (length work) (length buffer)
   unfolding list_answer
   list-accepts =
       let answer = answer-accepted (list_checked job (length work) (length buffer)) F (solid job) in
@@ -52,7 +51,7 @@ module _ {job : Job} {work buffer work' buffer' : List ℕ} {m : Measured} (call
       (λ q. h.0 (answer.0 (q.0, sym call.answer ∙ q.1)), λ v. let q = answer.1 (h.1 v) in (q.0, call.answer ∙ q.1))
 
   -- a refusal is given if and only if its condition is the first that holds
-  pub list-refuses : (r : Refusal) → (m ≡ Unmeasured r) ↔ ListRefuses job (length work) (length buffer) r
+  pub list-refuses : (r : Refusal) → (m ≡ Err r) ↔ ListRefuses job (length work) (length buffer) r
   unfolding list_answer
   list-refuses r =
       let answer = answer-refused (list_checked job (length work) (length buffer)) F (solid job) r in
@@ -60,7 +59,7 @@ module _ {job : Job} {work buffer work' buffer' : List ℕ} {m : Measured} (call
       (λ e. h.0 (answer.0 (sym call.answer ∙ e)), λ v. call.answer ∙ answer.1 (h.1 v))
 
   -- a refusal leaves the buffer as it was
-  pub list-refused-keeps : (r : Refusal) → m ≡ Unmeasured r → buffer' ≡ buffer
+  pub list-refused-keeps : (r : Refusal) → m ≡ Err r → buffer' ≡ buffer
   unfolding list_answer listing_after
   list-refused-keeps r e =
       let k = (answer-refused (list_checked job (length work) (length buffer)) F (solid job) r).0 (sym call.answer ∙ e) in

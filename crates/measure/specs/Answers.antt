@@ -7,11 +7,10 @@ use Rattle.lattice.specs.Listing.{corner_count, listing}
 use Rattle.refusals.specs.Tests.{length_test, if_accepted, Test, first_of}
 use Rattle.refusals.specs.declared.Refusal.{Refusal}
 use Rattle.refusals.specs.declared.Refusal.TheVariants.{ShortListing}
-use Rattle.refusals.specs.declared.Checked.{Checked}
-use Rattle.measure_intake.specs.Intake.{solid, measure_tests, answer_of, MeasuredNumbers, measured_numbers, numbers_after, work_after, MeasureAccepts, MeasureRefuses}
-use Rattle.measure_intake.specs.declared.Measured.{Measured}
+use Rattle.measure_intake.specs.Intake.{solid, measure_tests, answer_of, MeasuredNumbers, measured_numbers, numbers_after, work_after, MeasureAccepts, MeasureRefuses, Measured}
 use Rattle.buffer.specs.Wrote.{in_front}
 use Rattle.refusals.specs.Deciding.{Gives}
+use Rattle.refusals.specs.Refusals.{Checked}
 
 -- ---- the checks
 -- refusal 11: a listing buffer of so many bytes is shorter than 7 times the corner count

@@ -9,86 +9,61 @@
 ghost use Rattle.std.specs.Prelude.{◌≡◌, ◌*◌, ◌≤◌, length};
 ghost use Rattle.lattice.specs.Listing.{listing, corner_count};
 ghost use Rattle.lattice_sums.specs.CornerSums.{totals_of};
-ghost use Rattle.job.specs.Job.{job_of};
-ghost use Rattle.grid.specs.Grid.{Holds};
+ghost use Rattle.job.specs.Seen.{seen};
 ghost use Rattle.measure_intake.specs.Intake.{solid, MeasureCall};
 ghost use Rattle.measure.specs.Answers.{CornersListed, ListCall};
 ghost use Rattle.buffer.specs.Wrote.{in_front};
 
+use grid::indexed::Indexed;
+use job::Job;
 use lattice_sums::sums::Totals;
-use measure_intake::{Measured, indexed};
-use refusals::{Checked, Refusal};
+use measure_intake::indexed;
+use refusals::Refusal;
 
-// The totals of a valid list whose index stands in the work slice.
-fn count(field: u16, edge: u16, grid: u16, coords: &[u16], work: &[u32]) -> Totals
-    requires { Holds (job_of field edge grid coords.now) work.now }
-    ensures { result ≡ totals_of field (solid (job_of field edge grid coords.now)) }
+// The totals of a list with its index.
+fn count(list: Indexed) -> Totals
+    ensures { let job = seen list.entry.job in result ≡ totals_of job.field (solid job) }
 {
     let mut no_room = [0u8; 1];
-    let sums = sweep::sweep(field, edge, grid, coords, work, &mut no_room);
-    sums.totals()
+    sweep::sweep(list, &mut no_room).totals()
 }
 
-// Puts the listing of a valid list whose index stands in the work slice into a buffer that has room for it.
-fn store(field: u16, edge: u16, grid: u16, coords: &[u16], work: &[u32], buffer: &mut [u8])
-    requires holds { Holds (job_of field edge grid coords.now) work.now }
-    requires coords_in_bounds { 7 * corner_count field (solid (job_of field edge grid coords.now)) ≤ length buffer.old }
-    ensures { buffer.new
-        ≡ in_front (listing field (solid (job_of field edge grid coords.now))) buffer.old }
+// Puts the listing of a list with its index into a buffer that has room for it.
+fn store(list: Indexed, buffer: &mut [u8])
+    requires coords_in_bounds { let job = seen list.job in 7 * corner_count job.field (solid job) ≤ length buffer.old }
+    ensures { let job = seen list.entry.job in buffer.new ≡ in_front (listing job.field (solid job)) buffer.old }
 {
-    sweep::sweep(field, edge, grid, coords, work, buffer);
+    sweep::sweep(list, buffer);
 }
 
-// Counts the corners of a valid list whose index stands in the work slice, and lists them where the buffer has room.
-fn list_corners(
-    field: u16,
-    edge: u16,
-    grid: u16,
-    coords: &[u16],
-    work: &[u32],
-    buffer: &mut [u8],
-) -> Measured
-    requires { Holds (job_of field edge grid coords.now) work.now }
-    ensures { CornersListed field (solid (job_of field edge grid coords.now)) buffer.old
-        result buffer.new }
+// Counts the corners of a list with its index, and lists them where the buffer has room.
+fn list_corners(list: Indexed, buffer: &mut [u8]) -> Result<Totals, Refusal>
+    ensures { let job = seen list.entry.job in CornersListed job.field (solid job) buffer.old result buffer.new }
 {
-    let totals = count(field, edge, grid, coords, work);
+    let totals = count(list);
     let corners = totals.corners;
     if buffer.len() / 7 < corners {
-        return Measured::Refused(Refusal::ShortListing { corners: corners });
+        return Err(Refusal::ShortListing { corners });
     }
-    store(field, edge, grid, coords, work, buffer);
-    Measured::Quote(totals)
+    store(list, buffer);
+    Ok(totals)
 }
 
 // Measures a list: gives its four totals and its corner count, and leaves its index in the work slice. Refusals 1, 2, 6, 7, 8, 9, 10,
 // in this order, change nothing.
-pub fn measure(field: u16, edge: u16, grid: u16, coords: &[u16], work: &mut [u32]) -> Measured
-    ensures { MeasureCall (job_of field edge grid coords.now) work.old result work.new }
+pub fn measure(job: Job, work: &mut [u32]) -> Result<Totals, Refusal>
+    ensures { MeasureCall (seen job.entry) work.old result work.new }
 {
-    let checked = indexed(field, edge, grid, coords, work);
-    match checked {
-        Checked::Refused(refusal) => Measured::Refused(refusal),
-        Checked::Accepted => Measured::Quote(count(field, edge, grid, coords, work)),
-    }
+    indexed(job, work)?;
+    Ok(count(Indexed { job, work }))
 }
 
 // Measures a list and fills the front of the buffer with its corner listing. Refusals as in measuring, and then 11, which leaves the
 // finished index in the work slice and the buffer as lent.
-pub fn list(
-    field: u16,
-    edge: u16,
-    grid: u16,
-    coords: &[u16],
-    work: &mut [u32],
-    buffer: &mut [u8],
-) -> Measured
-    ensures { ListCall (job_of field edge grid coords.now) work.old buffer.old
+pub fn list(job: Job, work: &mut [u32], buffer: &mut [u8]) -> Result<Totals, Refusal>
+    ensures { ListCall (seen job.entry) work.old buffer.old
         result work.new buffer.new }
 {
-    let checked = indexed(field, edge, grid, coords, work);
-    match checked {
-        Checked::Refused(refusal) => Measured::Refused(refusal),
-        Checked::Accepted => list_corners(field, edge, grid, coords, work, buffer),
-    }
+    indexed(job, work)?;
+    list_corners(Indexed { job, work }, buffer)
 }

@@ -3,10 +3,11 @@ use mathlib.Core.Path.{◌≡◌, refl, sym, ap, ◌∙◌, fun_ext}
 use mathlib.Core.Bool.{Bool, true, false}
 use mathlib.Core.List.{List}
 use Prim.Native.Nat.{ℕ, zero, suc, ◌+◌, ◌-◌, ◌*◌, ◌/◌, ◌≤◌, ◌<◌}
-use native.Mathlib.Nat.{add-zero, add_assoc, zero-mul, div-mul-le_self, lt-div-mul-add, div-lt_iff_lt-mul, add-mul, one-mul, mul-le-mul_right}
+use native.Mathlib.Nat.{add-zero, add_assoc, zero-mul, add-mul, one-mul, mul-le-mul_right}
 use native.Mathlib.Numerals.{add-one}
 use native.Mathlib.Omega.{arith}
 use lib.ListN.{length}
+use Rattle.std.specs.Int.{from_bool}
 use Rattle.ground.specs.Numbers.{bit, up_to, those, AllBelow}
 use Rattle.lattice.specs.Cells.{Cells, below}
 use Rattle.lattice.specs.Pattern.{around, byte, of_byte}
@@ -31,38 +32,10 @@ use Rattle.measure_cells.proofs.SumLaws.{sums_none, sums-turn, sums-add, sum-agr
 
 -- ---- the cell that ends at a point
 
-module _ (s : Cells) (x y z : ℕ) where
-  pub none-at-y : (x ≡ 0 → ⊥) → y ≡ 0 → (0 ≡ bit (below s x y z)) × (0 ≤ 1)
-  none-at-y h e = (rw (e, one x), omega arith)
-    where
-      one : (x : ℕ) → below s x 0 z ≡ false
-      one zero = refl
-      one (suc i) = refl
-
-  pub none-at-z : (x ≡ 0 → ⊥) → (y ≡ 0 → ⊥) → z ≡ 0 → (0 ≡ bit (below s x y z)) × (0 ≤ 1)
-  none-at-z h k e = (rw (e, one x y), omega arith)
-    where
-      one : (x y : ℕ) → below s x y 0 ≡ false
-      one zero y = refl
-      one (suc i) zero = refl
-      one (suc i) (suc j) = refl
-
-cell-before : (s : Cells) (x y z : ℕ) → (x ≡ 0 → ⊥) → (y ≡ 0 → ⊥) → (z ≡ 0 → ⊥) → below s x y z ≡ s (x - 1) (y - 1) (z - 1)
-cell-before s zero y z hx hy hz = absurd (hx refl)
-cell-before s (suc i) zero z hx hy hz = absurd (hy refl)
-cell-before s (suc i) (suc j) zero hx hy hz = absurd (hz refl)
-cell-before s (suc i) (suc j) (suc k) hx hy hz =
-    let a : suc i - 1 ≡ i = omega arith in
-    let b : suc j - 1 ≡ j = omega arith in
-    let c : suc k - 1 ≡ k = omega arith in
-    rw (a, b, c)
-
-module _ (s : Cells) (x y z : ℕ) (hx : x ≡ 0 → ⊥) (hy : y ≡ 0 → ⊥) (hz : z ≡ 0 → ⊥) {t : Bool} (is : t ≡ s (x - 1) (y - 1) (z - 1)) where
-  pub ends-covered : t ≡ true → (1 ≡ bit (below s x y z)) × (1 ≤ 1)
-  ends-covered e = (rw (cell-before s x y z hx hy hz, ← is, e), omega arith)
-
-  pub ends-bare : t ≡ false → (0 ≡ bit (below s x y z)) × (0 ≤ 1)
-  ends-bare e = (rw (cell-before s x y z hx hy hz, ← is, e), omega arith)
+-- whether it is covered, as a number
+pub bit-told : {p : ℕ} {t b : Bool} → p ≡ from_bool t → t ≡ b → (p ≡ bit b) × (p ≤ 1)
+bit-told {t = true} e is = (e ∙ ap bit is, omega (arith, e))
+bit-told {t = false} e is = (e ∙ ap bit is, omega (arith, e))
 
 -- ---- the eight cells as a byte
 
@@ -98,26 +71,6 @@ quad-none E coords run x y z h = rw (none x y z, none x (suc y) z, none (suc x) 
     none (suc i) zero z = refl
     none (suc i) (suc j) zero = refl
     none (suc i) (suc j) (suc k) = sym (run_none E coords run i j k h)
-
--- ---- the interval that holds a point
-
-module _ (F G x : ℕ) (grid : 1 ≤ G) (width : 1 ≤ F / G) (whole : G * (F / G) ≡ F) where
-  pub last-holds : x ≡ F → InInterval (F / G) G (G - 1) x
-  last-holds e =
-      let g : G - 1 + 1 ≡ G = omega arith in
-      record {
-        below = omega arith;
-        low = omega (arith, mul-le-mul_right {m = G - 1} {n = G} (F / G) (omega arith));
-        high = rw g (omega arith);
-      }
-
-  pub inner-holds : x ≤ F → (x ≡ F → ⊥) → InInterval (F / G) G (x / (F / G)) x
-  inner-holds h k =
-      record {
-        below = (div-lt_iff_lt-mul {k = F / G} {x = x} {y = G} width).1 (omega (arith, k));
-        low = div-mul-le_self x (F / G);
-        high = omega (arith, lt-div-mul-add {a = x} {b = F / G} width, add-mul (x / (F / G)) 1 (F / G), one-mul (F / G));
-      }
 
 -- ---- the patterns of points from the run of their grid cell
 

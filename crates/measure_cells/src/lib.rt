@@ -6,20 +6,20 @@
 
 pub mod points;
 
-ghost use Rattle.job.specs.Job.{job_of};
+ghost use Rattle.job.specs.Seen.{seen};
 ghost use Rattle.measure_intake.specs.Intake.{MeasureCall};
 
 use crate::points::count_field;
-use measure_intake::{Measured, indexed};
-use refusals::Checked;
+use grid::indexed::Indexed;
+use job::Job;
+use lattice_sums::sums::Totals;
+use measure_intake::indexed;
+use refusals::Refusal;
 
 // Counts a list: the answer and the index of the measuring call, by counting.
-pub fn recount(field: u16, edge: u16, grid: u16, coords: &[u16], work: &mut [u32]) -> Measured
-    ensures { MeasureCall (job_of field edge grid coords.now) work.old result work.new }
+pub fn recount(job: Job, work: &mut [u32]) -> Result<Totals, Refusal>
+    ensures { MeasureCall (seen job.entry) work.old result work.new }
 {
-    let checked = indexed(field, edge, grid, coords, work);
-    match checked {
-        Checked::Refused(refusal) => Measured::Refused(refusal),
-        Checked::Accepted => Measured::Quote(count_field(field, edge, grid, coords, work)),
-    }
+    indexed(job, work)?;
+    Ok(count_field(Indexed { job, work }))
 }

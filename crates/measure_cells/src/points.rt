@@ -2,41 +2,27 @@
 // One run serves the eight cells about a point, since closed boxes that touch are enough (proofs/CoverRuns.antt of `grid_cover`), and of it
 // only the shots that reach the line of the point (proofs/LineLaws.antt).
 ghost use Rattle.std.specs.Prelude.{◌≡◌, ◌+◌, ◌*◌, ◌/◌, ◌≤◌, length};
-ghost use Rattle.ground.specs.Numbers.{bit};
 ghost use Rattle.lattice.specs.Cells.{below};
-ghost use Rattle.lattice.specs.Shots.{cells};
 ghost use Rattle.lattice_sums.specs.CornerSums.{totals_of};
-ghost use Rattle.job.specs.Job.{job_of, shots_of};
-ghost use Rattle.grid.specs.Grid.{Holds};
+ghost use Rattle.job.specs.Seen.{seen};
 ghost use Rattle.grid_cover.specs.Cover.{run_covers};
+ghost use Rattle.measure_intake.specs.Intake.{solid};
 ghost use Rattle.measure_tallies.specs.Tallies.{plus, AtMost};
 ghost use Rattle.measure_cells.specs.Points.{line_from, line_to, plane_to, planes_to, quad, InInterval, PointsInInterval, before_points, before_line, before_plane};
 
+use grid::indexed::Indexed;
 use grid::intervals::cells_of;
-use grid_cover::{Covering, first_covering};
+use grid_cover::first_covering;
 use grid_runs::run_of;
 use lattice_sums::sums::Totals;
 use measure_lines::narrow_to_line;
 use measure_tallies::tally;
 
-// 1 if the run covers the cell that ends at (x, y, z); no cell ends at 0.
-fn cell_ends(coords: &[u16], edge: u16, run: &[u32], x: u16, y: u16, z: u16) -> u8
-    ensures { (result ≡ bit (below (run_covers edge coords.now run.now) x y z)) × (result ≤ 1) }
+// Whether the run covers the cell that ends at (x, y, z); no cell ends at 0.
+fn cell_ends(coords: &[u16], edge: u16, run: &[u32], x: u16, y: u16, z: u16) -> bool
+    ensures { result ≡ below (run_covers edge coords.now run.now) x y z }
 {
-    if x == 0 {
-        return 0;
-    }
-    if y == 0 {
-        return 0;
-    }
-    if z == 0 {
-        return 0;
-    }
-    let covering = first_covering(coords, edge, run, x - 1, y - 1, z - 1);
-    match covering {
-        Covering::Shot(_) => 1,
-        Covering::Nothing => 0,
-    }
+    x != 0 && y != 0 && z != 0 && first_covering(coords, edge, run, x - 1, y - 1, z - 1).is_some()
 }
 
 // The four cells about the line at (x, y) that end at z, as bits 0, 2, 4 and 6. An empty run needs no test.
@@ -45,13 +31,13 @@ fn quad_ends(coords: &[u16], edge: u16, run: &[u32], x: u16, y: u16, z: u16) -> 
     requires y_bound { y ≤ 1024 }
     ensures { (result ≡ quad (run_covers edge coords.now run.now) x y z) × (result ≤ 85) }
 {
-    if run.len() == 0 {
+    if run.is_empty() {
         return 0;
     }
-    let p = cell_ends(coords, edge, run, x, y, z);
-    let q = cell_ends(coords, edge, run, x, y + 1, z);
-    let r = cell_ends(coords, edge, run, x + 1, y, z);
-    let s = cell_ends(coords, edge, run, x + 1, y + 1, z);
+    let p = u8::from(cell_ends(coords, edge, run, x, y, z));
+    let q = u8::from(cell_ends(coords, edge, run, x, y + 1, z));
+    let r = u8::from(cell_ends(coords, edge, run, x + 1, y, z));
+    let s = u8::from(cell_ends(coords, edge, run, x + 1, y + 1, z));
     p + 4 * q + 16 * r + 64 * s
 }
 
@@ -92,19 +78,16 @@ fn interval_at(field: u16, grid: u16, x: u16) -> u16
     ensures { InInterval (field / grid) grid result x }
 {
     if x == field {
-        return grid - 1;
+        grid - 1
+    } else {
+        x / (field / grid)
     }
-    x / (field / grid)
 }
 
 // The figures with those of points of the line at (x, y) that lie in interval gz of the third axis: the run of the grid cell that holds
 // them, narrowed to the shots that reach the line.
 fn count_interval(
-    field: u16,
-    edge: u16,
-    grid: u16,
-    coords: &[u16],
-    work: &[u32],
+    list: Indexed,
     x: u16,
     y: u16,
     gz: u16,
@@ -113,154 +96,84 @@ fn count_interval(
     few: &mut [u32],
     t: Totals,
 ) -> Totals
-    requires holds { Holds (job_of field edge grid coords.now) work.now }
-    requires x_le_field { x ≤ field }
-    requires y_le_field { y ≤ field }
-    requires points_in_interval { PointsInInterval (field / grid) grid gz from points }
+    requires x_le_field { x ≤ list.job.field }
+    requires y_le_field { y ≤ list.job.field }
+    requires points_in_interval { let job = list.job in PointsInInterval (job.field / job.grid) job.grid gz from points }
     requires few_len { length few.old ≡ 4096 }
     requires at_most { AtMost before_points t }
-    ensures { result ≡ plus t (line_from (cells (shots_of edge coords.now)) x y from points) }
+    ensures { result ≡ plus t (line_from (solid (seen list.entry.job)) x y from points) }
 {
-    let gx = interval_at(field, grid, x) as usize;
-    let gy = interval_at(field, grid, y) as usize;
-    let n = grid as usize;
-    let cell = (gx * n + gy) * n + (gz as usize);
-    let run = run_of(work, cells_of(grid), cell);
-    let found = narrow_to_line(coords, edge, run, x, y, few);
-    count_points(coords, edge, &few[..found], x, y, from, points, t)
+    let job = list.job;
+    let gx = interval_at(job.field, job.grid, x);
+    let gy = interval_at(job.field, job.grid, y);
+    let side = usize::from(job.grid);
+    let cell = (usize::from(gx) * side + usize::from(gy)) * side + usize::from(gz);
+    let run = run_of(list.work, cells_of(job.grid), cell);
+    let found = narrow_to_line(job.coords, job.edge, run, x, y, few);
+    count_points(job.coords, job.edge, &few[..found], x, y, from, points, t)
 }
 
 // The figures with those of the points of the line at (x, y) before the far side, interval by interval.
-fn count_intervals(
-    field: u16,
-    edge: u16,
-    grid: u16,
-    coords: &[u16],
-    work: &[u32],
-    x: u16,
-    y: u16,
-    few: &mut [u32],
-    t: Totals,
-) -> Totals
-    requires holds { Holds (job_of field edge grid coords.now) work.now }
-    requires x_le_field { x ≤ field }
-    requires y_le_field { y ≤ field }
+fn count_intervals(list: Indexed, x: u16, y: u16, few: &mut [u32], t: Totals) -> Totals
+    requires x_le_field { x ≤ list.job.field }
+    requires y_le_field { y ≤ list.job.field }
     requires few_len { length few.old ≡ 4096 }
     requires at_most { AtMost before_line t }
-    ensures { result ≡ plus t (line_to (cells (shots_of edge coords.now)) field x y) }
+    ensures { let job = list.entry.job in result ≡ plus t (line_to (solid (seen job)) job.field x y) }
 {
-    let width = field / grid;
+    let job = list.job;
+    let width = job.field / job.grid;
     let mut sums = t;
-    for gz in 0..grid {
-        sums = count_interval(
-            field,
-            edge,
-            grid,
-            coords,
-            work,
-            x,
-            y,
-            gz,
-            gz * width,
-            width,
-            few,
-            sums,
-        );
+    for gz in 0..job.grid {
+        sums = count_interval(list, x, y, gz, gz * width, width, few, sums);
     }
     sums
 }
 
 // The figures with those of the line of points at (x, y): the point of the far side lies in the last interval.
-fn count_line(
-    field: u16,
-    edge: u16,
-    grid: u16,
-    coords: &[u16],
-    work: &[u32],
-    x: u16,
-    y: u16,
-    few: &mut [u32],
-    t: Totals,
-) -> Totals
-    requires holds { Holds (job_of field edge grid coords.now) work.now }
-    requires x_le_field { x ≤ field }
-    requires y_le_field { y ≤ field }
+fn count_line(list: Indexed, x: u16, y: u16, few: &mut [u32], t: Totals) -> Totals
+    requires x_le_field { x ≤ list.job.field }
+    requires y_le_field { y ≤ list.job.field }
     requires few_len { length few.old ≡ 4096 }
     requires at_most { AtMost before_line t }
-    ensures { result ≡ plus t (line_to (cells (shots_of edge coords.now)) (field + 1) x y) }
+    ensures { let job = list.entry.job in result ≡ plus t (line_to (solid (seen job)) (job.field + 1) x y) }
 {
-    let sums = count_intervals(field, edge, grid, coords, work, x, y, few, t);
-    count_interval(
-        field,
-        edge,
-        grid,
-        coords,
-        work,
-        x,
-        y,
-        grid - 1,
-        field,
-        1,
-        few,
-        sums,
-    )
+    let sums = count_intervals(list, x, y, few, t);
+    count_interval(list, x, y, list.job.grid - 1, list.job.field, 1, few, sums)
 }
 
 // The figures with those of the plane of points at x.
-fn count_plane(
-    field: u16,
-    edge: u16,
-    grid: u16,
-    coords: &[u16],
-    work: &[u32],
-    x: u16,
-    few: &mut [u32],
-    t: Totals,
-) -> Totals
-    requires holds { Holds (job_of field edge grid coords.now) work.now }
-    requires x_le_field { x ≤ field }
+fn count_plane(list: Indexed, x: u16, few: &mut [u32], t: Totals) -> Totals
+    requires x_le_field { x ≤ list.job.field }
     requires few_len { length few.old ≡ 4096 }
     requires at_most { AtMost before_plane t }
-    ensures { result ≡ plus t (plane_to (cells (shots_of edge coords.now)) (field + 1) (field + 1) x) }
+    ensures { let job = list.entry.job in result ≡ plus t (plane_to (solid (seen job)) (job.field + 1) (job.field + 1) x) }
 {
     let mut sums = t;
-    let mut y: u16 = 0;
-    while y <= field {
-        sums = count_line(field, edge, grid, coords, work, x, y, few, sums);
-        y += 1;
+    for y in 0..=list.job.field {
+        sums = count_line(list, x, y, few, sums);
     }
     sums
 }
 
-// The figures of the planes of points before `to`, from those of the planes before `from`, of a list whose index the work slice holds.
-pub fn count_planes(
-    field: u16,
-    edge: u16,
-    grid: u16,
-    coords: &[u16],
-    work: &[u32],
-    from: u16,
-    to: u16,
-    t: Totals,
-) -> Totals
-    requires holds { Holds (job_of field edge grid coords.now) work.now }
+// The figures of the planes of points before `to`, from those of the planes before `from`, of a list with its index.
+pub fn count_planes(list: Indexed, from: u16, to: u16, t: Totals) -> Totals
     requires from_le_to { from ≤ to }
-    requires to_bound { to ≤ field + 1 }
-    requires t_value { t ≡ planes_to field (cells (shots_of edge coords.now)) from }
-    ensures { result ≡ planes_to field (cells (shots_of edge coords.now)) to }
+    requires to_bound { to ≤ list.job.field + 1 }
+    requires t_value { let job = list.job in t ≡ planes_to job.field (solid (seen job)) from }
+    ensures { let job = list.entry.job in result ≡ planes_to job.field (solid (seen job)) to }
 {
-    let mut few: [u32; 4096] = [0; 4096];
+    let mut few = [0; 4096];
     let mut sums = t;
     for x in from..to {
-        sums = count_plane(field, edge, grid, coords, work, x, &mut few, sums);
+        sums = count_plane(list, x, &mut few, sums);
     }
     sums
 }
 
-// The totals and the corner count of a list whose index the work slice holds.
-pub fn count_field(field: u16, edge: u16, grid: u16, coords: &[u16], work: &[u32]) -> Totals
-    requires { Holds (job_of field edge grid coords.now) work.now }
-    ensures { result ≡ totals_of field (cells (shots_of edge coords.now)) }
+// The totals and the corner count of a list with its index.
+pub fn count_field(list: Indexed) -> Totals
+    ensures { let job = list.entry.job in result ≡ totals_of job.field (solid (seen job)) }
 {
     let none = Totals {
         volume: 0,
@@ -269,5 +182,5 @@ pub fn count_field(field: u16, edge: u16, grid: u16, coords: &[u16], work: &[u32
         inner: 0,
         corners: 0,
     };
-    count_planes(field, edge, grid, coords, work, 0, field + 1, none)
+    count_planes(list, 0, list.job.field + 1, none)
 }

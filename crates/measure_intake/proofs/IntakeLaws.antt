@@ -11,19 +11,17 @@ use Rattle.job.specs.Job.{Job, Valid}
 use Rattle.job.specs.Checking.{tests, checked}
 use Rattle.refusals.specs.declared.Refusal.{Refusal}
 use Rattle.refusals.specs.declared.Refusal.TheVariants.{ShortWork}
-use Rattle.refusals.specs.declared.Checked.{Checked}
-use Rattle.refusals.specs.declared.Checked.TheVariants.{Accepted, Refused}
 use Rattle.job.proofs.Conditions.{accepted-valid}
 use Rattle.refusals.proofs.FirstOf.{first-stopped, checks}
 use Rattle.grid.specs.Grid.{index_of, need, Holds}
-use Rattle.measure_intake.specs.Intake.{solid, short_work, measure_tests, measure_checked, answer_of, measure_answer, measured_numbers, numbers_after, measure_numbers, work_after, IndexCall, MeasureCall}
-use Rattle.measure_intake.specs.declared.Measured.{Measured}
-use Rattle.measure_intake.specs.declared.Measured.TheVariants.{Quote, Refused as Unmeasured}
+use Rattle.measure_intake.specs.Intake.{solid, short_work, measure_tests, measure_checked, answer_of, measure_answer, measured_numbers, numbers_after, measure_numbers, work_after, IndexCall, MeasureCall, Measured}
 use Rattle.refusals.proofs.OneMore.{too_short, long-enough}
 use Rattle.refusals.proofs.Deciding.{call-accepts}
 use Rattle.measure_intake.proofs.Refused.{measure-decides}
 use Rattle.buffer.specs.Wrote.{in_front}
 use Rattle.refusals.specs.Tests.{if_accepted}
+use Rattle.refusals.specs.Refusals.{Checked}
+use Rattle.std.specs.Prelude.{Ok, Err}
 
 -- ---- the intake
 module _ (job : Job) (work : List ℕ) where
@@ -36,28 +34,28 @@ module _ (job : Job) (work : List ℕ) where
   intake-is e k = record { answer = e; numbers = (checks (measure_tests job (length work)) e).numbers; index = k ∙ ap left e }
 
   -- a list that the checks refuse
-  pub refused-intake : {c : Checked} (r : Refusal) → c ≡ checked job → c ≡ Refused r → IndexCall job work c work
+  pub refused-intake : {c : Checked} (r : Refusal) → c ≡ checked job → c ≡ Err r → IndexCall job work c work
   unfolding measure_tests left
   refused-intake r e k =
       intake-is (k ∙ sym (first-stopped (short_work job (length work) ∷ []) (tests job) (sym e ∙ k))) (sym (ap left k))
 
   -- one that they accept, and a work slice that is too short or long enough
-  module _ (accepted : checked job ≡ Accepted) where
+  module _ (accepted : checked job ≡ Ok tt) where
     pub valid : Valid job
     valid = (accepted-valid job).0 accepted
 
-    pub short-intake : {n : ℕ} → n ≡ need job → length work < n → IndexCall job work (Refused (ShortWork n)) work
+    pub short-intake : {n : ℕ} → n ≡ need job → length work < n → IndexCall job work (Err (ShortWork n)) work
     unfolding measure_tests left
     short-intake e h =
-        intake-is (ap (λ n. Refused (ShortWork n)) e ∙ sym (too_short (tests job) (length work) (need job) (ShortWork (need job)) accepted (omega (arith, e)))) refl
+        intake-is (ap (λ n. Err (ShortWork n)) e ∙ sym (too_short (tests job) (length work) (need job) (ShortWork (need job)) accepted (omega (arith, e)))) refl
 
     pub long-intake : {n : ℕ} {work' : List ℕ} → n ≡ need job → n ≤ length work → work' ≡ in_front (index_of job) work
-        → IndexCall job work Accepted work'
+        → IndexCall job work (Ok tt) work'
     unfolding measure_tests left
     long-intake e h k = intake-is (sym (long-enough (tests job) (length work) (need job) (ShortWork (need job)) accepted (omega (arith, e)))) k
 
 -- ---- an accepted list is valid, and the work slice holds its index
-module _ {job : Job} {work work' : List ℕ} {c : Checked} (call : IndexCall job work c work') (k : c ≡ Accepted) where
+module _ {job : Job} {work work' : List ℕ} {c : Checked} (call : IndexCall job work c work') (k : c ≡ Ok tt) where
   pub accepted-holds : Holds job work'
   unfolding work_after left
   accepted-holds = record {
@@ -69,8 +67,8 @@ module _ {job : Job} {work work' : List ℕ} {c : Checked} (call : IndexCall job
 -- ---- the numbers of an answer
 pub answer-numbers : (c : Checked) (F : ℕ) (s : Cells) → measured_numbers (answer_of c F s) ≡ numbers_after c F s
 unfolding measured_numbers
-answer-numbers Accepted F s = refl
-answer-numbers (Refused r) F s = refl
+answer-numbers (Ok tt) F s = refl
+answer-numbers (Err r) F s = refl
 
 -- ---- measuring, after the intake
 module _ {job : Job} {work work' : List ℕ} {c : Checked} (call : IndexCall job work c work') where
@@ -86,8 +84,8 @@ module _ {job : Job} {work work' : List ℕ} {c : Checked} (call : IndexCall job
         index = call.index;
       }
 
-  pub refused-measure : (r : Refusal) → c ≡ Refused r → MeasureCall job work (Unmeasured r) work'
+  pub refused-measure : (r : Refusal) → c ≡ Err r → MeasureCall job work (Err r) work'
   refused-measure r k = measure-is (ap (λ c. answer_of c F (solid job)) (sym k))
 
-  pub accepted-measure : {t : Totals} → c ≡ Accepted → t ≡ totals_of F (solid job) → MeasureCall job work (Quote t) work'
-  accepted-measure k e = measure-is (ap Quote e ∙ ap (λ c. answer_of c F (solid job)) (sym k))
+  pub accepted-measure : {t : Totals} → c ≡ Ok tt → t ≡ totals_of F (solid job) → MeasureCall job work (Ok t) work'
+  accepted-measure k e = measure-is (ap Ok e ∙ ap (λ c. answer_of c F (solid job)) (sym k))

@@ -1,28 +1,29 @@
 -- What the intake of a list answers and leaves in the work slice, and what measuring answers: docs/SCOPE.md, 'The grid index' and 'When a
 -- job is refused'. A list covers the cells `solid`; the totals are its cell counts. `IndexCall` and `MeasureCall` are the promises of
 -- the calls.
-use Rattle.std.specs.Prelude.{◌≡◌, List, [], ◌∷◌, ◌++◌, ◌⊎◌, ℕ, ◌≤◌, ◌<◌, length}
+use Rattle.std.specs.Prelude.{◌≡◌, List, [], ◌∷◌, ◌++◌, ◌⊎◌, ℕ, ◌≤◌, ◌<◌, length, Result, Ok, Err}
 use Rattle.lattice.specs.Cells.{Cells}
 use Rattle.lattice.specs.Shots.{cells}
 use Rattle.lattice_sums.specs.CornerSums.{totals_of}
 use Rattle.lattice_sums.specs.declared.sums.Totals.{Totals}
 use Rattle.job.specs.Job.{Job, shots, Valid}
-use Rattle.refusals.specs.Refusals.{number_of, detail_of, checked_numbers}
+use Rattle.refusals.specs.Refusals.{number_of, detail_of, checked_numbers, Checked}
 use Rattle.refusals.specs.Tests.{Test, length_test, first_of, first_numbers, if_accepted}
 use Rattle.job.specs.Checking.{tests}
 use Rattle.job.specs.Conditions.{Condition}
 use Rattle.refusals.specs.Deciding.{First, Gives}
 use Rattle.refusals.specs.declared.Refusal.{Refusal}
 use Rattle.refusals.specs.declared.Refusal.TheVariants.{ShortWork}
-use Rattle.refusals.specs.declared.Checked.{Checked}
 use Rattle.buffer.specs.Wrote.{in_front}
 use Rattle.grid.specs.Grid.{index_of, need}
-use Rattle.measure_intake.specs.declared.Measured.{Measured}
-use Rattle.measure_intake.specs.declared.Measured.TheVariants.{Quote, Refused as Unmeasured}
 
 -- the cells that a list covers
 abbrev pub solid : Job → Cells
 solid job = cells (shots job)
+
+-- what measuring answers: the totals of a list and its corner count, or why there are none
+abbrev pub Measured : Type 0
+Measured = Result Totals Refusal
 
 -- ---- the numbers of an answer
 -- the refusal's number and detail, 0 and 0 where there is none, and what is measured
@@ -40,8 +41,8 @@ abbrev pub refused_numbers : Refusal → MeasuredNumbers
 refused_numbers r = record { number = number_of r; detail = detail_of r; totals = record { volume = 0; area = 0; edge = 0; inner = 0; corners = 0 } }
 
 unfoldable pub measured_numbers : Measured → MeasuredNumbers
-measured_numbers (Quote t) = quote_numbers t
-measured_numbers (Unmeasured r) = refused_numbers r
+measured_numbers (Ok t) = quote_numbers t
+measured_numbers (Err r) = refused_numbers r
 
 -- ---- the checks
 -- refusal 10: a work slice of so many entries is shorter than needed
@@ -58,7 +59,7 @@ measure_checked job entries = first_of (measure_tests job entries)
 -- ---- what is answered and left, by the checks
 -- a refusal, or the totals
 abbrev pub answer_of : Checked → ℕ → Cells → Measured
-answer_of c F s = if_accepted c Unmeasured (Quote (totals_of F s))
+answer_of c F s = if_accepted c Err (Ok (totals_of F s))
 
 -- and the numbers: of a refusal its own, otherwise the cell counts and the corner count
 abbrev pub numbers_after : Checked → ℕ → Cells → MeasuredNumbers

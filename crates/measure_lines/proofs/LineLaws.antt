@@ -2,41 +2,21 @@
 use mathlib.Core.Path.{◌≡◌, ap, fun_ext}
 use mathlib.Core.Bool.{Bool, true, false, ◌&&◌}
 use mathlib.Core.List.{List}
-use Prim.Native.Nat.{ℕ, suc, ◌+◌, ◌≤◌, ◌<◌}
+use Prim.Native.Nat.{ℕ, suc, ◌+◌, ◌≤◌}
 use native.Mathlib.Omega.{arith}
 use lib.Dec.{leb, ltb}
-use lib.ListN.{length}
-use borrow.Author.Tests.{le-leb, leb-true, ltb-true, lt-leb}
+use borrow.Author.Tests.{le-leb, leb-true, ltb-true}
+use Rattle.std.specs.Prelude.{is_some}
 use Rattle.lattice.specs.Cells.{up}
 use Rattle.lattice.specs.Pattern.{around}
 use Rattle.lattice.specs.Shots.{spans, covers}
 use Rattle.job.specs.Job.{shot_count, x_at, y_at, z_at, edge_at, shot_at}
 use Rattle.ground.proofs.Bools.{and-true}
 use Rattle.ground.specs.Numbers.{those}
-use Rattle.ground.proofs.NumberLaws.{those-length}
-use Rattle.grid_cover.specs.Cover.{shot_covers, is_some, first_covering, run_covers}
+use Rattle.grid_cover.specs.Cover.{shot_covers, first_covering, run_covers}
 use Rattle.grid_cover.proofs.CoverLaws.{first-among}
 use Rattle.grid_cover.proofs.CoverRuns.{below-agree}
 use Rattle.measure_lines.specs.Lines.{reaches_place, reaches_line}
-
--- ---- the two tests
-
-pub reach-not : (e a x : ℕ) → x < a → false ≡ reaches_place e a x
-reach-not e a x h = rw (lt-leb a x h)
-
-pub reach-if : (e a x : ℕ) → a ≤ x → leb x (a + e) ≡ reaches_place e a x
-reach-if e a x h = rw (le-leb a x h)
-
--- the coordinates and the edge of a shot, read one by one
-module _ (E : ℕ) (coords : List ℕ) (x y s : ℕ) {edge a : ℕ} (is : edge ≡ edge_at E coords s) (x_is : a ≡ x_at coords s) where
-  pub line-not-x : reaches_place edge a x ≡ false → false ≡ reaches_line E coords x y s
-  line-not-x h = rw (← is, ← x_is, h)
-
-  pub line-by-y : {b : ℕ} → b ≡ y_at coords s → reaches_place edge a x ≡ true → reaches_place edge b y ≡ reaches_line E coords x y s
-  line-by-y y_is h = rw (← is, ← x_is, ← y_is, h)
-
-pub line-room : (p : ℕ → Bool) (run : List ℕ) {n : ℕ} → length run ≤ n → 0 + length (those p run) ≤ n
-line-room p run h = omega (arith, those-length p run)
 
 -- ---- what covers a cell about the line reaches the line
 

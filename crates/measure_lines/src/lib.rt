@@ -2,25 +2,19 @@
 // specs/Lines.antt says which they are. Stands on `job` and `grid_cover`.
 #![tactic(auto)]
 
-mod put;
-
 ghost use Rattle.std.specs.Prelude.{◌≡◌, ◌≤◌, ◌<◌, length};
 ghost use Rattle.buffer.specs.Wrote.{Wrote};
 ghost use Rattle.job.specs.Job.{shot_count};
 ghost use Rattle.ground.specs.Numbers.{AllBelow, those};
 ghost use Rattle.measure_lines.specs.Lines.{reaches_place, reaches_line};
 
-use crate::put::put_if;
 use job::shot;
 
 // Whether the edge of a shot from a coordinate on holds a place of the axis, ends included.
 fn reaches_place(edge: u16, at: u16, place: u16) -> bool
     ensures { result ≡ reaches_place edge at place }
 {
-    if place < at {
-        return false;
-    }
-    (place as u32) <= (at as u32) + (edge as u32)
+    at <= place && u32::from(place) <= u32::from(at) + u32::from(edge)
 }
 
 // Whether a shot reaches the line of points at (x, y).
@@ -30,10 +24,8 @@ fn reaches_line(coords: &[u16], edge: u16, shot: u32, x: u16, y: u16) -> bool
 {
     let number = shot as usize;
     let side = shot::edge_of(edge, coords, number);
-    if !reaches_place(side, shot::x_of(coords, number), x) {
-        return false;
-    }
-    reaches_place(side, shot::y_of(coords, number), y)
+    reaches_place(side, shot::x_of(coords, number), x)
+        && reaches_place(side, shot::y_of(coords, number), y)
 }
 
 // Of the shots of a run, puts those that reach the line at (x, y) to the front, in their order, and gives how many there are.
@@ -51,8 +43,11 @@ pub fn narrow_to_line(
         (those (reaches_line edge coords.now x y) run.now) }
 {
     let mut next = 0;
-    for i in 0..run.len() {
-        next = put_if(reaches_line(coords, edge, run[i], x, y), run[i], to, next);
+    for &shot in run {
+        if reaches_line(coords, edge, shot, x, y) {
+            to[next] = shot;
+            next += 1;
+        }
     }
     next
 }

@@ -4,16 +4,16 @@
 #![tactic(auto)]
 
 ghost use Rattle.std.specs.Prelude.{◌≡◌, ◌+◌, ◌≤◌, ◌<◌};
-ghost use Rattle.lattice.specs.Shots.{cells};
 ghost use Rattle.lattice_sums.specs.CornerSums.{totals_of};
-ghost use Rattle.job.specs.Job.{job_of, shots_of};
-ghost use Rattle.grid.specs.Grid.{Holds};
-ghost use Rattle.measure_intake.specs.Intake.{MeasureCall};
+ghost use Rattle.job.specs.Seen.{seen};
+ghost use Rattle.measure_intake.specs.Intake.{solid, MeasureCall};
 
+use grid::indexed::Indexed;
+use job::Job;
 use lattice_sums::sums::Totals;
 use measure_cells::points::count_planes;
-use measure_intake::{Measured, indexed};
-use refusals::Checked;
+use measure_intake::indexed;
+use refusals::Refusal;
 use std::io::{IsTerminal, Print};
 use std::rt::Stderr;
 use text_parts::put_digits;
@@ -36,14 +36,10 @@ fn show(stderr: Stderr, terminal: bool, plane: u16, planes: u16) {
         return;
     }
     show_words(stderr, b"recount: plane ");
-    show_number(stderr, plane as u64);
+    show_number(stderr, u64::from(plane));
     show_words(stderr, b" of ");
-    show_number(stderr, planes as u64);
-    if terminal {
-        show_words(stderr, b"\r");
-        return;
-    }
-    show_words(stderr, b"\n");
+    show_number(stderr, u64::from(planes));
+    show_words(stderr, if terminal { b"\r" } else { b"\n" });
 }
 
 // Takes the line of a terminal away.
@@ -57,38 +53,14 @@ fn clear(stderr: Stderr, terminal: bool) {
 fn piece(terminal: bool) -> u16
     ensures { (1 ≤ result) × (result ≤ 256) }
 {
-    if terminal {
-        return 1;
-    }
-    256
+    if terminal { 1 } else { 256 }
 }
 
-// The plane after a piece that begins at x, or after the last plane.
-fn after(field: u16, x: u16, planes: u16) -> u16
-    requires field_bound { field ≤ 1024 }
-    requires x_le_field { x ≤ field }
-    requires le_planes { (1 ≤ planes) × (planes ≤ 256) }
-    ensures { (x < result) × (result ≤ field + 1) }
+// The totals and the corner count of a list with its index, piece by piece.
+fn count_shown(stderr: Stderr, terminal: bool, list: Indexed) -> Totals
+    ensures { let job = list.entry.job in result ≡ totals_of job.field (solid (seen job)) }
 {
-    if field - x < planes {
-        return field + 1;
-    }
-    x + planes
-}
-
-// The totals and the corner count of a list whose index the work slice holds, piece by piece.
-fn count_shown(
-    stderr: Stderr,
-    terminal: bool,
-    field: u16,
-    edge: u16,
-    grid: u16,
-    coords: &[u16],
-    work: &[u32],
-) -> Totals
-    requires { Holds (job_of field edge grid coords.now) work.now }
-    ensures { result ≡ totals_of field (cells (shots_of edge coords.now)) }
-{
+    let field = list.job.field;
     let planes = piece(terminal);
     let mut sums = Totals {
         volume: 0,
@@ -97,34 +69,19 @@ fn count_shown(
         inner: 0,
         corners: 0,
     };
-    let mut x: u16 = 0;
-    while x <= field {
+    for x in (0..field + 1).step_by(usize::from(planes)) {
         show(stderr, terminal, x, field + 1);
-        let to = after(field, x, planes);
-        sums = count_planes(field, edge, grid, coords, work, x, to, sums);
-        x = to;
+        sums = count_planes(list, x, (x + planes).min(field + 1), sums);
     }
     clear(stderr, terminal);
     sums
 }
 
 // Counts a list: the answer and the index of the measuring call, by counting, shown on standard error.
-pub fn recount(
-    stderr: Stderr,
-    field: u16,
-    edge: u16,
-    grid: u16,
-    coords: &[u16],
-    work: &mut [u32],
-) -> Measured
-    ensures { MeasureCall (job_of field edge grid coords.now) work.old result work.new }
+pub fn recount(stderr: Stderr, job: Job, work: &mut [u32]) -> Result<Totals, Refusal>
+    ensures { MeasureCall (seen job.entry) work.old result work.new }
 {
-    let checked = indexed(field, edge, grid, coords, work);
+    indexed(job, work)?;
     let terminal = stderr.is_terminal();
-    match checked {
-        Checked::Refused(refusal) => Measured::Refused(refusal),
-        Checked::Accepted => {
-            Measured::Quote(count_shown(stderr, terminal, field, edge, grid, coords, work))
-        }
-    }
+    Ok(count_shown(stderr, terminal, Indexed { job, work }))
 }

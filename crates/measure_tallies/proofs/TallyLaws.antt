@@ -1,11 +1,12 @@
 -- What a pattern byte counts, bit by bit.
 use mathlib.Core.Path.{◌≡◌, refl, ap}
-use mathlib.Core.Bool.{Bool, true, false, not}
+use mathlib.Core.Bool.{Bool, true, false}
 use Prim.Native.Nat.{ℕ, zero, suc, ◌+◌, ◌/◌, ◌%◌, ◌≤◌, ◌<◌}
 use native.Mathlib.Nat.{add-zero, mod-eq_of_lt}
 use native.Mathlib.Omega.{arith}
 use lib.Dec.{eqb, leb, leb→le}
-use borrow.Author.Tests.{eq-eqb, ne_eqb}
+use mir.Val.{bool_byte}
+use Rattle.ground.specs.Numbers.{bit}
 use Rattle.ground.proofs.Bits.{bit-most, bit-of}
 use Rattle.lattice.specs.Cells.{square, OfFour, covered, edge, inner_edge}
 use Rattle.lattice.specs.Pattern.{Pattern, of_byte, w, ax, ay, az, ex, ey, ez, ix, iy, iz, some_nonzero, corner}
@@ -13,14 +14,10 @@ use Rattle.lattice_sums.specs.declared.sums.Totals.{Totals}
 use Rattle.ground.proofs.Cases.{each_four-at}
 use Rattle.measure_tallies.specs.Tallies.{edges_above, at_pattern, nothing, plus, differs, AtMost}
 
-pub alike : (a b : ℕ) → a ≡ b → 0 ≡ differs a b
-alike a b e = rw (eq-eqb a b e)
-
-pub apart : (a b : ℕ) → (a ≡ b → ⊥) → 1 ≡ differs a b
-apart a b h = rw (ne_eqb a b h)
-
-pub differs-most : (a b : ℕ) → differs a b ≤ 1
-differs-most a b = bit-most (not (eqb a b))
+-- a test as a number
+pub bit-is : (b : Bool) → bool_byte b ≡ bit b
+bit-is true = refl
+bit-is false = refl
 
 -- a unit square by the bits of its two cells
 square-bits : (x y : ℕ) → x < 2 → y < 2 → (q : Bool → Bool) → q false ≡ eqb x 1 → q true ≡ eqb y 1 → differs x y ≡ square q
@@ -76,14 +73,6 @@ pattern-most p =
 pub edges_are : (count : OfFour) (p : Pattern) {a b c : ℕ}
     → a ≡ count (λ b c. p true b c) → b ≡ count (λ a c. p a true c) → c ≡ count (λ a b. p a b true) → a + b + c ≡ edges_above count p
 edges_are count p ea eb ec = rw (ea, eb, ec)
-
-pub corner-is : (p : Pattern) {t : Bool} → t ≡ corner p → t ≡ true → 1 ≡ (at_pattern p).corners
-unfolding at_pattern
-corner-is p e h = rw (← e, h)
-
-pub no-corner-is : (p : Pattern) {t : Bool} → t ≡ corner p → t ≡ false → 0 ≡ (at_pattern p).corners
-unfolding at_pattern
-no-corner-is p e h = rw (← e, h)
 
 pub plus-is : (t u : Totals) {a b c d e : ℕ} → a ≡ u.volume → b ≡ u.area → c ≡ u.edge → d ≡ u.inner → e ≡ u.corners
     → record { volume = t.volume + a; area = t.area + b; edge = t.edge + c; inner = t.inner + d; corners = t.corners + e } ≡ plus t u

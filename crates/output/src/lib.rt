@@ -6,74 +6,87 @@
 use refusals::Refusal;
 use std::io::{Error, ErrorKind, Print};
 use std::process::ExitCode;
-use std::rt::{Stderr, Stdout};
+use std::rt::{Stderr, Stdin, Stdout};
 
-// Says words on standard error. Where that cannot be written, there is nowhere to say so.
-pub fn say(stderr: Stderr, words: &[u8]) {
-    let _ = stderr.write_all(words);
+// A program: its name, and what it reads and writes.
+#[derive(Clone, Copy)]
+pub struct Program<'a> {
+    pub name: &'a [u8],
+    pub stdin: Stdin,
+    pub stdout: Stdout,
+    pub stderr: Stderr,
 }
 
-// Says a number on standard error, in decimal digits.
-pub fn say_number(stderr: Stderr, number: u64) {
-    let _ = stderr.print(number);
-}
-
-// Says that a program's standard input cannot be read.
-pub fn say_unreadable(stderr: Stderr, program: &[u8]) {
-    say(stderr, program);
-    say(stderr, b": standard input cannot be read\n");
-}
-
-// Says that a program was given arguments.
-pub fn say_takes_none(stderr: Stderr, program: &[u8]) {
-    say(stderr, program);
-    say(stderr, b": takes no arguments: it reads standard input\n");
-}
-
-// Says that a program's standard output cannot be written.
-pub fn say_unwritable(stderr: Stderr, program: &[u8]) {
-    say(stderr, program);
-    say(stderr, b": standard output cannot be written\n");
-}
-
-// How a program ends whose text was not written, or not all of it. Where the reader of a pipe has left, nothing is said, and the status is
-// that of a program which signal 13 ends, as shells have it. Else it is said, and the program ends with 0, whatever it says.
-pub fn end_unwritten(stderr: Stderr, program: &[u8], error: Error) -> ExitCode {
-    if error.kind() == ErrorKind::BrokenPipe {
-        return ExitCode::from(141);
+impl<'a> Program<'a> {
+    // The program of this name that a runtime runs.
+    pub fn new(name: &'a [u8], rt: &HostRuntime) -> Program<'a> {
+        Program {
+            name,
+            stdin: rt.stdin(),
+            stdout: rt.stdout(),
+            stderr: rt.stderr(),
+        }
     }
-    say_unwritable(stderr, program);
-    ExitCode::SUCCESS
-}
 
-// Writes the text of a program, or says that it cannot be written, or not all of it; and how the program ends.
-pub fn write_text(stdout: Stdout, stderr: Stderr, program: &[u8], text: &[u8]) -> ExitCode {
-    match stdout.write_all(text) {
-        Ok(()) => ExitCode::SUCCESS,
-        Err(error) => end_unwritten(stderr, program, error),
+    // Says words on standard error. Where that cannot be written, there is nowhere to say so.
+    pub fn say(self, words: &[u8]) {
+        let _ = self.stderr.write_all(words);
     }
-}
 
-// Notes that a VOX file has further models, which are passed; the answer stands.
-pub fn note_first_model(stderr: Stderr, program: &[u8]) {
-    say(stderr, program);
-    say(
-        stderr,
-        b": note: the file has further models; only the first is read\n",
-    );
-}
+    // Says a number on standard error, in decimal digits.
+    pub fn say_number(self, number: u64) {
+        let _ = self.stderr.print(number);
+    }
 
-// Says the number and the detail of a refusal, and its sentence.
-pub fn say_refusal(stderr: Stderr, program: &[u8], refusal: Refusal) {
-    let told = refusals::notice_of(refusal);
-    say(stderr, program);
-    say(stderr, b": refused ");
-    say_number(stderr, told.number as u64);
-    say(stderr, b" ");
-    say_number(stderr, told.detail as u64);
-    say(stderr, b": ");
-    let mut sentence = [0u8; 64];
-    let n = text_wording::put_sentence(&mut sentence, 0, refusal);
-    say(stderr, &sentence[..n]);
-    say(stderr, b"\n");
+    // Says words behind the program's name.
+    pub fn tell(self, words: &[u8]) {
+        self.say(self.name);
+        self.say(words);
+    }
+
+    // Says that standard input cannot be read.
+    pub fn tell_unreadable(self) {
+        self.tell(b": standard input cannot be read\n");
+    }
+
+    // Says that it was given arguments.
+    pub fn tell_takes_none(self) {
+        self.tell(b": takes no arguments: it reads standard input\n");
+    }
+
+    // How it ends where its text was not written, or not all of it. Where the reader of a pipe has left, nothing is said, and the status is that
+    // of a program which signal 13 ends, as shells have it. Else it is said, and the program ends with 0, whatever it says.
+    pub fn end_unwritten(self, error: Error) -> ExitCode {
+        if error.kind() == ErrorKind::BrokenPipe {
+            return ExitCode::from(141);
+        }
+        self.tell(b": standard output cannot be written\n");
+        ExitCode::SUCCESS
+    }
+
+    // Writes its text, or says that it cannot be written, or not all of it; and how it ends.
+    pub fn write_text(self, text: &[u8]) -> ExitCode {
+        match self.stdout.write_all(text) {
+            Ok(()) => ExitCode::SUCCESS,
+            Err(error) => self.end_unwritten(error),
+        }
+    }
+
+    // Notes that a VOX file has further models, which are passed; the answer stands.
+    pub fn note_first_model(self) {
+        self.tell(b": note: the file has further models; only the first is read\n");
+    }
+
+    // Says the number and the detail of a refusal, and its sentence; and ends.
+    pub fn end_refused(self, refusal: Refusal) -> ExitCode {
+        let told = refusals::notice_of(refusal);
+        self.tell(b": refused ");
+        self.say_number(u64::from(told.number));
+        self.say(b" ");
+        self.say_number(told.detail as u64);
+        self.say(b": ");
+        self.say(text_wording::sentence(refusal));
+        self.say(b"\n");
+        ExitCode::SUCCESS
+    }
 }

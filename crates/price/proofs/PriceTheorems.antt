@@ -14,14 +14,13 @@ use Rattle.refusals.proofs.Deciding.{decides-then}
 use Rattle.grid.specs.Grid.{index_of}
 use Rattle.measure_intake.specs.Intake.{solid, MeasureAccepts, MeasureRefuses}
 use Rattle.measure_intake.proofs.Refused.{measure-decides, work-stored, work-kept}
-use Rattle.price_charging.specs.Charging.{Tables, ChargedBy, priced_by}
+use Rattle.price_charging.specs.Charging.{Tables, ChargedBy, priced_by, Priced}
 use Rattle.price_charging.specs.declared.Charges.{Charges}
-use Rattle.price_charging.specs.declared.Priced.{Priced}
-use Rattle.price_charging.specs.declared.Priced.TheVariants.{Charged, Refused as Unpriced}
 use Rattle.price_charging.proofs.TableLaws.{tables-decide}
 use Rattle.price_charging.proofs.ChargeLaws.{valid-charged, priced-accepted, priced-refused}
 use Rattle.price.specs.Price.{price_tests, price_checked, solid_charges, price_answer, PriceCall, PriceAccepts, PriceRefuses}
 use Rattle.price.proofs.AmountLaws.{volume-most, area-most, edge_most}
+use Rattle.std.specs.Prelude.{Ok, Err}
 
 -- ---- the checks
 pub price-decides : (job : Job) (entries : ℕ) (t : Tables) → Decides (price_tests job entries t) (PriceAccepts job entries t) (PriceRefuses job entries t)
@@ -33,7 +32,7 @@ module _ {job : Job} {work work' : List ℕ} {t : Tables} {p : Priced} (call : P
   open job use {field as F}
 
   -- charges are given if and only if the list is valid, the work slice is long enough and the three tables are valid
-  pub price-accepts : ((c : Charges) × (p ≡ Charged c)) ↔ PriceAccepts job (length work) t
+  pub price-accepts : ((c : Charges) × (p ≡ Ok c)) ↔ PriceAccepts job (length work) t
   unfolding price_answer
   price-accepts =
       let answer = priced-accepted (price_checked job (length work) t) (solid_charges t F (solid job)) in
@@ -41,7 +40,7 @@ module _ {job : Job} {work work' : List ℕ} {t : Tables} {p : Priced} (call : P
       (λ q. h.0 (answer.0 (q.0, sym call.answer ∙ q.1)), λ v. let q = answer.1 (h.1 v) in (q.0, call.answer ∙ q.1))
 
   -- a refusal is given if and only if its condition is the first that holds
-  pub price-refuses : (r : Refusal) → (p ≡ Unpriced r) ↔ PriceRefuses job (length work) t r
+  pub price-refuses : (r : Refusal) → (p ≡ Err r) ↔ PriceRefuses job (length work) t r
   unfolding price_answer
   price-refuses r =
       let answer = priced-refused (price_checked job (length work) t) (solid_charges t F (solid job)) r in
@@ -56,7 +55,7 @@ module _ {job : Job} {work work' : List ℕ} {t : Tables} {p : Priced} (call : P
   price-work-done h = call.index ∙ work-stored job work h
 
   -- the charges of a priced list
-  module _ {c : Charges} (charged : p ≡ Charged c) where
+  module _ {c : Charges} (charged : p ≡ Ok c) where
     accepted : PriceAccepts job (length work) t
     accepted = price-accepts.0 (c, charged)
 
@@ -64,7 +63,7 @@ module _ {job : Job} {work work' : List ℕ} {t : Tables} {p : Priced} (call : P
     unfolding price_answer
     charges-are =
         let k = (price-decides job (length work) t).accepted.1 accepted in
-        let same : Charged c ≡ Charged (solid_charges t F (solid job)) = sym charged ∙ call.answer ∙ ap (λ c. priced_by c (solid_charges t F (solid job))) k in
+        let same : Ok c ≡ Ok (solid_charges t F (solid job)) = sym charged ∙ call.answer ∙ ap (λ c. priced_by c (solid_charges t F (solid job))) k in
         cc
 
     pub volume-charged : ChargedBy t.volume (volume F (solid job)) c.volume

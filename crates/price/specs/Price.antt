@@ -4,13 +4,10 @@ use Rattle.lattice.specs.Cells.{Cells, volume, area, edge_length}
 use Rattle.job.specs.Job.{Job}
 use Rattle.refusals.specs.Tests.{Test, first_of}
 use Rattle.refusals.specs.declared.Refusal.{Refusal}
-use Rattle.refusals.specs.declared.Checked.{Checked}
-use Rattle.refusals.specs.declared.Checked.TheVariants.{Accepted, Refused}
-use Rattle.measure_intake.specs.Intake.{solid, measure_tests, measure_checked, work_after, MeasureAccepts, MeasureRefuses}
-use Rattle.price_charging.specs.Charging.{Tables, table_tests, ValidTables, TableRefuses, charges_of, priced_by, PricedNumbers, priced_numbers, priced_numbers_by}
+use Rattle.measure_intake.specs.Intake.{solid, measure_tests, work_after, MeasureAccepts, MeasureRefuses}
+use Rattle.price_charging.specs.Charging.{Tables, table_tests, ValidTables, TableRefuses, charges_of, priced_by, PricedNumbers, priced_numbers, priced_numbers_by, Priced}
 use Rattle.price_charging.specs.declared.Charges.{Charges}
-use Rattle.price_charging.specs.declared.Taken.{Taken}
-use Rattle.price_charging.specs.declared.Priced.{Priced}
+use Rattle.refusals.specs.Refusals.{Checked}
 
 -- ---- the tests of pricing: those of measuring, and then 18
 unfoldable pub price_tests : Job → ℕ → Tables → List Test
@@ -43,13 +40,3 @@ PriceAccepts job entries t = MeasureAccepts job entries × ValidTables t
 -- as measuring does; by 18 if measuring accepts and a table is not valid
 abbrev pub PriceRefuses : Job → ℕ → Tables → Refusal → Type 0
 PriceRefuses job entries t r = MeasureRefuses job entries r ⊎ (MeasureAccepts job entries × TableRefuses t r)
-
--- ---- the words of `take_amounts`
--- the amounts of a solid whose list the tests of measuring accept; 0 where they refuse it
-abbrev pub taken_of : Checked → ℕ → Cells → Taken
-taken_of Accepted F s = record { checked = Accepted; volume = volume F s; area = area F s; edge = edge_length F s }
-taken_of (Refused r) F s = record { checked = Refused r; volume = 0; area = 0; edge = 0 }
-
-pub record TakeCall (job : Job) (work : List ℕ) (r : Taken) (work' : List ℕ) : Type 0 where
-  pub taken : r ≡ taken_of (measure_checked job (length work)) job.field (solid job)
-  pub index : work' ≡ work_after job work

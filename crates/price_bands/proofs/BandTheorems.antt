@@ -11,9 +11,7 @@ use lib.Dec.{ltb, eqb}
 use lib.ListN.{length}
 use borrow.Author.Tests.{ltb-true, ltb-false, lt-ltb, le-ltb, eq-eqb, ne_eqb, eqb-true, eqb-false}
 use Rattle.price_bands.specs.declared.Band.{Band}
-use Rattle.price_bands.specs.declared.Verdict.{Verdict}
-use Rattle.price_bands.specs.declared.Verdict.TheVariants.{Sound, Faulty}
-use Rattle.price_bands.specs.Bands.{top, highest_rate, most_bands, band_at, In, due_at, Good, ValidTable, FirstFaulty, Fault, too_many, band_faulty, no_top, is_good, first_faulty, end_of, verdict_of, holds, RatedBy, rate_of}
+use Rattle.price_bands.specs.Bands.{top, highest_rate, most_bands, band_at, In, due_at, Good, ValidTable, FirstFaulty, Fault, too_many, band_faulty, no_top, is_good, first_faulty, end_of, verdict_of, holds, RatedBy, rate_of, no_fault, fault_at, Verdict}
 use Rattle.ground.proofs.Bools.{not_so}
 use Rattle.price_bands.proofs.JudgeLaws.{holds-says, good-says}
 
@@ -92,28 +90,28 @@ module _ (bands : List Band) where
   end_is = sym (due-end 0 bands) ∙ due-zero bands (length bands)
 
   -- what each case of the verdict is
-  many-said : most_bands < length bands → verdict_of bands ≡ Faulty most_bands
+  many-said : most_bands < length bands → verdict_of bands ≡ fault_at most_bands
   unfolding verdict_of
   many-said h = rw (lt-ltb most_bands (length bands) h)
 
   module _ (few : length bands ≤ most_bands) where
-    fault-said : first_faulty 0 bands < length bands → verdict_of bands ≡ Faulty (first_faulty 0 bands)
+    fault-said : first_faulty 0 bands < length bands → verdict_of bands ≡ fault_at (first_faulty 0 bands)
     unfolding verdict_of
     fault-said h = rw (le-ltb most_bands (length bands) few, lt-ltb (first_faulty 0 bands) (length bands) h)
 
     module _ (all : length bands ≤ first_faulty 0 bands) where
-      short-said : ¬ (due_at bands (length bands) ≡ top + 1) → verdict_of bands ≡ Faulty (length bands)
+      short-said : ¬ (due_at bands (length bands) ≡ top + 1) → verdict_of bands ≡ fault_at (length bands)
       unfolding verdict_of
       short-said h = rw (le-ltb most_bands (length bands) few, le-ltb (first_faulty 0 bands) (length bands) all, end_is, ne_eqb (due_at bands (length bands)) (top + 1) h)
 
-      sound-said : due_at bands (length bands) ≡ top + 1 → verdict_of bands ≡ Sound
+      sound-said : due_at bands (length bands) ≡ top + 1 → verdict_of bands ≡ no_fault
       unfolding verdict_of
       sound-said h = rw (le-ltb most_bands (length bands) few, le-ltb (first_faulty 0 bands) (length bands) all, end_is, eq-eqb (due_at bands (length bands)) (top + 1) h)
 
   -- a table is valid, or has a fault, and the verdict says which
   data Outcome : Verdict → Type 0 where
-    valid : ValidTable bands → Outcome Sound
-    faulty : {d : ℕ} → Fault bands d → Outcome (Faulty d)
+    valid : ValidTable bands → Outcome no_fault
+    faulty : {d : ℕ} → Fault bands d → Outcome (fault_at d)
 
   outcome : Outcome (verdict_of bands)
   outcome = go (ltb most_bands (length bands)) refl
@@ -139,25 +137,25 @@ module _ (bands : List Band) where
               subst Outcome (sym (sound-said few all yes)) (valid (record { few = few; good = λ i h. good-before i (omega (arith, h, all)); reaches_top = yes }))
 
   -- ---- the check finds no fault if and only if the table is valid
-  pub sound-iff : (verdict_of bands ≡ Sound) ↔ ValidTable bands
+  pub sound-iff : (verdict_of bands ≡ no_fault) ↔ ValidTable bands
   sound-iff = (λ e. from (subst Outcome e outcome), λ v. sound-said v.few (good-first (length bands) (omega arith) v.good) v.reaches_top)
     where
-      from : Outcome Sound → ValidTable bands
+      from : Outcome no_fault → ValidTable bands
       from (valid v) = v
 
   -- ---- and it finds this fault if and only if it is the first
-  pub fault-iff : (d : ℕ) → (verdict_of bands ≡ Faulty d) ↔ Fault bands d
+  pub fault-iff : (d : ℕ) → (verdict_of bands ≡ fault_at d) ↔ Fault bands d
   fault-iff d = (λ e. from (subst Outcome e outcome), to)
     where
-      from : Outcome (Faulty d) → Fault bands d
+      from : Outcome (fault_at d) → Fault bands d
       from (faulty f) = f
 
-      to : {d : ℕ} → Fault bands d → verdict_of bands ≡ Faulty d
+      to : {d : ℕ} → Fault bands d → verdict_of bands ≡ fault_at d
       to (too_many h) = many-said h
       to (band_faulty {i} few f) =
           let least = good-first i (omega (arith, f.is_band)) f.earlier_good in
           let here : first_faulty 0 bands ≡ i = exact (ltb i (first_faulty 0 bands)) refl least f in
-          fault-said few (omega (arith, here, f.is_band)) ∙ ap Faulty here
+          fault-said few (omega (arith, here, f.is_band)) ∙ ap fault_at here
         where
           exact : (c : Bool) → ltb i (first_faulty 0 bands) ≡ c → i ≤ first_faulty 0 bands → FirstFaulty bands i → first_faulty 0 bands ≡ i
           exact true e l f = absurd (f.faulty (good-before i (ltb-true i (first_faulty 0 bands) e)))

@@ -4,8 +4,7 @@ use mathlib.Core.List.{List, [], ◌∷◌}
 use Prim.Native.Nat.{ℕ, ◌+◌}
 use lib.ListN.{replicate}
 use Rattle.price_bands.specs.declared.Band.{Band}
-use Rattle.price_bands.specs.declared.Verdict.TheVariants.{Sound, Faulty}
-use Rattle.price_bands.specs.Bands.{top, highest_rate, most_bands, first_faulty, end_of, verdict_of, rate_of}
+use Rattle.price_bands.specs.Bands.{top, highest_rate, most_bands, first_faulty, end_of, verdict_of, rate_of, no_fault, fault_at}
 
 abbrev band : ℕ → ℕ → ℕ → Band
 band first last cents = record { first = first; last = last; cents = cents }
@@ -14,7 +13,7 @@ band first last cents = record { first = first; last = last; cents = cents }
 abbrev two : List Band
 two = band 0 14 5 ∷ band 15 top highest_rate ∷ []
 
-sound : verdict_of two ≡ Sound
+sound : verdict_of two ≡ no_fault
 unfolding verdict_of first_faulty end_of
 sound = refl
 
@@ -35,45 +34,45 @@ unfolding rate_of
 past_the_top = refl
 
 -- ---- faulty bands: a gap of one, an overlap of one, an end before the start, an end past the top, a rate too high, a start past 0
-gap : verdict_of (band 0 14 5 ∷ band 16 top 4 ∷ []) ≡ Faulty 1
+gap : verdict_of (band 0 14 5 ∷ band 16 top 4 ∷ []) ≡ fault_at 1
 unfolding verdict_of first_faulty end_of
 gap = refl
 
-overlap : verdict_of (band 0 14 5 ∷ band 14 top 4 ∷ []) ≡ Faulty 1
+overlap : verdict_of (band 0 14 5 ∷ band 14 top 4 ∷ []) ≡ fault_at 1
 unfolding verdict_of first_faulty end_of
 overlap = refl
 
-turned : verdict_of (band 0 14 5 ∷ band 15 14 4 ∷ band 15 top 4 ∷ []) ≡ Faulty 1
+turned : verdict_of (band 0 14 5 ∷ band 15 14 4 ∷ band 15 top 4 ∷ []) ≡ fault_at 1
 unfolding verdict_of first_faulty end_of
 turned = refl
 
-too_far : verdict_of (band 0 (top + 1) 5 ∷ []) ≡ Faulty 0
+too_far : verdict_of (band 0 (top + 1) 5 ∷ []) ≡ fault_at 0
 unfolding verdict_of first_faulty end_of
 too_far = refl
 
-too-high : verdict_of (band 0 top (highest_rate + 1) ∷ []) ≡ Faulty 0
+too-high : verdict_of (band 0 top (highest_rate + 1) ∷ []) ≡ fault_at 0
 unfolding verdict_of first_faulty end_of
 too-high = refl
 
-not-from-zero : verdict_of (band 1 top 5 ∷ []) ≡ Faulty 0
+not-from-zero : verdict_of (band 1 top 5 ∷ []) ≡ fault_at 0
 unfolding verdict_of first_faulty end_of
 not-from-zero = refl
 
 -- a band behind the top
-behind : verdict_of (band 0 top 5 ∷ band (top + 1) (top + 1) 4 ∷ []) ≡ Faulty 1
+behind : verdict_of (band 0 top 5 ∷ band (top + 1) (top + 1) 4 ∷ []) ≡ fault_at 1
 unfolding verdict_of first_faulty end_of
 behind = refl
 
 -- ---- no top: the number of bands
-none : verdict_of [] ≡ Faulty 0
+none : verdict_of [] ≡ fault_at 0
 unfolding verdict_of first_faulty end_of
 none = refl
 
-short : verdict_of (band 0 14 5 ∷ band 15 99 4 ∷ []) ≡ Faulty 2
+short : verdict_of (band 0 14 5 ∷ band 15 99 4 ∷ []) ≡ fault_at 2
 unfolding verdict_of first_faulty end_of
 short = refl
 
 -- ---- more than 64 bands, whatever they hold
-many : verdict_of (replicate (most_bands + 1) (band 3 2 1)) ≡ Faulty 64
+many : verdict_of (replicate (most_bands + 1) (band 3 2 1)) ≡ fault_at 64
 unfolding verdict_of first_faulty end_of
 many = refl

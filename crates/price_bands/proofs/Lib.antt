@@ -1,4 +1,4 @@
 pub mod BandTheorems  -- what the check and the lookup are good for, for any band list
-pub mod SurveyLaws  -- after the last band the state says the verdict and the rate
-pub mod JudgeLaws  -- one band more, one way out after the other
+pub mod CheckLaws  -- band after band, for the check and the lookup
+pub mod JudgeLaws  -- what the tests of one band say
 pub mod Examples  -- small tables, by computing

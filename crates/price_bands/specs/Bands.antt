@@ -1,9 +1,8 @@
 -- A table of price bands: what a valid one is, what is wrong with one that is not, and the band that holds an amount: docs/SCOPE.md, 'Price
 -- bands'. Nothing here is about a list or its totals. `verdict_of` and `rate_of` are what the check and the lookup answer.
-use Rattle.std.specs.Prelude.{◌≡◌, Bool, cond, ◌&&◌, List, [], ◌∷◌, ℕ, zero, suc, ◌+◌, ◌≤◌, ◌<◌, leb, ltb, eqb, length, get_or}
+use Rattle.std.specs.Prelude.{◌≡◌, Bool, cond, ◌&&◌, List, [], ◌∷◌, ℕ, zero, suc, ◌+◌, ◌≤◌, ◌<◌, leb, ltb, eqb, length, get_or, Result, Ok, Err}
 use Rattle.price_bands.specs.declared.Band.{Band}
-use Rattle.price_bands.specs.declared.Verdict.{Verdict}
-use Rattle.price_bands.specs.declared.Verdict.TheVariants.{Sound, Faulty}
+use Rattle.price_bands.specs.declared.FaultyBand.{FaultyBand}
 
 -- ---- amounts and bands
 -- the largest amount, 2⁴⁰; the highest rate; how many bands a table may have
@@ -76,11 +75,21 @@ unfoldable pub end_of : ℕ → List Band → ℕ
 end_of due [] = due
 end_of due (b ∷ bs) = end_of (b.last + 1) bs
 
+-- what the check says: nothing against a table, or its fault
+abbrev pub Verdict : Type 0
+Verdict = Result (Unit {0}) FaultyBand
+
+abbrev pub no_fault : Verdict
+no_fault = Ok tt
+
+abbrev pub fault_at : ℕ → Verdict
+fault_at d = Err (record { band = d })
+
 unfoldable pub verdict_of : List Band → Verdict
 verdict_of bands =
-    cond (ltb most_bands (length bands)) (Faulty most_bands)
-    (cond (ltb (first_faulty 0 bands) (length bands)) (Faulty (first_faulty 0 bands))
-    (cond (eqb (end_of 0 bands) (top + 1)) Sound (Faulty (length bands))))
+    cond (ltb most_bands (length bands)) (fault_at most_bands)
+    (cond (ltb (first_faulty 0 bands) (length bands)) (fault_at (first_faulty 0 bands))
+    (cond (eqb (end_of 0 bands) (top + 1)) no_fault (fault_at (length bands))))
 
 -- ---- the rate of an amount
 abbrev pub holds : Band → ℕ → Bool

@@ -1,21 +1,14 @@
 -- What is charged by three tables, and the tests of the tables behind any tests: docs/SCOPE.md, 'Price bands' and 'When a job is refused', 18.
 -- The tests are a list of their own, and charging takes amounts and knows no totals: another amount, or another test in front, moves nothing
 -- here.
-use Rattle.std.specs.Prelude.{◌≡◌, Bool, true, false, List, [], ◌∷◌, ℕ, ◌*◌, ◌<◌, ◌^◌}
-use Rattle.refusals.specs.Refusals.{number_of, detail_of}
+use Rattle.std.specs.Prelude.{◌≡◌, Bool, true, false, List, [], ◌∷◌, ℕ, ◌*◌, Result, Ok, Err}
+use Rattle.refusals.specs.Refusals.{number_of, detail_of, Checked}
 use Rattle.refusals.specs.Tests.{Test, if_accepted}
 use Rattle.refusals.specs.declared.Refusal.{Refusal}
 use Rattle.refusals.specs.declared.Refusal.TheVariants.{InvalidTable}
-use Rattle.refusals.specs.declared.Checked.{Checked}
-use Rattle.refusals.specs.declared.Checked.TheVariants.{Accepted, Refused}
-use Rattle.price_bands.specs.Bands.{ValidTable, Fault, RatedBy, verdict_of, rate_of}
+use Rattle.price_bands.specs.Bands.{Verdict, ValidTable, Fault, RatedBy, verdict_of, rate_of}
 use Rattle.price_bands.specs.declared.Band.{Band}
-use Rattle.price_bands.specs.declared.Verdict.{Verdict}
-use Rattle.price_bands.specs.declared.Verdict.TheVariants.{Sound, Faulty}
 use Rattle.price_charging.specs.declared.Charges.{Charges}
-use Rattle.price_charging.specs.declared.Taken.{Taken}
-use Rattle.price_charging.specs.declared.Priced.{Priced}
-use Rattle.price_charging.specs.declared.Priced.TheVariants.{Charged, Refused as Unpriced}
 
 -- the three tables of a shop
 pub record Tables : Type 0 where
@@ -26,12 +19,12 @@ pub record Tables : Type 0 where
 -- ---- the tests
 -- refusal 18: a table has a fault
 abbrev pub is_faulty : Verdict → Bool
-is_faulty Sound = false
-is_faulty (Faulty band) = true
+is_faulty (Ok tt) = false
+is_faulty (Err fault) = true
 
 abbrev pub faulty_band : Verdict → ℕ
-faulty_band Sound = 0
-faulty_band (Faulty band) = band
+faulty_band (Ok tt) = 0
+faulty_band (Err fault) = fault.band
 
 abbrev pub verdict_test : Verdict → Test
 verdict_test v = record { holds = is_faulty v; gives = InvalidTable (faulty_band v) }
@@ -63,9 +56,12 @@ pub record ChargedBy (bands : List Band) (amount charge : ℕ) : Type 0 where
 abbrev pub charges_of : Tables → ℕ → ℕ → ℕ → Charges
 charges_of t v a e = record { volume = v * rate_of v t.volume; area = a * rate_of a t.area; edge = e * rate_of e t.edges }
 
--- ---- what is answered, by the checks
+-- ---- what is answered, by the checks: the charges of a list, or why there are none
+abbrev pub Priced : Type 0
+Priced = Result Charges Refusal
+
 abbrev pub priced_by : Checked → Charges → Priced
-priced_by c charges = if_accepted c Unpriced (Charged charges)
+priced_by c charges = if_accepted c Err (Ok charges)
 
 -- the numbers of an answer: the refusal's number and detail, 0 and 0 where there is none, and the charges, 0 where there is one
 pub record PricedNumbers : Type 0 where
@@ -80,30 +76,8 @@ abbrev pub unpriced_numbers : Refusal → PricedNumbers
 unpriced_numbers r = record { number = number_of r; detail = detail_of r; charges = record { volume = 0; area = 0; edge = 0 } }
 
 unfoldable pub priced_numbers : Priced → PricedNumbers
-priced_numbers (Charged c) = charged_numbers c
-priced_numbers (Unpriced r) = unpriced_numbers r
+priced_numbers (Ok c) = charged_numbers c
+priced_numbers (Err r) = unpriced_numbers r
 
 abbrev pub priced_numbers_by : Checked → Charges → PricedNumbers
 priced_numbers_by c charges = if_accepted c unpriced_numbers (charged_numbers charges)
-
--- ---- the words of the functions
--- one table more
-abbrev pub checked_after : Checked → Verdict → Checked
-checked_after (Refused r) v = Refused r
-checked_after Accepted Sound = Accepted
-checked_after Accepted (Faulty band) = Refused (InvalidTable band)
-
--- three tables more
-abbrev pub checked_after_three : Checked → Verdict → Verdict → Verdict → Checked
-checked_after_three c v a e = checked_after (checked_after (checked_after c v) a) e
-
--- no charge by a table without fault wraps
-pub record Chargeable (t : Taken) (v a e : Verdict) (v-rate a-rate e-rate : ℕ) : Type 0 where
-  pub volume_fits : v ≡ Sound → t.volume * v-rate < 2 ^ 64
-  pub area_fits : a ≡ Sound → t.area * a-rate < 2 ^ 64
-  pub edge_fits : e ≡ Sound → t.edge * e-rate < 2 ^ 64
-
-abbrev pub charged_of : Taken → Verdict → Verdict → Verdict → ℕ → ℕ → ℕ → Priced
-charged_of t v a e v-rate a-rate e-rate =
-    priced_by (checked_after_three t.checked v a e)
-    (record { volume = t.volume * v-rate; area = t.area * a-rate; edge = t.edge * e-rate })

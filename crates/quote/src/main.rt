@@ -2,24 +2,23 @@
 // known totals'. What it prints is `quoting::quote`; here are only the sizes.
 #![tactic(auto)]
 
-use input::Filled;
+use output::Program;
 use std::process::ExitCode;
-use std::rt::{Stderr, Stdout};
 
-// Prints what is to be printed for the first n bytes.
-fn print_quote(stdout: Stdout, stderr: Stderr, bytes: &[u8]) -> ExitCode {
+// Prints what is to be printed for a file.
+fn print_quote(program: Program, bytes: &[u8]) -> ExitCode {
     let mut coords = [0u16; 12288];
     let mut work = [0u32; 16384];
     let mut out = [0u8; 256];
     let n = quoting::quote(bytes, &mut coords, &mut work, &mut out);
-    output::write_text(stdout, stderr, b"quote", &out[..n])
+    program.write_text(&out[..n])
 }
 
 fn main(rt: HostRuntime) -> ExitCode {
+    let program = Program::new(b"quote", &rt);
     let mut bytes = [0u8; 28680];
-    let filled = input::take(&rt, rt.stdin(), rt.stderr(), b"quote", &mut bytes);
-    match filled {
-        Filled::Bytes(n) => print_quote(rt.stdout(), rt.stderr(), &bytes[..n]),
-        Filled::Failed => ExitCode::SUCCESS,
+    match input::take(&rt, program, &mut bytes) {
+        Some(n) => print_quote(program, &bytes[..n]),
+        None => ExitCode::SUCCESS,
     }
 }

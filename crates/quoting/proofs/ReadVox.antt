@@ -5,15 +5,15 @@ use Prim.Native.Nat.{ℕ}
 use Rattle.buffer.specs.Wrote.{Wrote}
 use Rattle.buffer.proofs.WroteLaws.{wrote_as}
 use Rattle.job.specs.Job.{shot_count}
-use Rattle.shotfile_reader.specs.declared.ReadAnswer.{ReadAnswer}
+use Rattle.shotfile_reader.specs.Calls.{ReadAnswer}
 use Rattle.shotfile_reader.proofs.Accepted.{FileRead}
 use Rattle.vox.specs.Vox.{vox_in, VoxCall}
 use Rattle.vox.proofs.Fits.{vox-fits}
-use Rattle.measure_intake.specs.declared.Measured.{Measured}
 use Rattle.quoting_text.specs.Quoting.{answer_text}
 use Rattle.quoting_text.specs.Answered.{ShotsThere, answered_file, FileMeasured}
 use Rattle.quoting_text.proofs.TextLaws.{measured-as, shots-there, answered-is}
 use Rattle.quoting.specs.VoxQuoting.{vox_text, VoxQuoted}
+use Rattle.measure_intake.specs.Intake.{Measured}
 
 module _ {bytes coords coords' : List ℕ} {a : ReadAnswer} (read : VoxCall bytes coords a coords') where
   vox-read : FileRead (vox_in (shot_count coords) bytes) coords a coords'

@@ -9,20 +9,20 @@ use Rattle.buffer.specs.Wrote.{Wrote}
 use Rattle.buffer.proofs.WroteLaws.{wrote_as}
 use Rattle.lattice_sums.specs.CornerSums.{totals_of}
 use Rattle.job.specs.Job.{Job, shot_count, Valid}
-use Rattle.refusals.specs.declared.Checked.{Checked}
 use Rattle.grid.specs.Grid.{need}
 use Rattle.shotfile_reader.specs.Files.{File, file}
 use Rattle.vox.specs.Vox.{vox_in}
 use Rattle.vox.proofs.Voxels.{vox-list}
 use Rattle.measure_intake.specs.Intake.{solid, answer_of, measure_answer}
-use Rattle.measure_intake.specs.declared.Measured.TheVariants.{Quote}
 use Rattle.measure_intake.proofs.Refused.{measure-decides}
 use Rattle.text_report.specs.Lines.{quote_lines}
 use Rattle.quoting_text.specs.Quoting.{answer_text, quoted_text}
 use Rattle.quoting.specs.VoxQuoting.{vox_text, VoxQuoted}
+use Rattle.refusals.specs.Refusals.{Checked}
+use Rattle.std.specs.Prelude.{Ok}
 
 -- a list that is valid and has its entries is quoted: its totals are its cell counts
-measure-quotes : (job : Job) (entries : ℕ) → Valid job → need job ≤ entries → measure_answer job entries ≡ Quote (totals_of job.field (solid job))
+measure-quotes : (job : Job) (entries : ℕ) → Valid job → need job ≤ entries → measure_answer job entries ≡ Ok (totals_of job.field (solid job))
 unfolding measure_answer
 measure-quotes job entries v h = ap (λ (c : Checked). answer_of c job.field (solid job)) ((measure-decides job entries).accepted.1 (v, h))
 

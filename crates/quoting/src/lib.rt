@@ -7,26 +7,20 @@ ghost use Rattle.quoting_text.specs.Quoting.{FileQuoted};
 ghost use Rattle.quoting_text.specs.Answered.{ShotsThere, answered_file, FileMeasured};
 ghost use Rattle.quoting.specs.VoxQuoting.{VoxQuoted};
 
-use measure_intake::Measured;
-use shotfile_reader::ReadAnswer;
+use job::Stored;
+use lattice_sums::sums::Totals;
+use refusals::Refusal;
 
 // Goes on from what reading a file answers: measures the list that stands in the coordinates.
-fn measure_read(read: ReadAnswer, coords: &[u16], work: &mut [u32]) -> Measured
+fn measure_read(
+    read: Result<Stored, Refusal>,
+    coords: &[u16],
+    work: &mut [u32],
+) -> Result<Totals, Refusal>
     requires { ShotsThere read coords.now }
     ensures { FileMeasured (answered_file read coords.now) work.old result work.new }
 {
-    match read {
-        ReadAnswer::Read {
-            field,
-            edge,
-            grid,
-            shots,
-        } => {
-            let list = job::shot::first(coords, shots);
-            measure::measure(field, edge, grid, list, work)
-        }
-        ReadAnswer::Refused(refusal) => Measured::Refused(refusal),
-    }
+    measure::measure(read?.job(coords), work)
 }
 
 // What the quoting program prints for a shot file, put to the front of a slice of at least 256 bytes. The coordinates and the index of

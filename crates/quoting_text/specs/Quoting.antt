@@ -1,24 +1,22 @@
 -- What the quoting program prints for a shot file, and what is in the lent slices then: docs/SCOPE.md, the end of 'Jobs with known totals'.
-use Rattle.std.specs.Prelude.{◌≡◌, List, ℕ, length}
+use Rattle.std.specs.Prelude.{◌≡◌, List, ℕ, length, Ok, Err}
 use Rattle.buffer.specs.Wrote.{Wrote}
 use Rattle.job.specs.Job.{shot_count}
 use Rattle.shotfile_reader.specs.Files.{File, file, refused, file_in}
 use Rattle.shotfile_reader.specs.Calls.{read_coords}
-use Rattle.measure_intake.specs.Intake.{measure_answer, work_after}
-use Rattle.measure_intake.specs.declared.Measured.{Measured}
-use Rattle.measure_intake.specs.declared.Measured.TheVariants.{Quote, Refused}
+use Rattle.measure_intake.specs.Intake.{measure_answer, work_after, Measured}
 use Rattle.text_report.specs.Lines.{quote_lines}
 use Rattle.text_refusal.specs.RefusalLine.{refusal_text}
 
 -- a quote prints its lines, and a refusal only its number and detail
 unfoldable pub answer_text : Measured → List ℕ
-answer_text (Quote t) = quote_lines t
-answer_text (Refused r) = refusal_text r
+answer_text (Ok t) = quote_lines t
+answer_text (Err r) = refusal_text r
 
 -- the file is read, and the list that it holds is measured
 abbrev pub measured_file : File → ℕ → Measured
 measured_file (file job) entries = measure_answer job entries
-measured_file (refused r) entries = Refused r
+measured_file (refused r) entries = Err r
 
 abbrev pub quoted_text : File → ℕ → List ℕ
 quoted_text f entries = answer_text (measured_file f entries)

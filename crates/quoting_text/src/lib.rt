@@ -7,15 +7,16 @@ ghost use Rattle.std.specs.Prelude.{◌≤◌, length};
 ghost use Rattle.buffer.specs.Wrote.{Wrote};
 ghost use Rattle.quoting_text.specs.Quoting.{answer_text};
 
-use measure_intake::Measured;
+use lattice_sums::sums::Totals;
+use refusals::Refusal;
 
 // Puts what is printed for an answer to the front.
-pub fn put_answer(out: &mut [u8], measured: Measured) -> usize
+pub fn put_answer(out: &mut [u8], measured: Result<Totals, Refusal>) -> usize
     requires { 256 ≤ length out.old }
     ensures { Wrote out.old out.new 0 result (answer_text measured) }
 {
     match measured {
-        Measured::Quote(totals) => text_report::quote_lines(out, totals),
-        Measured::Refused(refusal) => text_refusal::refuse(out, refusal),
+        Ok(totals) => text_report::quote_lines(out, totals),
+        Err(refusal) => text_refusal::refuse(out, refusal),
     }
 }

@@ -3,24 +3,23 @@
 // it is at. What it prints is `recounting::recount`; here are only the sizes.
 #![tactic(auto)]
 
-use input::Filled;
+use output::Program;
 use std::process::ExitCode;
-use std::rt::{Stderr, Stdout};
 
-// Prints what is to be printed for the first n bytes.
-fn print_recount(stdout: Stdout, stderr: Stderr, bytes: &[u8]) -> ExitCode {
+// Prints what is to be printed for a file.
+fn print_recount(program: Program, bytes: &[u8]) -> ExitCode {
     let mut coords = [0u16; 12288];
     let mut work = [0u32; 16384];
     let mut out = [0u8; 256];
-    let n = recounting::recount(stderr, bytes, &mut coords, &mut work, &mut out);
-    output::write_text(stdout, stderr, b"recount", &out[..n])
+    let n = recounting::recount(program.stderr, bytes, &mut coords, &mut work, &mut out);
+    program.write_text(&out[..n])
 }
 
 fn main(rt: HostRuntime) -> ExitCode {
+    let program = Program::new(b"recount", &rt);
     let mut bytes = [0u8; 28680];
-    let filled = input::take(&rt, rt.stdin(), rt.stderr(), b"recount", &mut bytes);
-    match filled {
-        Filled::Bytes(n) => print_recount(rt.stdout(), rt.stderr(), &bytes[..n]),
-        Filled::Failed => ExitCode::SUCCESS,
+    match input::take(&rt, program, &mut bytes) {
+        Some(n) => print_recount(program, &bytes[..n]),
+        None => ExitCode::SUCCESS,
     }
 }

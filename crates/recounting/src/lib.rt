@@ -6,27 +6,22 @@ ghost use Rattle.std.specs.Prelude.{◌≤◌, length};
 ghost use Rattle.quoting_text.specs.Quoting.{FileQuoted};
 ghost use Rattle.quoting_text.specs.Answered.{ShotsThere, answered_file, FileMeasured};
 
-use measure_intake::Measured;
-use shotfile_reader::ReadAnswer;
+use job::Stored;
+use lattice_sums::sums::Totals;
+use refusals::Refusal;
 use std::rt::Stderr;
 
 // Goes on from what reading a file answers: counts the list that stands in the coordinates.
-fn recount_read(stderr: Stderr, read: ReadAnswer, coords: &[u16], work: &mut [u32]) -> Measured
+fn recount_read(
+    stderr: Stderr,
+    read: Result<Stored, Refusal>,
+    coords: &[u16],
+    work: &mut [u32],
+) -> Result<Totals, Refusal>
     requires { ShotsThere read coords.now }
     ensures { FileMeasured (answered_file read coords.now) work.old result work.new }
 {
-    match read {
-        ReadAnswer::Read {
-            field,
-            edge,
-            grid,
-            shots,
-        } => {
-            let list = job::shot::first(coords, shots);
-            measure_shown::recount(stderr, field, edge, grid, list, work)
-        }
-        ReadAnswer::Refused(refusal) => Measured::Refused(refusal),
-    }
+    measure_shown::recount(stderr, read?.job(coords), work)
 }
 
 // The text of the quote, put to the front of a slice of at least 256 bytes. The coordinates and the index of the list stay in the other

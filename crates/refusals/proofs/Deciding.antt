@@ -8,11 +8,11 @@ use mathlib.Core.Logic.{◌↔◌, ◌⊎◌, inl, inr}
 use Prim.Native.Nat.{ℕ, ◌≤◌, ◌<◌}
 use borrow.Author.Tests.{ltb-true, ltb-false, lt-ltb, le-ltb}
 use Rattle.refusals.specs.declared.Refusal.{Refusal}
-use Rattle.refusals.specs.declared.Checked.{Checked}
-use Rattle.refusals.specs.declared.Checked.TheVariants.{Accepted, Refused}
 use Rattle.refusals.specs.Tests.{Test, length_test, first_of}
 use Rattle.refusals.specs.Deciding.{Each, Says, First, Gives, Decides}
 use Rattle.refusals.proofs.FirstOf.{apart, first-passed, first-stopped, first-iff, none-iff}
+use Rattle.refusals.specs.Refusals.{Checked}
+use Rattle.std.specs.Prelude.{Ok, Err}
 
 -- ---- tests that say conditions
 pub decides-by : (condition : Refusal → Type 0) (ts : List Test) → Each (Says condition) ts → Decides ts (Each (λ t. ¬ condition t.gives) ts) (First condition ts)
@@ -23,14 +23,14 @@ pub decides-test : (t : Test) {passes fails : Type 0} → (t.holds ≡ false) �
 unfolding first_of
 decides-test t {passes} {fails} p f = record {
   accepted = (λ e. p.0 (passing t.holds e), λ h. rw (p.1 h));
-  refused = λ r. (λ e. failing r t.holds refl e, λ g. rw (f.1 g.holds) (ap Refused g.is));
+  refused = λ r. (λ e. failing r t.holds refl e, λ g. rw (f.1 g.holds) (ap Err g.is));
 }
   where
-    passing : (b : Bool) → cond b (Refused t.gives) Accepted ≡ Accepted → b ≡ false
+    passing : (b : Bool) → ◌≡◌ {A = Checked} (cond b (Err t.gives) (Ok tt)) (Ok tt) → b ≡ false
     passing true e = apart e
     passing false e = refl
 
-    failing : (r : Refusal) (b : Bool) → t.holds ≡ b → cond b (Refused t.gives) Accepted ≡ Refused r → Gives fails t.gives r
+    failing : (r : Refusal) (b : Bool) → t.holds ≡ b → ◌≡◌ {A = Checked} (cond b (Err t.gives) (Ok tt)) (Err r) → Gives fails t.gives r
     failing r true h e = record { holds = f.0 h; is = cc }
     failing r false h e = apart (sym e)
 
@@ -41,21 +41,21 @@ decides-length room need gives =
 
 -- ---- one list of tests behind another: all pass exactly if both do, and a refusal is that of the first or, where that passes, of the second
 module _ (ts us : List Test) where
-  both-accepted : (first_of (ts ++ us) ≡ Accepted) ↔ ((first_of ts ≡ Accepted) × (first_of us ≡ Accepted))
+  both-accepted : (first_of (ts ++ us) ≡ Ok tt) ↔ ((first_of ts ≡ Ok tt) × (first_of us ≡ Ok tt))
   both-accepted = (to (first_of ts) refl, λ h. first-passed us ts h.0 ∙ h.1)
     where
-      to : (c : Checked) → first_of ts ≡ c → first_of (ts ++ us) ≡ Accepted → (first_of ts ≡ Accepted) × (first_of us ≡ Accepted)
-      to (Refused r) k e = apart (sym (first-stopped us ts k) ∙ e)
-      to Accepted k e = (k, sym (first-passed us ts k) ∙ e)
+      to : (c : Checked) → first_of ts ≡ c → first_of (ts ++ us) ≡ Ok tt → (first_of ts ≡ Ok tt) × (first_of us ≡ Ok tt)
+      to (Err r) k e = apart (sym (first-stopped us ts k) ∙ e)
+      to (Ok tt) k e = (k, sym (first-passed us ts k) ∙ e)
 
-  either-refused : (r : Refusal) → (first_of (ts ++ us) ≡ Refused r) ↔ ((first_of ts ≡ Refused r) ⊎ ((first_of ts ≡ Accepted) × (first_of us ≡ Refused r)))
+  either-refused : (r : Refusal) → (first_of (ts ++ us) ≡ Err r) ↔ ((first_of ts ≡ Err r) ⊎ ((first_of ts ≡ Ok tt) × (first_of us ≡ Err r)))
   either-refused r = (to (first_of ts) refl, from)
     where
-      to : (c : Checked) → first_of ts ≡ c → first_of (ts ++ us) ≡ Refused r → (first_of ts ≡ Refused r) ⊎ ((first_of ts ≡ Accepted) × (first_of us ≡ Refused r))
-      to (Refused q) k e = inl (k ∙ sym (first-stopped us ts k) ∙ e)
-      to Accepted k e = inr (k, sym (first-passed us ts k) ∙ e)
+      to : (c : Checked) → first_of ts ≡ c → first_of (ts ++ us) ≡ Err r → (first_of ts ≡ Err r) ⊎ ((first_of ts ≡ Ok tt) × (first_of us ≡ Err r))
+      to (Err q) k e = inl (k ∙ sym (first-stopped us ts k) ∙ e)
+      to (Ok tt) k e = inr (k, sym (first-passed us ts k) ∙ e)
 
-      from : (first_of ts ≡ Refused r) ⊎ ((first_of ts ≡ Accepted) × (first_of us ≡ Refused r)) → first_of (ts ++ us) ≡ Refused r
+      from : (first_of ts ≡ Err r) ⊎ ((first_of ts ≡ Ok tt) × (first_of us ≡ Err r)) → first_of (ts ++ us) ≡ Err r
       from (inl e) = first-stopped us ts e
       from (inr (a, e)) = first-passed us ts a ∙ e
 
@@ -67,11 +67,11 @@ module _ {ts : List Test} {accepts : Type 0} {refuses : Refusal → Type 0} (d :
     refused = λ r. (λ e. to r ((either-refused ts us r).0 e), λ h. (either-refused ts us r).1 (from r h));
   }
     where
-      to : (r : Refusal) → (first_of ts ≡ Refused r) ⊎ ((first_of ts ≡ Accepted) × (first_of us ≡ Refused r)) → refuses r ⊎ (accepts × refuses₂ r)
+      to : (r : Refusal) → (first_of ts ≡ Err r) ⊎ ((first_of ts ≡ Ok tt) × (first_of us ≡ Err r)) → refuses r ⊎ (accepts × refuses₂ r)
       to r (inl e) = inl ((d.refused r).0 e)
       to r (inr (a, e)) = inr (d.accepted.0 a, (d₂.refused r).0 e)
 
-      from : (r : Refusal) → refuses r ⊎ (accepts × refuses₂ r) → (first_of ts ≡ Refused r) ⊎ ((first_of ts ≡ Accepted) × (first_of us ≡ Refused r))
+      from : (r : Refusal) → refuses r ⊎ (accepts × refuses₂ r) → (first_of ts ≡ Err r) ⊎ ((first_of ts ≡ Ok tt) × (first_of us ≡ Err r))
       from r (inl f) = inl ((d.refused r).1 f)
       from r (inr (a, f)) = inr (d.accepted.1 a, (d₂.refused r).1 f)
 
@@ -89,10 +89,10 @@ module _ {ts : List Test} {accepts : Type 0} {refuses : Refusal → Type 0} (d :
 
   -- a call that answers by them
   module _ {c : Checked} (answer : c ≡ first_of ts) where
-    pub call-accepts : (c ≡ Accepted) ↔ accepts
+    pub call-accepts : (c ≡ Ok tt) ↔ accepts
     call-accepts = (λ e. d.accepted.0 (sym answer ∙ e), λ a. answer ∙ d.accepted.1 a)
 
-    pub call-refuses : (r : Refusal) → (c ≡ Refused r) ↔ refuses r
+    pub call-refuses : (r : Refusal) → (c ≡ Err r) ↔ refuses r
     call-refuses r = (λ e. (d.refused r).0 (sym answer ∙ e), λ f. answer ∙ (d.refused r).1 f)
 
 -- a test of length in front of them, or between two lists

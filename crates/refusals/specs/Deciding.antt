@@ -1,7 +1,6 @@
 -- When a list of tests accepts and when it refuses, by the conditions of its refusals: docs/SCOPE.md, 'When a job is refused'.
-use Rattle.std.specs.Prelude.{◌≡◌, true, List, [], ◌∷◌, ◌++◌, ◌↔◌}
+use Rattle.std.specs.Prelude.{◌≡◌, true, List, [], ◌∷◌, ◌++◌, ◌↔◌, Ok, Err}
 use Rattle.refusals.specs.declared.Refusal.{Refusal}
-use Rattle.refusals.specs.declared.Checked.TheVariants.{Accepted, Refused}
 use Rattle.refusals.specs.Tests.{Test, first_of}
 
 -- of each test of a list
@@ -30,5 +29,5 @@ pub record Gives (condition : Type 0) (gives r : Refusal) : Type 0 where
 
 -- these tests accept exactly so, and refuse exactly so
 pub record Decides (ts : List Test) (accepts : Type 0) (refuses : Refusal → Type 0) : Type 0 where
-  pub accepted : (first_of ts ≡ Accepted) ↔ accepts
-  pub refused : (r : Refusal) → (first_of ts ≡ Refused r) ↔ refuses r
+  pub accepted : (first_of ts ≡ Ok tt) ↔ accepts
+  pub refused : (r : Refusal) → (first_of ts ≡ Err r) ↔ refuses r

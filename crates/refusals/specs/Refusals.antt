@@ -1,9 +1,7 @@
 -- What is told of each refusal: docs/SCOPE.md, 'When a job is refused'.
-use Rattle.std.specs.Prelude.{ℕ}
+use Rattle.std.specs.Prelude.{ℕ, Result, Ok, Err}
 use Rattle.refusals.specs.declared.Place.TheVariants.{Byte, Shot, Nowhere}
 use Rattle.refusals.specs.declared.Notice.{Notice}
-use Rattle.refusals.specs.declared.Checked.{Checked}
-use Rattle.refusals.specs.declared.Checked.TheVariants.{Accepted, Refused}
 use Rattle.refusals.specs.declared.Refusal.{Refusal}
 use Rattle.refusals.specs.declared.Refusal.TheVariants.{BrokenShot, TooManyShots, NoPlace, UnknownBit, CutShort, FieldRange, EdgeRange, GridRange, OutsideField, ShortWork, ShortListing, ShortFile, NotVox, BrokenChunk, VoxelRange, ShortCredits, NeedlessField, InvalidTable}
 
@@ -37,11 +35,15 @@ number_of r = (notice_of r).number
 abbrev pub detail_of : Refusal → ℕ
 detail_of r = (notice_of r).detail
 
+-- what a check answers: that a list is accepted, or why it is refused
+abbrev pub Checked : Type 0
+Checked = Result (Unit {0}) Refusal
+
 -- the numbers that a check answers: 0 and 0 where the list is accepted, else the refusal's number and its detail
 pub record Numbers : Type 0 where
   pub number : ℕ
   pub detail : ℕ
 
 unfoldable pub checked_numbers : Checked → Numbers
-checked_numbers Accepted = record { number = 0; detail = 0 }
-checked_numbers (Refused r) = record { number = number_of r; detail = detail_of r }
+checked_numbers (Ok tt) = record { number = 0; detail = 0 }
+checked_numbers (Err r) = record { number = number_of r; detail = detail_of r }

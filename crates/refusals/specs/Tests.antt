@@ -1,10 +1,8 @@
 -- A call is a list of tests, each with the refusal that it gives: docs/SCOPE.md, 'When a job is refused'. What is earlier is a matter of place
 -- in a call's list, not of number.
-use Rattle.std.specs.Prelude.{Bool, cond, ◌≡◌, List, [], ◌∷◌, ℕ, ltb}
+use Rattle.std.specs.Prelude.{Bool, cond, ◌≡◌, List, [], ◌∷◌, ℕ, ltb, Ok, Err}
 use Rattle.refusals.specs.declared.Refusal.{Refusal}
-use Rattle.refusals.specs.declared.Checked.{Checked}
-use Rattle.refusals.specs.declared.Checked.TheVariants.{Accepted, Refused}
-use Rattle.refusals.specs.Refusals.{number_of, detail_of, Numbers, checked_numbers}
+use Rattle.refusals.specs.Refusals.{number_of, detail_of, Numbers, checked_numbers, Checked}
 
 -- a test: whether its condition holds, and the refusal that it gives
 pub record Test : Type 0 where
@@ -17,8 +15,8 @@ length_test room need gives = record { holds = ltb room need; gives = gives }
 
 -- a refusal is given if its condition holds and no earlier one does: of a list of tests, the first that holds decides
 unfoldable pub first_of : List Test → Checked
-first_of [] = Accepted
-first_of (t ∷ ts) = cond t.holds (Refused t.gives) (first_of ts)
+first_of [] = Ok tt
+first_of (t ∷ ts) = cond t.holds (Err t.gives) (first_of ts)
 
 -- ---- what is answered
 -- the number and detail of the first test that holds; 0 and 0 where none does
@@ -33,5 +31,5 @@ pub record Checks (ts : List Test) (r : Checked) : Type 0 where
 
 -- what is said or left where the checks pass, and where they refuse
 abbrev pub if_accepted : {A : Type 0} → Checked → (Refusal → A) → A → A
-if_accepted Accepted refused done = done
-if_accepted (Refused r) refused done = refused r
+if_accepted (Ok tt) refused done = done
+if_accepted (Err r) refused done = refused r

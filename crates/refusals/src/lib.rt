@@ -8,7 +8,7 @@ ghost use Rattle.std.specs.Prelude.{◌≡◌};
 ghost use Rattle.refusals.specs.Refusals.{notice_of};
 
 // Why a call is refused, in the order of their numbers, with the detail where there is one.
-#[derive(Clone, Copy)]
+#[derive(Clone, Copy, Debug, PartialEq, Eq)]
 pub enum Refusal {
     // The coordinates' count is not a multiple of three.
     BrokenShot,
@@ -48,15 +48,8 @@ pub enum Refusal {
     InvalidTable { band: usize },
 }
 
-// What the checks of a list and its settings find.
-#[derive(Clone, Copy)]
-pub enum Checked {
-    Accepted,
-    Refused(Refusal),
-}
-
 // Where a refusal is met; the refusal's detail says at which one.
-#[derive(Clone, Copy)]
+#[derive(Clone, Copy, Debug, PartialEq, Eq)]
 pub enum Place {
     // At a byte of a file, where the faulty record, mark, chunk or voxel begins.
     Byte,
@@ -67,7 +60,7 @@ pub enum Place {
 }
 
 // What is told of a refusal: its number in the published list, its detail, 0 where it has none, and where it is met.
-#[derive(Clone, Copy)]
+#[derive(Clone, Copy, Debug, PartialEq, Eq)]
 pub struct Notice {
     pub number: u8,
     pub detail: usize,
@@ -80,96 +73,29 @@ pub fn notice_of(refusal: Refusal) -> Notice
     ensures detail { result.detail ≡ (notice_of refusal).detail }
     ensures met { result.met ≡ (notice_of refusal).met }
 {
-    match refusal {
-        Refusal::BrokenShot => Notice {
-            number: 1,
-            detail: 0,
-            met: Place::Nowhere,
-        },
-        Refusal::TooManyShots { at } => Notice {
-            number: 2,
-            detail: at,
-            met: Place::Byte,
-        },
-        Refusal::NoPlace { at } => Notice {
-            number: 3,
-            detail: at,
-            met: Place::Byte,
-        },
-        Refusal::UnknownBit { at } => Notice {
-            number: 4,
-            detail: at,
-            met: Place::Byte,
-        },
-        Refusal::CutShort { at } => Notice {
-            number: 5,
-            detail: at,
-            met: Place::Byte,
-        },
-        Refusal::FieldRange => Notice {
-            number: 6,
-            detail: 0,
-            met: Place::Nowhere,
-        },
-        Refusal::EdgeRange => Notice {
-            number: 7,
-            detail: 0,
-            met: Place::Nowhere,
-        },
-        Refusal::GridRange => Notice {
-            number: 8,
-            detail: 0,
-            met: Place::Nowhere,
-        },
-        Refusal::OutsideField { shot } => Notice {
-            number: 9,
-            detail: shot,
-            met: Place::Shot,
-        },
-        Refusal::ShortWork { entries } => Notice {
-            number: 10,
-            detail: entries,
-            met: Place::Nowhere,
-        },
-        Refusal::ShortListing { corners } => Notice {
-            number: 11,
-            detail: corners,
-            met: Place::Nowhere,
-        },
-        Refusal::ShortFile { bytes } => Notice {
-            number: 12,
-            detail: bytes,
-            met: Place::Nowhere,
-        },
-        Refusal::NotVox { at } => Notice {
-            number: 13,
-            detail: at,
-            met: Place::Byte,
-        },
-        Refusal::BrokenChunk { at } => Notice {
-            number: 14,
-            detail: at,
-            met: Place::Byte,
-        },
-        Refusal::VoxelRange { at } => Notice {
-            number: 15,
-            detail: at,
-            met: Place::Byte,
-        },
-        Refusal::ShortCredits { shots } => Notice {
-            number: 16,
-            detail: shots,
-            met: Place::Nowhere,
-        },
-        Refusal::NeedlessField { at } => Notice {
-            number: 17,
-            detail: at,
-            met: Place::Byte,
-        },
-        Refusal::InvalidTable { band } => Notice {
-            number: 18,
-            detail: band,
-            met: Place::Nowhere,
-        },
+    let (number, detail, met) = match refusal {
+        Refusal::BrokenShot => (1, 0, Place::Nowhere),
+        Refusal::TooManyShots { at } => (2, at, Place::Byte),
+        Refusal::NoPlace { at } => (3, at, Place::Byte),
+        Refusal::UnknownBit { at } => (4, at, Place::Byte),
+        Refusal::CutShort { at } => (5, at, Place::Byte),
+        Refusal::FieldRange => (6, 0, Place::Nowhere),
+        Refusal::EdgeRange => (7, 0, Place::Nowhere),
+        Refusal::GridRange => (8, 0, Place::Nowhere),
+        Refusal::OutsideField { shot } => (9, shot, Place::Shot),
+        Refusal::ShortWork { entries } => (10, entries, Place::Nowhere),
+        Refusal::ShortListing { corners } => (11, corners, Place::Nowhere),
+        Refusal::ShortFile { bytes } => (12, bytes, Place::Nowhere),
+        Refusal::NotVox { at } => (13, at, Place::Byte),
+        Refusal::BrokenChunk { at } => (14, at, Place::Byte),
+        Refusal::VoxelRange { at } => (15, at, Place::Byte),
+        Refusal::ShortCredits { shots } => (16, shots, Place::Nowhere),
+        Refusal::NeedlessField { at } => (17, at, Place::Byte),
+        Refusal::InvalidTable { band } => (18, band, Place::Nowhere),
+    };
+    Notice {
+        number,
+        detail,
+        met,
     }
 }

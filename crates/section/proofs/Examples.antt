@@ -1,10 +1,10 @@
 -- A damaged listing: records with x = 5, 5, 2, 2, 5, and three bytes more. Assumes nothing.
+use Rattle.std.specs.Prelude.{None}
 use mathlib.Core.Path.{◌≡◌, refl}
 use mathlib.Core.List.{List, [], ◌∷◌}
 use Prim.Native.Nat.{ℕ}
 use Rattle.lattice.specs.Listing.{read_back}
 use Rattle.section.specs.Section.{first_step, step_from, past, after_at, asked, count_before, run_start, run_end, places_between, places_of}
-use Rattle.section.specs.declared.Step.TheVariants.{Done}
 
 abbrev damaged : List ℕ
 damaged =
@@ -25,6 +25,6 @@ unfolding places_of places_between run_start run_end count_before asked read_bac
 at-three = refl
 
 -- the remainder is no record
-at-remainder : (step_from damaged 35 ≡ Done) × (after_at damaged 35 ≡ 35)
+at-remainder : (step_from damaged 35 ≡ None) × (after_at damaged 35 ≡ 35)
 unfolding step_from first_step after_at past read_back
 at-remainder = (refl, refl)

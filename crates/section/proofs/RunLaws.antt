@@ -1,21 +1,20 @@
 -- The first unbroken run of one x: the search for its ends, its places, and the bytes between them. Assumes nothing.
 use mathlib.Core.Path.{◌≡◌, refl, sym, ◌∙◌, ap}
-use mathlib.Core.Bool.{Bool, true, false, not, cond}
+use mathlib.Core.Bool.{Bool, true, false, cond}
 use mathlib.Core.List.{List, [], ◌∷◌}
-use Prim.Native.Nat.{ℕ, zero, suc, ◌+◌, ◌-◌, ◌*◌, ◌/◌, ◌≤◌, ◌<◌}
-use native.Mathlib.Nat.{zero-add, sub-zero, zero-sub, suc-sub-suc}
-use native.Mathlib.Numerals.{add-one}
+use Prim.Native.Nat.{ℕ, zero, suc, ◌+◌, ◌-◌, ◌*◌, ◌/◌, ◌≤◌}
+use native.Mathlib.Nat.{sub-zero, zero-sub, suc-sub-suc}
 use native.Mathlib.Omega.{arith}
 use lib.Dec.{eqb}
-use lib.ListN.{length, take, drop, length-drop, drop_of_length-le}
+use lib.ListN.{length, take, drop, length-drop}
 use lib.Seq.{slice, slice_empty, length-slice, take-length, take-nil, drop-nil, get_or-drop}
 use borrow.Author.Tests.{eqb-true, eq-eqb, ne_eqb}
 use Rattle.ground.specs.Numbers.{Bytes}
 use Rattle.lattice.specs.Listing.{Corner, corner_record, bytes, read_back}
 use Rattle.lattice.proofs.ListingLaws.{read_back-bytes}
-use Rattle.section.specs.Section.{asked, asks, count_before, run_start, run_end, first_run, places_between, places_of, part_with}
+use Rattle.section.specs.Section.{asks, count_before, run_start, run_end, first_run, places_between, places_of, part_with}
 use Rattle.section.specs.declared.Places.{Places}
-use Rattle.section.proofs.RecordLaws.{seven-more, read_at, read_back-at, read_back-slice, length-read_back, bytes-read_back}
+use Rattle.section.proofs.RecordLaws.{seven-more, read_back-slice, length-read_back, bytes-read_back}
 
 -- ---- before the first that passes
 module _ (p : Corner → Bool) where
@@ -28,50 +27,7 @@ module _ (p : Corner → Bool) where
       go true h = omega arith
       go false h = omega arith
 
-  count_before-pass : (v : Corner) (vs : List Corner) → p v ≡ true → count_before p (v ∷ vs) ≡ 0
-  unfolding count_before
-  count_before-pass v vs e = rw e
-
-  count_before-fail : (v : Corner) (vs : List Corner) → p v ≡ false → count_before p (v ∷ vs) ≡ suc (count_before p vs)
-  unfolding count_before
-  count_before-fail v vs e = rw e
-
--- ---- the test of a record
-module _ {same b equal : Bool} where
-  pub asked-same : same ≡ true → b ≡ equal → b ≡ asked same equal
-  unfolding asked
-  asked-same s e = rw (s, e)
-
-  pub asked-other : same ≡ false → b ≡ equal → not b ≡ asked same equal
-  unfolding asked
-  asked-other s e = rw (s, e)
-
--- ---- the search: none from a number on up to i passes
-abbrev pub Sought : Bool → ℕ → List ℕ → ℕ → ℕ → Type 0
-Sought same x l from i = i + count_before (asks same x) (drop i (read_back l)) ≡ from + count_before (asks same x) (drop from (read_back l))
-
-module _ (same : Bool) (x : ℕ) (l : List ℕ) (from i : ℕ) where
-  pub sought-here : i < length l / 7 → Sought same x l from i → asks same x (read_at l (7 * i)) ≡ true → i ≡ from + count_before (asks same x) (drop from (read_back l))
-  sought-here h s e = omega (arith, s, ap (count_before (asks same x)) (read_back-at i l h), count_before-pass (asks same x) (read_at l (7 * i)) (drop (suc i) (read_back l)) e)
-
-  pub sought-more : i < length l / 7 → Sought same x l from i → asks same x (read_at l (7 * i)) ≡ false → Sought same x l from (i + 1)
-  sought-more h s e = rw (add-one i) (omega (arith, s, ap (count_before (asks same x)) (read_back-at i l h), count_before-fail (asks same x) (read_at l (7 * i)) (drop (suc i) (read_back l)) e))
-
-  pub sought-none : length l / 7 ≤ i → Sought same x l from i → i ≡ from + count_before (asks same x) (drop from (read_back l))
-  unfolding count_before
-  sought-none h s =
-      let e : drop i (read_back l) ≡ [] = drop_of_length-le (read_back l) {i = i} (omega (arith, length-read_back l)) in
-      omega (arith, s, ap (count_before (asks same x)) e)
-
-  -- no record is passed yet
-  pub sought-start : i ≡ from → Sought same x l from i
-  sought-start e = rw e
-
 -- ---- the ends of the run
-pub start-found : (x : ℕ) (l : List ℕ) → 0 + count_before (asks true x) (drop 0 (read_back l)) ≡ run_start x (read_back l)
-unfolding run_start
-start-found x l = zero-add (count_before (asks true x) (read_back l))
-
 pub start-in : (x : ℕ) (l : List ℕ) → run_start x (read_back l) ≤ length l / 7
 unfolding run_start
 start-in x l = omega (arith, count_before-length (asks true x) (read_back l), length-read_back l)
@@ -87,19 +43,15 @@ end-length x vs = omega (arith, count_before-length (asks true x) vs, count_befo
 pub end-in : (x : ℕ) (l : List ℕ) → run_end x (read_back l) ≤ length l / 7
 end-in x l = omega (arith, end-length x (read_back l), length-read_back l)
 
-pub end-found : (x : ℕ) (l : List ℕ) {first end : ℕ} → first ≡ 0 + count_before (asks true x) (drop 0 (read_back l)) → end ≡ first + count_before (asks false x) (drop first (read_back l)) → end ≡ run_end x (read_back l)
-unfolding run_end
-end-found x l f e = e ∙ ap (λ at. at + count_before (asks false x) (drop at (read_back l))) (f ∙ start-found x l)
-
 -- ---- its places
-module _ (x : ℕ) (l : List ℕ) {first end : ℕ} (f : first ≡ run_start x (read_back l)) (e : end ≡ run_end x (read_back l)) where
-  pub places-none : first ≡ end → record { first = 0; end = 0 } ≡ places_of l x
+module _ (x : ℕ) (l : List ℕ) {ahead run : ℕ} (a : ahead ≡ run_start x (read_back l)) (e : ahead + run ≡ run_end x (read_back l)) where
+  pub places-none : run ≡ 0 → record { first = 0; end = 0 } ≡ places_of l x
   unfolding places_of places_between
-  places-none t = rw (← f, ← e, eq-eqb first end t)
+  places-none t = rw (← a, ← e, eq-eqb ahead (ahead + run) (omega arith))
 
-  pub places-run : (first ≡ end → ⊥) → record { first = 7 * first; end = 7 * end } ≡ places_of l x
+  pub places-run : (run ≡ 0 → ⊥) → record { first = 7 * ahead; end = 7 * (ahead + run) } ≡ places_of l x
   unfolding places_of places_between
-  places-run t = rw (← f, ← e, ne_eqb first end t)
+  places-run t = rw (← a, ← e, ne_eqb ahead (ahead + run) (λ k. t (omega arith)))
 
 -- ---- the part between them
 -- the bytes from a place on, so many of them, and the bytes from a place to a place

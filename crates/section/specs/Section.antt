@@ -1,22 +1,26 @@
 -- The records of a listing one after another, and those of one x: docs/SCOPE.md, 'Corners at one x'. All is said over `read_back`, the
 -- whole records of any bytes.
-use Rattle.std.specs.Prelude.{◌≡◌, ◌↔◌, Bool, true, false, not, cond, ℕ, zero, suc, ◌+◌, ◌*◌, eqb, drop}
+use Rattle.std.specs.Prelude.{◌≡◌, ◌↔◌, Bool, true, false, not, cond, Option, None, Some, ℕ, zero, suc, ◌+◌, ◌*◌, eqb, drop}
 use mathlib.Core.List.{List, [], ◌∷◌, ◌++◌, Memᴰ}
 use Rattle.std.proofs.Math.Seq.{slice}
 use Rattle.lattice.specs.Cells.{Cells}
 use Rattle.lattice.specs.Listing.{Corner, corners, IsCorner, All, Rising, bytes, read_back}
-use Rattle.section.specs.declared.Step.{Step}
-use Rattle.section.specs.declared.Step.TheVariants.{Corner as Found, Done}
+use Rattle.section.specs.declared.Corner.{Corner as Found}
 use Rattle.section.specs.declared.Places.{Places}
+use Rattle.section.specs.declared.Corners.{Corners}
 
 -- ---- stepping
--- what a reader has where some corners are left: the first of them, or done
-unfoldable pub first_step : List Corner → Step
-first_step [] = Done
-first_step (v ∷ vs) = Found v.x v.y v.z v.pattern
+-- a corner as a reader gives it
+abbrev pub found : Corner → Found
+found v = record { x = v.x; y = v.y; z = v.z; pattern = v.pattern }
+
+-- what a reader has where some corners are left: the first of them, or none
+unfoldable pub first_step : List Corner → Option Found
+first_step [] = None
+first_step (v ∷ vs) = Some (found v)
 
 -- the record at a place: the first that is read back from there on
-unfoldable pub step_from : List ℕ → ℕ → Step
+unfoldable pub step_from : List ℕ → ℕ → Option Found
 step_from l at = first_step (read_back (drop at l))
 
 -- a place moved past the first of some corners
@@ -27,6 +31,11 @@ past (v ∷ vs) at = at + 7
 -- the place after the record at a place; the same place where no whole record is left
 unfoldable pub after_at : List ℕ → ℕ → ℕ
 after_at l at = past (read_back (drop at l)) at
+
+-- a step of a reader: it meets the record at its place, or none, and moves past it; the listing stays
+abbrev pub Steps : Corners → Option Found → Corners → Type 0
+Steps reader met moved =
+    (met ≡ step_from reader.listing.now reader.at) × (moved.listing ≡ reader.listing) × (moved.at ≡ after_at reader.listing.now reader.at)
 
 -- the place of a reader that is opened at the first byte, after so many steps
 unfoldable pub stepped : List ℕ → ℕ → ℕ

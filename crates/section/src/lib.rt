@@ -1,21 +1,23 @@
 // The part of a listing, whole or damaged, that holds the corners at one x, and a reader that steps through records. docs/SCOPE.md, 'Corners at
 // one x'.
 //
-// First the core by offset, then the reader, a struct that keeps the lent listing and its place. The functions over it are thin: they take
-// it apart and call the core. `step_from`, `next_from` and `step_after` step by the reader with plain parameters; all other callers use them.
+// First the core by offset, then the reader, a struct that keeps the lent listing and its place: an iterator over the records from there on,
+// which calls the core. `step_from`, `next_from` and `step_after` step by it with plain parameters.
 // specs/Section.antt says what is read and what the part is; proofs/ListedRuns.antt, what that means for a listing that the software made.
 // Stands on `lattice`.
 #![tactic(auto)]
 
-ghost use Rattle.std.specs.Prelude.{◌≡◌, ◌+◌, ◌*◌, ◌/◌, ◌≤◌, ◌<◌, ltb, eqb, length, drop, get_or};
-ghost use Rattle.lattice.specs.Listing.{read_back};
-ghost use Rattle.section.specs.Section.{step_from, after_at, asked, asks, count_before, places_of, part_with};
+ghost use Rattle.std.specs.Prelude.{◌≡◌, ◌-◌, ◌/◌, length};
+ghost use Rattle.std.specs.Iterator.{at_most};
+ghost use Rattle.section.specs.Section.{step_from, after_at, Steps, places_of, part_with};
 
-// What a reader meets at its place.
+// A record of a listing: a corner point and its pattern.
 #[derive(Clone, Copy)]
-pub enum Step {
-    Corner { x: u16, y: u16, z: u16, pattern: u8 },
-    Done,
+pub struct Corner {
+    pub x: u16,
+    pub y: u16,
+    pub z: u16,
+    pub pattern: u8,
 }
 
 // The bytes from `first` up to `end`, `end` not among them.
@@ -25,91 +27,29 @@ pub struct Places {
     pub end: usize,
 }
 
-// A 16-bit number of its two bytes.
-fn word(low: u8, high: u8) -> u16
-    ensures { result ≡ low + high * 256 }
-{
-    (low as u16) + (high as u16) * 256
-}
-
-// Fewer than 7 bytes are left from a place on, whatever the place.
-fn is_done(listing: &[u8], at: usize) -> bool
-    ensures { result ≡ ltb (length listing.now) (at + 7) }
-{
-    if listing.len() < 7 {
-        return true;
-    }
-    listing.len() - 7 < at
-}
-
-// The record at a place from which a whole one is left.
-fn whole_at(listing: &[u8], at: usize) -> Step
-    requires { at + 7 ≤ length listing.now }
+// The record at a place, or none where no whole one is left.
+pub fn record_at(listing: &[u8], at: usize) -> Option<Corner>
     ensures { result ≡ step_from listing.now at }
 {
-    Step::Corner {
-        x: word(listing[at], listing[at + 1]),
-        y: word(listing[at + 2], listing[at + 3]),
-        z: word(listing[at + 4], listing[at + 5]),
-        pattern: listing[at + 6],
-    }
-}
-
-// The record at a place, or done where no whole one is left.
-pub fn record_at(listing: &[u8], at: usize) -> Step
-    ensures { result ≡ step_from listing.now at }
-{
-    if is_done(listing, at) {
-        return Step::Done;
-    }
-    whole_at(listing, at)
+    let [x0, x1, y0, y1, z0, z1, pattern, ..] = listing.get(at..)? else {
+        return None;
+    };
+    Some(Corner {
+        x: u16::from_le_bytes([*x0, *x1]),
+        y: u16::from_le_bytes([*y0, *y1]),
+        z: u16::from_le_bytes([*z0, *z1]),
+        pattern: *pattern,
+    })
 }
 
 // The place after the record at a place; the same place where no whole record is left.
 pub fn after(listing: &[u8], at: usize) -> usize
     ensures { result ≡ after_at listing.now at }
 {
-    if is_done(listing, at) {
-        return at;
+    match record_at(listing, at) {
+        Some(_) => at + 7,
+        None => at,
     }
-    at + 7
-}
-
-// The x of a record.
-fn x_of(listing: &[u8], number: usize) -> u16
-    requires { number < length listing.now / 7 }
-    ensures { result ≡ get_or listing.now (7 * number) 0 + get_or listing.now (7 * number + 1) 0 * 256 }
-{
-    let at = 7 * number;
-    word(listing[at], listing[at + 1])
-}
-
-// A record's x is the one asked for or, where `same` is false, another.
-fn answers(listing: &[u8], number: usize, x: u16, same: bool) -> bool
-    requires { number < length listing.now / 7 }
-    ensures { result ≡ asked same (eqb (get_or listing.now (7 * number) 0 + get_or listing.now (7 * number + 1) 0 * 256) x) }
-{
-    let equal = x_of(listing, number) == x;
-    if same {
-        return equal;
-    }
-    !equal
-}
-
-// The first record from a number on that has that x or, where `same` is false, another; the number of records where there is none.
-fn first_from(listing: &[u8], from: usize, x: u16, same: bool) -> usize
-    requires { from ≤ length listing.now / 7 }
-    ensures { result ≡ from + count_before (asks same x) (drop from (read_back listing.now)) }
-{
-    let records = listing.len() / 7;
-    let mut i = from;
-    while i < records {
-        if answers(listing, i, x, same) {
-            return i;
-        }
-        i += 1;
-    }
-    i
 }
 
 // Where the first unbroken run of records with that x lies; 0 to 0 where there is none. A damaged listing is searched like any other: the
@@ -117,14 +57,16 @@ fn first_from(listing: &[u8], from: usize, x: u16, same: bool) -> usize
 pub fn places_of(listing: &[u8], x: u16) -> Places
     ensures { result ≡ places_of listing.now x }
 {
-    let first = first_from(listing, 0, x, true);
-    let end = first_from(listing, first, x, false);
-    if first == end {
+    let ahead = open(listing, 0).take_while(|corner| corner.x != x).count();
+    let run = open(listing, 7 * ahead)
+        .take_while(|corner| corner.x == x)
+        .count();
+    if run == 0 {
         return Places { first: 0, end: 0 };
     }
     Places {
-        first: 7 * first,
-        end: 7 * end,
+        first: 7 * ahead,
+        end: 7 * (ahead + run),
     }
 }
 
@@ -132,13 +74,11 @@ pub fn places_of(listing: &[u8], x: u16) -> Places
 pub fn part(listing: &[u8], x: u16) -> &[u8]
     ensures { result.now ≡ part_with listing.now x }
 {
-    let places = places_of(listing, x);
-    let first = places.first;
-    let end = places.end;
+    let Places { first, end } = places_of(listing, x);
     &listing[first..end]
 }
 
-// A reader: the lent listing, or a part of one, and the place of the next record.
+// A reader: the lent listing, or a part of one, and the place of the next record. It goes over the records from there on.
 #[derive(Drop)]
 pub struct Corners<'a> {
     pub listing: &'a [u8],
@@ -153,43 +93,50 @@ pub fn open<'a>(listing: &'a [u8], at: usize) -> Corners<'a>
 }
 
 impl<'a> Corners<'a> {
-    // The record at its place, or done.
-    pub fn corner(self) -> Step
-        ensures { result ≡ step_from self.entry.listing.now self.entry.at }
+    // The record at its place, or none.
+    pub fn corner(&self) -> Option<Corner>
+        ensures { result ≡ step_from self.now.listing.now self.now.at }
     {
         record_at(self.listing, self.at)
     }
+}
 
-    // The reader one record on; where it is done it stays.
-    pub fn next(self) -> Corners<'a>
-        ensures { (result.listing ≡ self.entry.listing) × (result.at ≡ after_at self.entry.listing.now self.entry.at) }
-    {
-        let at = after(self.listing, self.at);
-        Corners {
-            listing: self.listing,
-            at,
-        }
+// A step gives the record at the reader's place and moves it one record on; a reader that is done stays.
+impl<'a> Iterator for Corners<'a> {
+    type Item = Corner;
+
+    ghost next_gives = { Steps };
+
+    ghost remaining = { λ reader. at_most ((length reader.listing.now - reader.at) / 7) };
+
+    fn next(&mut self) -> Option<Corner> {
+        let corner = record_at(self.listing, self.at)?;
+        self.at += 7;
+        Some(corner)
     }
 }
 
 // The record at a place, by the reader.
-pub fn step_from(listing: &[u8], at: usize) -> Step
+pub fn step_from(listing: &[u8], at: usize) -> Option<Corner>
     ensures { result ≡ step_from listing.now at }
 {
-    open(listing, at).corner()
+    open(listing, at).next()
 }
 
 // The place after it, by the reader.
 pub fn next_from(listing: &[u8], at: usize) -> usize
     ensures { result ≡ after_at listing.now at }
 {
-    let r = open(listing, at).next();
-    r.at
+    let mut reader = open(listing, at);
+    reader.next();
+    reader.at
 }
 
 // What the reader meets one step on: it keeps the listing that it was opened on.
-pub fn step_after(listing: &[u8], at: usize) -> Step
+pub fn step_after(listing: &[u8], at: usize) -> Option<Corner>
     ensures { result ≡ step_from listing.now (after_at listing.now at) }
 {
-    open(listing, at).next().corner()
+    let mut reader = open(listing, at);
+    reader.next();
+    reader.next()
 }

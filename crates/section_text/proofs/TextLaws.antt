@@ -1,25 +1,24 @@
 -- The lines of corners one after another. Assumes nothing.
-use mathlib.Core.Path.{◌≡◌, refl, sym, ◌∙◌, ap}
+use mathlib.Core.Path.{◌≡◌, ap}
 use mathlib.Core.Bool.{cond}
+use Rattle.std.specs.Prelude.{None, Some}
 use mathlib.Core.List.{List, [], ◌∷◌, ◌++◌, append_assoc}
 use Prim.Native.Nat.{ℕ, zero, suc, ◌+◌, ◌*◌, ◌/◌, ◌%◌, ◌^◌, ◌≤◌, ◌<◌}
 use native.Mathlib.Nat.{suc-add, pow-suc}
-use native.Mathlib.Numerals.{add-one}
 use native.Mathlib.Omega.{arith}
 use lib.Dec.{ltb}
-use lib.ListN.{length, drop, length-append, drop_of_length-le}
+use lib.ListN.{length, length-append}
 use borrow.Author.Tests.{lt-ltb}
 use Rattle.buffer.specs.Wrote.{Wrote}
 use Rattle.buffer.proofs.Underway.{Underway, underway-none, underway-all, underway-more}
 use Rattle.lattice.specs.Listing.{Corner, read_back}
-use Rattle.section.specs.Section.{first_step, step_from, after_at, stepped}
-use Rattle.section.specs.declared.Step.{Step}
-use Rattle.section.specs.declared.Step.TheVariants.{Corner as Found, Done}
-use Rattle.section.proofs.RecordLaws.{length-read_back}
-use Rattle.section.proofs.StepLaws.{stepped-none, stepped-more, stepped-met}
+use Rattle.section.specs.Section.{Steps}
+use Rattle.section.specs.declared.Corner.{Corner as Found}
+use Rattle.section.specs.declared.Corners.{Corners}
+use Rattle.section.proofs.ReaderLaws.{First, left, left-none, left-first}
 use Rattle.text_parts.specs.Decimal.{digits, decimal}
 use Rattle.text_parts.proofs.LineLaws.{digits-length}
-use Rattle.section_text.specs.CornerLines.{digits_then, corner_line, step_text, corner_lines}
+use Rattle.section_text.specs.CornerLines.{digits_then, corner_line, corner_lines}
 
 pub number-length : (n a end : ℕ) → length (digits_then n a end) ≤ n + 1
 unfolding digits_then
@@ -39,50 +38,34 @@ line-few x y z p =
       number-length 3 p 10,
     )
 
-step-few : (s : Step) → length (step_text s) ≤ 22
-unfolding step_text
-step-few (Found x y z p) = line-few x y z p
-step-few Done = omega arith
+-- ---- the loop: the lines of what the reader has left are still to come, and there is room for them
+pub record Lined (before now : List ℕ) (all : List Corner) (reader : Corners) (next : ℕ) : Type 0 where
+  pub room : next + 22 * length (left reader) ≤ 22 * length all
+  pub lines : Underway (corner_lines all) before now 0 next (corner_lines (left reader))
 
-pub step-found : {s : Step} {x y z p : ℕ} → s ≡ Found x y z p → corner_line x y z p ≡ step_text s
-unfolding step_text
-step-found e = ap step_text (sym e)
+pub lined-none : {before l : List ℕ} {reader : Corners} → reader.listing.now ≡ l → reader.at ≡ 0 → Lined before before (read_back l) reader 0
+lined-none {before} {l} {reader} e k = let is : left reader ≡ read_back l = rw (e, k) in
+    record { room = rw is (omega arith); lines = rw is (underway-none (corner_lines (read_back l)) before 0 (omega arith)) }
 
-pub step-done : {s : Step} → s ≡ Done → [] ≡ step_text s
-unfolding step_text
-step-done e = ap step_text (sym e)
+lines-first : {c : Found} {vs rest : List Corner} → First c vs rest → corner_lines vs ≡ corner_line c.x c.y c.z c.pattern ++ corner_lines rest
+unfolding corner_lines
+lines-first f = rw (f.is, f.given)
 
--- the lines of the corners from number i on begin with that of the next step
-lines_next : (vs : List Corner) (i : ℕ) → corner_lines (drop i vs) ≡ step_text (first_step (drop i vs)) ++ corner_lines (drop (suc i) vs)
-unfolding corner_lines step_text first_step
-lines_next [] zero = refl
-lines_next [] (suc i) = refl
-lines_next (v ∷ vs) zero = refl
-lines_next (v ∷ vs) (suc i) = lines_next vs i
+module _ {before now : List ℕ} {all : List Corner} {reader moved : Corners} {next : ℕ} (d : Lined before now all reader next) where
+  pub lined-room : {c : Found} → Steps reader (Some c) moved → next + 22 ≤ 22 * length all
+  lined-room s = omega (arith, d.room, ap length (left-first reader moved s).is)
 
--- ---- the loop: after i steps the lines of i records stand at the front
-pub record Lined (l before now : List ℕ) (at next i : ℕ) : Type 0 where
-  pub place : at ≡ stepped l i
-  pub few : next ≤ 22 * i
-  pub lines : Underway (corner_lines (read_back l)) before now 0 next (corner_lines (drop i (read_back l)))
+  pub lined-more : {c : Found} → Steps reader (Some c) moved → {then : List ℕ} {after : ℕ} → Wrote now then next after (corner_line c.x c.y c.z c.pattern) → Lined before then all moved after
+  lined-more {c} s w =
+      let f = left-first reader moved s in
+      record {
+        room = omega (arith, d.room, ap length f.is, w.next, line-few c.x c.y c.z c.pattern);
+        lines = underway-more d.lines (corner_line c.x c.y c.z c.pattern) (corner_lines (left moved)) (lines-first f) w;
+      }
 
-module _ (l before : List ℕ) where
-  pub lined-none : Lined l before before 0 0 0
-  lined-none = record { place = stepped-none l; few = omega arith; lines = underway-none (corner_lines (read_back l)) before 0 (omega arith) }
-
-  pub lined-more : {now then : List ℕ} {at next i at' next' : ℕ} {s : Step} → Lined l before now at next i → s ≡ step_from l at → Wrote now then next next' (step_text s) → at' ≡ after_at l at → Lined l before then at' next' (i + 1)
-  lined-more {i = i} {s = s} d e w a = record {
-    place = stepped-more l i d.place a;
-    few = omega (arith, d.few, w.next, step-few s);
-    lines = rw (add-one i) (underway-more d.lines (step_text s) (corner_lines (drop (suc i) (read_back l))) next-line w);
-  }
-    where
-      next-line : corner_lines (drop i (read_back l)) ≡ step_text s ++ corner_lines (drop (suc i) (read_back l))
-      next-line = lines_next (read_back l) i ∙ ap (λ t. step_text t ++ corner_lines (drop (suc i) (read_back l))) (sym (stepped-met l i i d.place refl e))
-
-  pub lined-all : {now : List ℕ} {at next i : ℕ} → length l / 7 ≤ i → Lined l before now at next i → Wrote before now 0 next (corner_lines (read_back l))
+  pub lined-all : Steps reader None moved → Wrote before now 0 next (corner_lines all)
   unfolding corner_lines
-  lined-all {i = i} h d = underway-all d.lines (ap corner_lines (drop_of_length-le (read_back l) {i = i} (omega (arith, length-read_back l))))
+  lined-all s = underway-all d.lines (ap corner_lines (left-none reader moved s))
 
 -- ---- so many digits are enough
 digits-enough : (n k a : ℕ) → a < 10 ^ suc n → digits (suc (n + k)) a ≡ digits (suc n) a

@@ -2,8 +2,6 @@
 -- end of a line 10; a 16-bit number has at most five digits, a pattern byte three.
 use Rattle.std.specs.Prelude.{List, [], ◌∷◌, ◌++◌, ℕ, ◌+◌, ◌*◌, ◌/◌, length, take, drop}
 use Rattle.lattice.specs.Listing.{Corner, read_back}
-use Rattle.section.specs.declared.Step.{Step}
-use Rattle.section.specs.declared.Step.TheVariants.{Corner as Found, Done}
 use Rattle.text_parts.specs.Decimal.{digits}
 
 -- ---- lines
@@ -13,11 +11,6 @@ digits_then n a end = digits n a ++ (end ∷ [])
 
 unfoldable pub corner_line : ℕ → ℕ → ℕ → ℕ → List ℕ
 corner_line x y z pattern = digits_then 5 x 32 ++ (digits_then 5 y 32 ++ (digits_then 5 z 32 ++ digits_then 3 pattern 10))
-
--- the line of what a reader meets
-unfoldable pub step_text : Step → List ℕ
-step_text (Found x y z pattern) = corner_line x y z pattern
-step_text Done = []
 
 -- a line a corner
 unfoldable pub corner_lines : List Corner → List ℕ

@@ -12,16 +12,19 @@ use Rattle.lattice.specs.Shots.{Shot}
 use Rattle.job.specs.Job.{Job, shots, shots_of, shot_count, place_of}
 use Rattle.job.proofs.Shots.{shots-count}
 use Rattle.shotfile_records.specs.declared.Fields.{Fields}
-use Rattle.shotfile_records.specs.declared.Taken.TheVariants.{Whole}
-use Rattle.shotfile_reader.specs.declared.Step.TheVariants.{Shot as Stepped}
+use Rattle.std.specs.Prelude.{Ok, Some}
 use Rattle.shotfile_records.specs.Records.{header_absent, first_absent, field_at, record_at, bit_of, field_of, map_of, record_of}
 use Rattle.shotfile_records.specs.Numbers.{setting_fields, shot_fields, shot_numbers}
-use Rattle.shotfile_reader.specs.Files.{step_at, coordinates, with_shot, on_step, shots_from, file, with_settings, first_shot, on_header, file_in}
+use Rattle.shotfile_reader.specs.Files.{Taken, step_at, coordinates, with_shot, on_step, shots_from, file, with_settings, first_shot, on_header, file_in}
 use Rattle.shotfile_writer.specs.Files.{shot_records, file_of}
-use Rattle.shotfile_records.proofs.Taking.{field-absent, field-there, taken-whole}
+use Rattle.shotfile_records.proofs.Taking.{told, told-bit, field-absent, field-there, taken-whole}
 use Rattle.shotfile_reader.proofs.Coords.{shots-more, all_numbers, all-numbers}
 use Rattle.shotfile_reader.proofs.Steps.{step-on, shots-end, shots-on}
 use Rattle.shotfile_records.proofs.Putting.{bit-absent, bit-there, field-some, field-size, map_first, map-second, map-third, map-small, record-size, record-bits}
+
+-- a record that was taken
+abbrev whole : Fields → ℕ → Taken
+whole f end = Ok (record { fields = f; end = end })
 
 -- the numbers are of 16 bits
 pub record SmallFields (f : Fields) : Type 0 where
@@ -122,20 +125,24 @@ placed pre post absent f small = record {
 
 module _ {s : List ℕ} {at : ℕ} {absent f : Fields} (p : Placed s at absent f) where
   -- the bits of its map
-  placed_first : bit_of absent.first f.first ≡ get_or s at 0 % 2
-  placed_first = sym (ap (λ (k : ℕ). k % 2) p.map_is ∙ map_first absent f)
+  placed_first : bit_of absent.first f.first ≡ told (get_or s at 0 % 2)
+  placed_first = sym (told-bit (get_or s at 0 % 2) (omega arith) ∙ (ap (λ (k : ℕ). k % 2) p.map_is ∙ map_first absent f))
 
-  placed-second : bit_of absent.second f.second ≡ get_or s at 0 / 2 % 2
-  placed-second = sym (ap (λ (k : ℕ). k / 2 % 2) p.map_is ∙ map-second absent f)
+  placed-second : bit_of absent.second f.second ≡ told (get_or s at 0 / 2 % 2)
+  placed-second = sym (told-bit (get_or s at 0 / 2 % 2) (omega arith) ∙ (ap (λ (k : ℕ). k / 2 % 2) p.map_is ∙ map-second absent f))
 
-  placed-third : bit_of absent.third f.third ≡ get_or s at 0 / 4
-  placed-third = sym (ap (λ (k : ℕ). k / 4) p.map_is ∙ map-third absent f)
+  placed-third : bit_of absent.third f.third ≡ told (get_or s at 0 / 4)
+  placed-third = sym (told-bit (get_or s at 0 / 4) (omega (arith, p.map_is, map-small absent f)) ∙ (ap (λ (k : ℕ). k / 4) p.map_is ∙ map-third absent f))
 
   -- it is read as the numbers that it says
-  placed-read : record_at s at absent ≡ Whole f (at + length (record_of absent f))
+  placed-read : record_at s at absent ≡ whole f (at + length (record_of absent f))
   placed-read =
-      sym (taken-whole s at absent p.inside (omega (arith, p.map_is, map-small absent f)) placed_first placed-second placed-third (omega (arith, p.room, record-bits absent f)) p.first-at p.second_is_at p.third_is_at p.map_is)
-      ∙ ap (Whole f) (omega (arith, record-bits absent f))
+      sym (taken-whole s at absent p.inside (omega (arith, p.map_is, map-small absent f)) placed_first placed-second placed-third (omega (arith, p.room, record-bits absent f))
+      (p.first-at ∙ ap (λ (b : ℕ). field_at s (at + 1) b absent.first) placed_first)
+      (p.second_is_at ∙ ap (λ (b : ℕ). field_at s (at + 1 + 2 * bit_of absent.first f.first) b absent.second) placed-second)
+      (p.third_is_at ∙ ap (λ (b : ℕ). field_at s (at + 1 + 2 * bit_of absent.first f.first + 2 * bit_of absent.second f.second) b absent.third) placed-third)
+      p.map_is)
+      ∙ ap (whole f) (omega (arith, record-bits absent f))
 
 -- the shots of a file, after what stands before them
 module _ (s : List ℕ) where
@@ -144,11 +151,11 @@ module _ (s : List ℕ) where
 
   -- a shot's record is one step
   one-step : (pre rest : List ℕ) (p f : Fields) → s ≡ pre ++ (record_of p f ++ rest) → SmallFields f
-      → step_at s (record { at = length pre; last = p }) ≡ Stepped (record { at = length (pre ++ record_of p f); last = f })
-  one-step pre rest p f e small = sym (step-on s (record { at = length pre; last = p }) (at-shot pre rest p f e) (Whole f (length (pre ++ record_of p f))) (sym taken))
+      → step_at s (record { at = length pre; last = p }) ≡ Ok (Some (record { at = length (pre ++ record_of p f); last = f }))
+  one-step pre rest p f e small = sym (step-on s (record { at = length pre; last = p }) (at-shot pre rest p f e) (whole f (length (pre ++ record_of p f))) (sym taken))
     where
-      taken : record_at s (length pre) p ≡ Whole f (length (pre ++ record_of p f))
-      taken = ap (λ (l : List ℕ). record_at l (length pre) p) e ∙ (placed-read (placed pre rest p f small) ∙ ap (Whole f) (sym (length-append pre (record_of p f))))
+      taken : record_at s (length pre) p ≡ whole f (length (pre ++ record_of p f))
+      taken = ap (λ (l : List ℕ). record_at l (length pre) p) e ∙ (placed-read (placed pre rest p f small) ∙ ap (whole f) (sym (length-append pre (record_of p f))))
 
   one-shot : (left places : ℕ) (pre rest : List ℕ) (p f : Fields) → s ≡ pre ++ (record_of p f ++ rest) → SmallFields f
       → shots_from (suc left) (suc places) s (record { at = length pre; last = p }) ≡ with_shot f (shots_from left places s (record { at = length (pre ++ record_of p f); last = f }))
@@ -185,8 +192,8 @@ file-read job places header-small small t l r = ap (λ t. on_header t (λ end. s
     s : List ℕ
     s = file_of job
 
-    header : record_at s 0 header_absent ≡ Whole f (length (record_of header_absent f))
-    header = placed-read (placed [] (shot_records first_absent (shots job)) header_absent f header-small) ∙ ap (Whole f) (omega arith)
+    header : record_at s 0 header_absent ≡ whole f (length (record_of header_absent f))
+    header = placed-read (placed [] (shot_records first_absent (shots job)) header_absent f header-small) ∙ ap (whole f) (omega arith)
 
     rest : shots_from 4096 places s (first_shot (length (record_of header_absent f))) ≡ coordinates job.coords
     rest =

@@ -14,18 +14,16 @@ use Rattle.ground.specs.Numbers.{Bytes}
 use Rattle.ground.proofs.Bools.{truth}
 use Rattle.buffer.specs.Wrote.{in_front}
 use Rattle.lattice.specs.Shots.{Shot, AllInField}
+use Rattle.std.specs.Prelude.{Ok}
+use Rattle.job.specs.declared.Stored.{Stored}
 use Rattle.job.specs.Job.{Job, job_of, shots, shot_count, first_shots, Valid}
 use Rattle.job.proofs.Conditions.{accepted-valid}
-use Rattle.shotfile_reader.specs.declared.ReadAnswer.{ReadAnswer}
-use Rattle.shotfile_reader.specs.declared.ReadAnswer.TheVariants.{Read}
-use Rattle.shotfile_writer.specs.declared.WriteAnswer.{WriteAnswer}
-use Rattle.shotfile_writer.specs.declared.WriteAnswer.TheVariants.{Written}
 use Rattle.shotfile_records.specs.Numbers.{setting_fields}
 use Rattle.shotfile_reader.specs.Files.{File, file, file_in}
 use Rattle.shotfile_writer.specs.Files.{file_of}
 use Rattle.shotfile.specs.Shortest.{shortest}
-use Rattle.shotfile_reader.specs.Calls.{read_numbers, read_answer, read_values, read_coords, ReadCall}
-use Rattle.shotfile_writer.specs.Calls.{written_numbers, WriteCall}
+use Rattle.shotfile_reader.specs.Calls.{ReadAnswer, read_numbers, read_answer, read_values, read_coords, ReadCall}
+use Rattle.shotfile_writer.specs.Calls.{WriteAnswer, written_numbers, WriteCall}
 use Rattle.shotfile_reader.proofs.Coords.{threes-whole}
 use Rattle.shotfile.proofs.ReadBack.{SmallFields, SmallShots, file-read}
 use Rattle.shotfile.proofs.Shortest.{file-shortest, file-same}
@@ -76,9 +74,9 @@ wrote-file {job} {before} {after} {n} a = ap (take n) a.leaves ∙ take_at (file
 -- (a) where `write` answers that it wrote n bytes, `read` of these n bytes, with places enough, answers the settings and the number of
 -- shots, and stores the coordinates; the other places keep their values
 pub read-what-write-wrote : {job : Job} {n : ℕ} {before written lent after : List ℕ} {w : WriteAnswer} {r : ReadAnswer}
-    → WriteCall job before w written → w ≡ Written n
+    → WriteCall job before w written → w ≡ Ok n
     → ReadCall (take n written) lent r after → shot_count job.coords ≤ shot_count lent
-    → (r ≡ Read job.field job.edge job.grid (shot_count job.coords)) × (read_numbers r ≡ 0 ∷ 0 ∷ job.field ∷ job.edge ∷ job.grid ∷ shot_count job.coords ∷ []) × (after ≡ in_front job.coords lent)
+    → (r ≡ Ok (record { field = job.field; edge = job.edge; grid = job.grid; shots = shot_count job.coords })) × (read_numbers r ≡ 0 ∷ 0 ∷ job.field ∷ job.edge ∷ job.grid ∷ shot_count job.coords ∷ []) × (after ≡ in_front job.coords lent)
 unfolding read_values
 read-what-write-wrote {job} {n} {before} {written} {lent} wrote e read room =
     (read.answer ∙ ap read_answer is, read.numbers ∙ ap read_values is, read.coordinates ∙ ap (λ (k : File). read_coords k lent) is)
@@ -91,26 +89,26 @@ read-what-write-wrote {job} {n} {before} {written} {lent} wrote e read room =
 
 -- (b) where `read` accepts a file, and the list is valid, `write` of what was read, with room enough, answers the file's length and writes
 -- the file's bytes; the other places keep their values
-pub write-what-read-read : {F E G n : ℕ} {s lent coords before after : List ℕ} {r : ReadAnswer} {w : WriteAnswer}
-    → ReadCall s lent r coords → r ≡ Read F E G n → Bytes s
-    → WriteCall (job_of F E G (first_shots n coords)) before w after → Valid (job_of F E G (first_shots n coords)) → length s ≤ length before
-    → (w ≡ Written (length s)) × (written_numbers w ≡ 0 ∷ 0 ∷ length s ∷ []) × (after ≡ in_front s before)
+pub write-what-read-read : {list : Stored} {s lent coords before after : List ℕ} {r : ReadAnswer} {w : WriteAnswer}
+    → ReadCall s lent r coords → r ≡ Ok list → Bytes s
+    → WriteCall (job_of list.field list.edge list.grid (first_shots list.shots coords)) before w after → Valid (job_of list.field list.edge list.grid (first_shots list.shots coords)) → length s ≤ length before
+    → (w ≡ Ok (length s)) × (written_numbers w ≡ 0 ∷ 0 ∷ length s ∷ []) × (after ≡ in_front s before)
 unfolding written_numbers
-write-what-read-read {F} {E} {G} {n} {s} {lent} {coords} {before} {after} read e b wrote v room =
+write-what-read-read {list} {s} {lent} {coords} {before} {after} read e b wrote v room =
     (wrote.answer ∙ sym d.answer, wrote.numbers ∙ sym d.numbers, wrote.file ∙ sym d.file)
   where
-    same : file_of (job_of F E G (first_shots n coords)) ≡ s
-    same = written_read s (shot_count lent) (job_of F E G (first_shots n coords)) b (accepted-file read e).is
+    same : file_of (job_of list.field list.edge list.grid (first_shots list.shots coords)) ≡ s
+    same = written_read s (shot_count lent) (job_of list.field list.edge list.grid (first_shots list.shots coords)) b (accepted-file read e).is
 
-    d : WriteCall (job_of F E G (first_shots n coords)) before (Written (length s)) (in_front s before)
-    d = write_done (job_of F E G (first_shots n coords)) before (sym ((accepted-valid (job_of F E G (first_shots n coords))).1 v)) (ap length (sym same)) room (ap (λ (k : List ℕ). in_front k before) (sym same))
+    d : WriteCall (job_of list.field list.edge list.grid (first_shots list.shots coords)) before (Ok (length s)) (in_front s before)
+    d = write_done (job_of list.field list.edge list.grid (first_shots list.shots coords)) before (sym ((accepted-valid (job_of list.field list.edge list.grid (first_shots list.shots coords))).1 v)) (ap length (sym same)) room (ap (λ (k : List ℕ). in_front k before) (sym same))
 
 -- (c) where `write` answers that it wrote n bytes, they are in the shortest form
-pub write-wrote-shortest : {job : Job} {n : ℕ} {before after : List ℕ} {w : WriteAnswer} → WriteCall job before w after → w ≡ Written n → T (shortest (take n after))
+pub write-wrote-shortest : {job : Job} {n : ℕ} {before after : List ℕ} {w : WriteAnswer} → WriteCall job before w after → w ≡ Ok n → T (shortest (take n after))
 write-wrote-shortest {job} {n} wrote e =
     let a = accepted-list wrote e in
     subst (λ (s : List ℕ). T (shortest s)) (sym (wrote-file a)) (written-shortest job a.valid)
 
 -- and where `read` accepts a file, it is in its shortest form
-pub read-read-shortest : {F E G n : ℕ} {s lent after : List ℕ} {r : ReadAnswer} → ReadCall s lent r after → r ≡ Read F E G n → T (shortest s)
-read-read-shortest {F} {E} {G} {n} {s} {lent} {after} read e = read-shortest s (shot_count lent) (job_of F E G (first_shots n after)) (accepted-file read e).is
+pub read-read-shortest : {list : Stored} {s lent after : List ℕ} {r : ReadAnswer} → ReadCall s lent r after → r ≡ Ok list → T (shortest s)
+read-read-shortest {list} {s} {lent} {after} read e = read-shortest s (shot_count lent) (job_of list.field list.edge list.grid (first_shots list.shots after)) (accepted-file read e).is

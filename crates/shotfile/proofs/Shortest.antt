@@ -7,13 +7,11 @@ use lib.ListN.{length, drop, drop_of_length-le, get_or-eq_default}
 use Rattle.ground.specs.Numbers.{Bytes}
 use Rattle.job.specs.Job.{Job, shots_of}
 use Rattle.shotfile_records.specs.declared.Fields.{Fields}
-use Rattle.shotfile_records.specs.declared.Taken.TheVariants.{Whole}
+use Rattle.std.specs.Prelude.{Ok, Some}
 use Rattle.shotfile_reader.specs.declared.Cursor.{Cursor}
-use Rattle.shotfile_reader.specs.declared.Step.{Step}
-use Rattle.shotfile_reader.specs.declared.Step.TheVariants.{Shot}
 use Rattle.shotfile_records.specs.Records.{header_absent, needless, tight, record_at, record_of}
 use Rattle.shotfile_records.specs.Numbers.{setting_fields, shot_numbers}
-use Rattle.shotfile_reader.specs.Files.{step_at, file, file_in, on_shot}
+use Rattle.shotfile_reader.specs.Files.{Step, step_at, file, file_in, on_shot}
 use Rattle.shotfile_writer.specs.Files.{shot_records, file_of}
 use Rattle.shotfile.specs.Shortest.{tight_from, tight_rest, shortest}
 use Rattle.shotfile_reader.proofs.Coords.{shots-none, shots-more}
@@ -34,7 +32,7 @@ unfolding tight_from
 reads-tight r zero = refl
 reads-tight {s} {left} {places} {c} (done h) (suc n) = rw (end-tight s c.at c.last h, ← step_end s c h)
 reads-tight {s} {left} {places} {c} (shot {f = f} {end = end} i q r) (suc n) =
-    let step : step_at s c ≡ Shot (record { at = end; last = f }) = sym (step-on s c i (Whole f end) (sym q)) in
+    let step : step_at s c ≡ Ok (Some (record { at = end; last = f })) = sym (step-on s c i (Ok (record { fields = f; end = end })) (sym q)) in
     ap (λ (b : Bool). b && on_shot (step_at s c) true (tight_from n s)) (parts s c.at c.last q).is-tight
     ∙ (ap (λ (k : Step). on_shot k true (tight_from n s)) step ∙ reads-tight r n)
 

@@ -1,12 +1,12 @@
 -- The lines of a shot file's text, by what stands in them; how long they are.
-use mathlib.Core.Path.{◌≡◌, sym, ap}
-use mathlib.Core.Bool.{Bool, true, false, cond}
+use mathlib.Core.Path.{◌≡◌, refl, sym, ap}
+use mathlib.Core.Bool.{Bool, true, false, not, cond}
+use Rattle.std.specs.Int.{from_bool}
 use mathlib.Core.List.{List, [], ◌++◌}
-use Prim.Native.Nat.{ℕ, ◌+◌, ◌/◌, ◌%◌, ◌≤◌}
+use Prim.Native.Nat.{ℕ, ◌+◌, ◌≤◌}
 use native.Mathlib.Omega.{arith}
 use lib.Dec.{eqb}
 use lib.ListN.{length, length-append}
-use borrow.Author.Tests.{eq-eqb, ne_eqb}
 use Rattle.buffer.specs.Wrote.{Wrote}
 use Rattle.buffer.proofs.WroteLaws.{wrote_none, wrote_as}
 use Rattle.refusals.specs.declared.Place.{Place}
@@ -19,53 +19,28 @@ use Rattle.text_parts.specs.Decimal.{decimal}
 use Rattle.text_parts.proofs.LineLaws.{digits-length}
 use Rattle.text_wording.specs.Sentences.{sentence}
 use Rattle.text_wording.proofs.SentenceLaws.{sentence-length}
-use Rattle.shotfile_lines.specs.Lines.{labelled, note, setting_line, settings, shot_line, place_text, refused_line}
+use Rattle.shotfile_lines.specs.Lines.{labelled, note, shot_line, place_text, refused_line}
 
 pub labelled-length : (label : List ℕ) (a : ℕ) → length (labelled label a) ≤ length label + 20
 labelled-length label a = omega (arith, length-append label (decimal a), digits-length 20 a)
 
 -- ---- the note of a setting
-pub note-clear : (bit : ℕ) → bit ≡ 0 → text " # default" ≡ note bit
+pub note-stands : (w : List ℕ) (at : ℕ) → at + 10 ≤ length w → Wrote w w at at (note (from_bool true))
 unfolding note
-note-clear bit e = simp (eq-eqb bit 0 e)
+note-stands w at r = wrote_none w at (omega arith)
 
-note-none : (bit : ℕ) → (bit ≡ 0 → ⊥) → note bit ≡ []
+pub note-absent : text " # default" ≡ note (from_bool false)
 unfolding note
-note-none bit h = simp (ne_eqb bit 0 h)
+note-absent = refl
 
-pub note-set : (bit : ℕ) (w : List ℕ) (at : ℕ) → (bit ≡ 0 → ⊥) → at + 10 ≤ length w → Wrote w w at at (note bit)
-note-set bit w at h r = wrote_as (sym (note-none bit h)) (wrote_none w at (omega arith))
-
-pub note-length : (bit : ℕ) → length (note bit) ≤ 10
+-- only 0 says that a setting does not stand
+pub note-told : (bit : ℕ) → note (from_bool (not (eqb bit 0))) ≡ note bit
 unfolding note
-note-length bit = go (eqb bit 0)
+note-told bit = go (eqb bit 0)
   where
-    go : (b : Bool) → length (cond b (text " # default") []) ≤ 10
-    go true = omega arith
-    go false = omega arith
-
-pub setting-length : (name : List ℕ) (value bit : ℕ) → length (setting_line name value bit) ≤ length name + 31
-unfolding setting_line
-setting-length name value bit =
-    omega (arith, length-append (labelled name value) (note bit ++ text "\n"), length-append (note bit) (text "\n"), labelled-length name value, note-length bit)
-
-settings-length : (m : ℕ) (f : Fields) → length (settings m f) ≤ 128
-unfolding settings
-settings-length m f =
-    let one = setting_line (text "field ") f.first (m % 2) in
-    let two = setting_line (text "edge ") f.second (m / 2 % 2) in
-    let three = setting_line (text "grid ") f.third (m / 4) in
-    omega (
-      arith,
-      length-append one (two ++ three),
-      length-append two three,
-      setting-length (text "field ") f.first (m % 2),
-      setting-length (text "edge ") f.second (m / 2 % 2),
-      setting-length (text "grid ") f.third (m / 4),
-    )
-
-pub settings-few : (m : ℕ) (f : Fields) {w w' : List ℕ} {at r : ℕ} → Wrote w w' at r (settings m f) → Wrote w w' at r (settings m f) × (r ≤ at + 128)
-settings-few m f t = (t, omega (arith, t.next, settings-length m f))
+    go : (b : Bool) → cond (eqb (from_bool (not b)) 0) (text " # default") [] ≡ cond b (text " # default") []
+    go true = refl
+    go false = refl
 
 -- ---- where a refusal is met
 module _ (detail : ℕ) where

@@ -5,6 +5,7 @@
 #![tactic(auto)]
 
 ghost use Rattle.std.specs.Prelude.{◌+◌, ◌≤◌, length};
+ghost use Rattle.std.specs.Int.{from_bool};
 ghost use Rattle.buffer.specs.Wrote.{Wrote};
 ghost use Rattle.shotfile_lines.specs.Lines.{labelled, note, setting_line, settings, shot_line, place_text, refused_line};
 
@@ -16,31 +17,35 @@ use text_wording::put_sentence;
 // Puts a label and a decimal value.
 fn put_labelled(out: &mut [u8], at: usize, label: &[u8], a: u64) -> usize
     requires { at + length label.now + 20 ≤ length out.old }
-    ensures { Wrote out.old out.new at result (labelled label.now a) }
+    ensures wrote { Wrote out.old out.new at result (labelled label.now a) }
+    ensures few { result ≤ at + length label.now + 20 }
 {
     let named = put_word(out, at, label);
     put_digits(out, named, 20, a)
 }
 
-// Puts the note that a setting is not in the file, where its bit is clear.
-fn put_note(out: &mut [u8], at: usize, bit: u8) -> usize
+// Puts the note that a setting is not in the file, unless it stands there.
+fn put_note(out: &mut [u8], at: usize, stands: bool) -> usize
     requires { at + 10 ≤ length out.old }
-    ensures { Wrote out.old out.new at result (note bit) }
+    ensures wrote { Wrote out.old out.new at result (note (from_bool stands)) }
+    ensures few { result ≤ at + 10 }
 {
-    if bit == 0 {
-        return put_word(out, at, b" # default");
+    if stands {
+        return at;
     }
-    at
+    put_word(out, at, b" # default")
 }
 
 // Puts the line of a setting, whose name ends with a space.
+// Kept so: a bool for the bit would ask more of callers than a byte, whose other values mean that the setting stands.
 pub fn put_setting(out: &mut [u8], at: usize, name: &[u8], value: u16, bit: u8) -> usize
     requires { at + length name.now + 31 ≤ length out.old }
-    ensures { Wrote out.old out.new at result (setting_line name.now value bit) }
+    ensures wrote { Wrote out.old out.new at result (setting_line name.now value bit) }
+    ensures few { result ≤ at + length name.now + 31 }
 {
-    let valued = put_labelled(out, at, name, value as u64);
-    let noted = put_note(out, valued, bit);
-    put_byte(out, noted, 10)
+    let valued = put_labelled(out, at, name, u64::from(value));
+    let noted = put_note(out, valued, bit != 0);
+    put_byte(out, noted, b'\n')
 }
 
 // Puts the three lines of a header with this map.
@@ -59,18 +64,19 @@ pub fn put_shot(out: &mut [u8], at: usize, shot: Fields, n: usize, byte: usize) 
     requires { at + 125 ≤ length out.old }
     ensures { Wrote out.old out.new at result (shot_line shot n byte) }
 {
-    let x = put_labelled(out, at, b"shot ", shot.first as u64);
-    let y = put_labelled(out, x, b" ", shot.second as u64);
-    let z = put_labelled(out, y, b" ", shot.third as u64);
+    let x = put_labelled(out, at, b"shot ", u64::from(shot.first));
+    let y = put_labelled(out, x, b" ", u64::from(shot.second));
+    let z = put_labelled(out, y, b" ", u64::from(shot.third));
     let numbered = put_labelled(out, z, b" # number ", n as u64);
     let placed = put_labelled(out, numbered, b", byte ", byte as u64);
-    put_byte(out, placed, 10)
+    put_byte(out, placed, b'\n')
 }
 
 // Puts where a refusal with this detail is met: the byte of a map, a shot, or nothing.
 fn put_place(out: &mut [u8], at: usize, place: Place, detail: usize) -> usize
     requires { at + 29 ≤ length out.old }
-    ensures { Wrote out.old out.new at result (place_text place detail) }
+    ensures wrote { Wrote out.old out.new at result (place_text place detail) }
+    ensures few { result ≤ at + 29 }
 {
     match place {
         Place::Byte => put_labelled(out, at, b" at byte ", detail as u64),
@@ -85,10 +91,10 @@ pub fn put_refused(out: &mut [u8], at: usize, refusal: Refusal) -> usize
     ensures { Wrote out.old out.new at result (refused_line refusal) }
 {
     let told = notice_of(refusal);
-    let numbered = put_labelled(out, at, b"refused ", told.number as u64);
+    let numbered = put_labelled(out, at, b"refused ", u64::from(told.number));
     let met = told.met;
     let placed = put_place(out, numbered, met, told.detail);
     let split = put_word(out, placed, b": ");
     let said = put_sentence(out, split, refusal);
-    put_byte(out, said, 10)
+    put_byte(out, said, b'\n')
 }

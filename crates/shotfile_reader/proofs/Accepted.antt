@@ -9,8 +9,9 @@ use lib.Seq.{take_at}
 use Rattle.buffer.specs.Wrote.{in_front}
 use Rattle.refusals.specs.declared.Refusal.{Refusal}
 use Rattle.job.specs.Job.{job_of, shot_count, place_of, first_shots}
-use Rattle.shotfile_reader.specs.declared.ReadAnswer.{ReadAnswer}
-use Rattle.shotfile_reader.specs.declared.ReadAnswer.TheVariants.{Read, Refused as Unread}
+use Rattle.shotfile_reader.specs.Calls.{ReadAnswer}
+use Rattle.std.specs.Prelude.{Ok, Err}
+use Rattle.job.specs.declared.Stored.{Stored}
 use Rattle.shotfile_reader.specs.Files.{File, file, refused, file_in}
 use Rattle.shotfile_reader.specs.Calls.{read_answer, read_coords, ReadCall}
 use Rattle.shotfile_reader.proofs.Coords.{places-fit}
@@ -41,30 +42,32 @@ pub record ListStored (k : File) (before : List ℕ) (F E G n : ℕ) (after : Li
   pub room : n ≤ shot_count before
   pub same_length : length after ≡ length before
 
-pub stored-list : (k : File) {before after : List ℕ} {r : ReadAnswer} → FileRead k before r after → {F E G n : ℕ} → r ≡ Read F E G n → ListStored k before F E G n after
-stored-list (refused p) c {F} {E} {G} {n} e = let u : Unread p ≡ Read F E G n = sym c.answer ∙ e in let z : ◌≡◌ {A = ℕ} 0 1 = cc in absurd (omega arith)
-stored-list (file job) {before} {after} c {F} {E} {G} {n} e =
+pub stored-list : (k : File) {before after : List ℕ} {r : ReadAnswer} → FileRead k before r after → {list : Stored} → r ≡ Ok list → ListStored k before list.field list.edge list.grid list.shots after
+stored-list (refused p) c {list} e = let u : ◌≡◌ {A = ReadAnswer} (Err p) (Ok list) = sym c.answer ∙ e in let z : ◌≡◌ {A = ℕ} 0 1 = cc in absurd (omega arith)
+stored-list (file job) {before} {after} c {list} e =
     let coords = job.coords in
-    let u : Read job.field job.edge job.grid (shot_count coords) ≡ Read F E G n = sym c.answer ∙ e in
-    let p₁ : job.field ≡ F = cc in
-    let p₂ : job.edge ≡ E = cc in
-    let p₃ : job.grid ≡ G = cc in
-    let m : shot_count coords ≡ n = cc in
+    let stored : Stored = record { field = job.field; edge = job.edge; grid = job.grid; shots = shot_count coords } in
+    let u : ◌≡◌ {A = ReadAnswer} (Ok stored) (Ok list) = sym c.answer ∙ e in
+    let same : ◌≡◌ {A = Stored} stored list = cc in
+    let p₁ : job.field ≡ list.field = ap (λ (t : Stored). t.field) same in
+    let p₂ : job.edge ≡ list.edge = ap (λ (t : Stored). t.edge) same in
+    let p₃ : job.grid ≡ list.grid = ap (λ (t : Stored). t.grid) same in
+    let m : shot_count coords ≡ list.shots = ap (λ (t : Stored). t.shots) same in
     let (whole, room) = c.fits in
     let is : after ≡ in_front coords before = c.coordinates in
     let fits : length coords ≤ length before = places-fit coords before whole room in
-    let stored : first_shots n after ≡ coords = ap (first_shots n) is ∙ take_at coords (drop (length coords) before) (place_of n) (whole ∙ rw m) in
+    let first : first_shots list.shots after ≡ coords = ap (first_shots list.shots) is ∙ take_at coords (drop (length coords) before) (place_of list.shots) (whole ∙ rw m) in
     record {
-      is = rw (stored, ← p₁, ← p₂, ← p₃);
+      is = rw (first, ← p₁, ← p₂, ← p₃);
       room = omega (arith, m, room);
       same_length = ap length is ∙ (length-append coords (drop (length coords) before) ∙ omega (arith, length-drop (length coords) before));
     }
 
 -- a file that is refused stores nothing
-pub stored-none : (k : File) {before after : List ℕ} {r : ReadAnswer} → FileRead k before r after → {q : Refusal} → r ≡ Unread q → (k ≡ refused q) × (after ≡ before)
-stored-none (file job) c {q} e = let u : Read job.field job.edge job.grid (shot_count job.coords) ≡ Unread q = sym c.answer ∙ e in let z : ◌≡◌ {A = ℕ} 0 1 = cc in absurd (omega arith)
+pub stored-none : (k : File) {before after : List ℕ} {r : ReadAnswer} → FileRead k before r after → {q : Refusal} → r ≡ Err q → (k ≡ refused q) × (after ≡ before)
+stored-none (file job) c {q} e = let u : ◌≡◌ {A = ReadAnswer} (Ok (record { field = job.field; edge = job.edge; grid = job.grid; shots = shot_count job.coords })) (Err q) = sym c.answer ∙ e in let z : ◌≡◌ {A = ℕ} 0 1 = cc in absurd (omega arith)
 stored-none (refused p) c {q} e =
-    let u : Unread p ≡ Unread q = sym c.answer ∙ e in
+    let u : ◌≡◌ {A = ReadAnswer} (Err p) (Err q) = sym c.answer ∙ e in
     let same : p ≡ q = cc in
     (ap refused same, c.coordinates)
 
@@ -76,8 +79,8 @@ module _ {s before after : List ℕ} {r : ReadAnswer} (c : ReadCall s before r a
   pub file-read : FileRead (file_in (shot_count before) s) before r after
   file-read = record { answer = c.answer; coordinates = c.coordinates; fits = file-fits (shot_count before) s }
 
-  pub accepted-file : {F E G n : ℕ} → r ≡ Read F E G n → AcceptedFile s before F E G n after
+  pub accepted-file : {list : Stored} → r ≡ Ok list → AcceptedFile s before list.field list.edge list.grid list.shots after
   accepted-file e = stored-list (file_in (shot_count before) s) file-read e
 
-  pub refused-file : {q : Refusal} → r ≡ Unread q → (file_in (shot_count before) s ≡ refused q) × (after ≡ before)
+  pub refused-file : {q : Refusal} → r ≡ Err q → (file_in (shot_count before) s ≡ refused q) × (after ≡ before)
   refused-file e = stored-none (file_in (shot_count before) s) file-read e

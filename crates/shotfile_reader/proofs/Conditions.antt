@@ -7,8 +7,9 @@ use Prim.Native.Nat.{ℕ}
 use native.Mathlib.Omega.{arith}
 use Rattle.refusals.specs.declared.Refusal.{Refusal}
 use Rattle.job.specs.Job.{Job, job_of, shot_count, first_shots}
-use Rattle.shotfile_reader.specs.declared.ReadAnswer.{ReadAnswer}
-use Rattle.shotfile_reader.specs.declared.ReadAnswer.TheVariants.{Read, Refused as Unread}
+use Rattle.job.specs.declared.Stored.{Stored}
+use Rattle.shotfile_reader.specs.Calls.{ReadAnswer}
+use Rattle.std.specs.Prelude.{Ok, Err}
 use Rattle.shotfile_reader.specs.Files.{file, refused, file_in}
 use Rattle.shotfile_reader.specs.Calls.{read_answer, ReadCall}
 use Rattle.shotfile_reader.specs.Conditions.{FirstFault, Faultless}
@@ -48,15 +49,17 @@ module _ (places : ℕ) (s : List ℕ) where
 
 module _ {s before after : List ℕ} {r : ReadAnswer} (c : ReadCall s before r after) where
   -- a refusal is given if and only if its condition is the first that holds at the first faulty record
-  pub read-refuses : (q : Refusal) → (r ≡ Unread q) ↔ FirstFault (shot_count before) s q
+  pub read-refuses : (q : Refusal) → (r ≡ Err q) ↔ FirstFault (shot_count before) s q
   read-refuses q = (λ e. (file-refuses (shot_count before) s q).0 (refused-file c e).0, λ h. c.answer ∙ ap read_answer ((file-refuses (shot_count before) s q).1 h))
 
   -- a file is read if and only if no record of it is faulty
-  pub read-accepts : ((F E G n : ℕ) × (r ≡ Read F E G n)) ↔ Faultless (shot_count before) s
+  pub read-accepts : ((list : Stored) × (r ≡ Ok list)) ↔ Faultless (shot_count before) s
   read-accepts = (to, from)
     where
-      to : (F E G n : ℕ) × (r ≡ Read F E G n) → Faultless (shot_count before) s
-      to (F, E, G, n, e) = (file-reads (shot_count before) s).0 (job_of F E G (first_shots n after), (accepted-file c e).is)
+      to : (list : Stored) × (r ≡ Ok list) → Faultless (shot_count before) s
+      to (list, e) = (file-reads (shot_count before) s).0 (job_of list.field list.edge list.grid (first_shots list.shots after), (accepted-file c e).is)
 
-      from : Faultless (shot_count before) s → (F E G n : ℕ) × (r ≡ Read F E G n)
-      from h = let (job, e) = (file-reads (shot_count before) s).1 h in (job.field, job.edge, job.grid, shot_count job.coords, c.answer ∙ ap read_answer e)
+      from : Faultless (shot_count before) s → (list : Stored) × (r ≡ Ok list)
+      from h =
+          let (job, e) = (file-reads (shot_count before) s).1 h in
+          (record { field = job.field; edge = job.edge; grid = job.grid; shots = shot_count job.coords }, c.answer ∙ ap read_answer e)

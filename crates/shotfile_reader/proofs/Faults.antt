@@ -13,11 +13,11 @@ use Rattle.refusals.specs.declared.Refusal.TheVariants.{TooManyShots, NoPlace, U
 use Rattle.job.specs.Job.{Job}
 use Rattle.refusals.specs.Refusals.{number_of}
 use Rattle.shotfile_records.specs.declared.Fields.{Fields}
-use Rattle.shotfile_records.specs.declared.Taken.{Taken}
-use Rattle.shotfile_records.specs.declared.Taken.TheVariants.{Whole, Refused}
+use Rattle.shotfile_reader.specs.Files.{Taken}
+use Rattle.shotfile_records.specs.declared.Record.{Record}
+use Rattle.std.specs.Prelude.{None, Ok, Err}
 use Rattle.shotfile_records.specs.Records.{header_absent, first_absent, fields_at, tight, record_at}
 use Rattle.shotfile_reader.specs.declared.Cursor.{Cursor}
-use Rattle.shotfile_reader.specs.declared.Step.TheVariants.{End}
 use Rattle.shotfile_reader.specs.Files.{step_of, step_at, Rest, coordinates, faulty, with_shot, on_step, shots_from, File, file, refused, with_settings, first_shot, on_header, file_in}
 use Rattle.shotfile_reader.specs.Conditions.{end_of, IsRecord, header, shot_first, next_shot, Fault, too_many_shots, no_place, unknown_bit, cut_short, needless_field, FirstFault, Faultless}
 use Rattle.shotfile_records.proofs.Parts.{Parts, parts}
@@ -80,10 +80,10 @@ module _ (places : ℕ) (s : List ℕ) (n at : ℕ) (absent : Fields) where
 
 module _ (places : ℕ) (s : List ℕ) (n at : ℕ) (absent : Fields) (few : n ≤ 4096) (placed : n ≤ places) where
   -- a whole record has no fault
-  whole-faultless : {f : Fields} {end : ℕ} → record_at s at absent ≡ Whole f end → (q : Refusal) → ¬ Fault places s n at absent q
-  whole-faultless {f} {end} e q h = go h
+  whole-faultless : {taken : Record} → record_at s at absent ≡ Ok taken → (q : Refusal) → ¬ Fault places s n at absent q
+  whole-faultless {taken} e q h = go h
     where
-      p : Parts s at absent f end
+      p : Parts s at absent taken.fields taken.end
       p = parts s at absent e
 
       go : {q : Refusal} → Fault places s n at absent q → ⊥
@@ -103,12 +103,12 @@ module _ (places : ℕ) (s : List ℕ) (n at : ℕ) (absent : Fields) (few : n �
     broken-loose : end_of s at ≤ length s → tight s at absent ≡ false → Broken places s n at absent (NeedlessField at)
     broken-loose e t = record { holds = needless_field (loose-needless s at absent m t); none_before = none_below places s n at absent 17 (λ l. few) (λ l. placed) (λ l. m) (λ l. e) (omega arith) }
 
-  refused-broken : {r : Refusal} → record_at s at absent ≡ Refused r → Broken places s n at absent r
+  refused-broken : {r : Refusal} → record_at s at absent ≡ Err r → Broken places s n at absent r
   unfolding record_at
   refused-broken {r} e = go (ltb at (length s)) refl (ltb (get_or s at 0) 8) refl (leb (end_of s at) (length s)) refl (tight s at absent) refl e
     where
       go : (a : Bool) → ltb at (length s) ≡ a → (b : Bool) → ltb (get_or s at 0) 8 ≡ b → (c : Bool) → leb (end_of s at) (length s) ≡ c → (d : Bool) → tight s at absent ≡ d
-          → cond a (cond b (cond c (cond d (Whole (fields_at s (get_or s at 0) at absent) (end_of s at)) (Refused (NeedlessField at))) (Refused (CutShort at))) (Refused (UnknownBit at))) (Refused (CutShort at)) ≡ Refused r
+          → cond {A = Taken} a (cond b (cond c (cond d (Ok (record { fields = fields_at s (get_or s at 0) at absent; end = end_of s at })) (Err (NeedlessField at))) (Err (CutShort at))) (Err (UnknownBit at))) (Err (CutShort at)) ≡ Err r
           → Broken places s n at absent r
       go false p b q c k d t e =
           let none : get_or s at 0 ≡ 0 = get_or-eq_default s 0 (ltb-false at (length s) p) in
@@ -142,8 +142,8 @@ module _ (places : ℕ) (s : List ℕ) where
     pub place : c.at ≡ end_of s at
     pub next : c.at < length s → IsRecord s (suc k) c.at c.last
 
-  reached-first : {f : Fields} {end : ℕ} → record_at s 0 header_absent ≡ Whole f end → Reached 0 (first_shot end)
-  reached-first {f} {end} e =
+  reached-first : {taken : Record} → record_at s 0 header_absent ≡ Ok taken → Reached 0 (first_shot taken.end)
+  reached-first {taken} e =
       let p = parts s 0 header_absent e in
       record {
         at = 0;
@@ -153,15 +153,15 @@ module _ (places : ℕ) (s : List ℕ) where
         next = λ h. subst (λ (i : ℕ). IsRecord s 1 i first_absent) (sym p.end_is) (shot_first (omega (arith, h, p.end_is)));
       }
 
-  reached-more : {k : ℕ} {c : Cursor} → Reached k c → c.at < length s → {f : Fields} {end : ℕ} → record_at s c.at c.last ≡ Whole f end → Reached (suc k) (record { at = end; last = f })
-  reached-more {k} {c} r l {f} {end} e =
+  reached-more : {k : ℕ} {c : Cursor} → Reached k c → c.at < length s → {taken : Record} → record_at s c.at c.last ≡ Ok taken → Reached (suc k) (record { at = taken.end; last = taken.fields })
+  reached-more {k} {c} r l {taken} e =
       let p = parts s c.at c.last e in
       record {
         at = c.at;
         absent = c.last;
         is = r.next l;
         place = p.end_is;
-        next = λ h. subst (λ (i : ℕ). IsRecord s (suc (suc k)) i f) (sym p.end_is) (subst (IsRecord s (suc (suc k)) (end_of s c.at)) (sym p.is) (next_shot (r.next l) (omega (arith, h, p.end_is))));
+        next = λ h. subst (λ (i : ℕ). IsRecord s (suc (suc k)) i taken.fields) (sym p.end_is) (subst (IsRecord s (suc (suc k)) (end_of s c.at)) (sym p.is) (next_shot (r.next l) (omega (arith, h, p.end_is))));
       }
 
   all_sound : {k : ℕ} {c : Cursor} → Reached k c → Sound k → length s ≤ c.at → Faultless places s
@@ -205,15 +205,15 @@ module _ (places : ℕ) (s : List ℕ) where
     where
       go : (b : Bool) → ltb c.at (length s) ≡ b → (t : Taken) → record_at s c.at c.last ≡ t
           → ((c' : Cursor) → Reached (suc k) c' → Sound (suc k) → RestOutcome (shots_from left free s c'))
-          → RestOutcome (on_step (cond b (step_of t) End) (shots_from left free s))
+          → RestOutcome (on_step (cond b (step_of t) (Ok None)) (shots_from left free s))
       go false h t e later = fine refl (all_sound reached sound (ltb-false c.at (length s) h))
-      go true h (Refused r) e later =
+      go true h (Err r) e later =
           let i = ltb-true c.at (length s) h in
           fails refl (first-broken reached sound i (refused-broken places s (suc k) c.at c.last (omega arith) (omega arith) e))
-      go true h (Whole g end) e later =
+      go true h (Ok taken) e later =
           let i = ltb-true c.at (length s) h in
-          let c' : Cursor = record { at = end; last = g } in
-          with-shot g (shots_from left free s c')
+          let c' : Cursor = record { at = taken.end; last = taken.fields } in
+          with-shot taken.fields (shots_from left free s c')
           (later c' (reached-more reached i e) (sound_more k c.at c.last sound (reached.next i) (whole-faultless places s (suc k) c.at c.last (omega arith) (omega arith) e)))
 
   -- what a file comes to
@@ -233,12 +233,12 @@ module _ (places : ℕ) (s : List ℕ) where
       none-earlier m place p l q = absurd (omega arith)
 
       go : (t : Taken) → record_at s 0 header_absent ≡ t → Outcome (on_header t (λ end. shots_from 4096 places s (first_shot end)))
-      go (Refused r) e =
+      go (Err r) e =
           let b = refused-broken places s 0 0 header_absent (omega arith) (omega arith) e in
           turned_down refl (record { n = 0; at = 0; absent = header_absent; is_record = header; holds = b.holds; none_before = b.none_before; earlier_records = none-earlier })
-      go (Whole f end) e =
-          with-settings f (shots_from 4096 places s (first_shot end))
-          (rest-outcome 4096 places 0 (first_shot end) (omega arith) (omega arith) (reached-first e) sound)
+      go (Ok taken) e =
+          with-settings taken.fields (shots_from 4096 places s (first_shot taken.end))
+          (rest-outcome 4096 places 0 (first_shot taken.end) (omega arith) (omega arith) (reached-first e) sound)
         where
           sound : Sound 0
           sound zero place p l q = rw (same_place header q, same-absent header q) (whole-faultless places s 0 0 header_absent (omega arith) (omega arith) e)

@@ -1,5 +1,5 @@
 -- The shots that a file has from a cursor on, one record after the other. Assumes nothing.
-use mathlib.Core.Path.{◌≡◌, refl, sym, subst, ap₂, ◌∙◌}
+use mathlib.Core.Path.{◌≡◌, refl, sym, subst, ap, ap₂, ◌∙◌}
 use mathlib.Core.Bool.{Bool, true, false, cond}
 use mathlib.Core.List.{List, [], ◌++◌}
 use Prim.Native.Nat.{ℕ, zero, suc, ◌≤◌, ◌<◌}
@@ -10,10 +10,11 @@ use borrow.Author.Tests.{ltb-true, ltb-false}
 use Rattle.refusals.specs.declared.Refusal.{Refusal}
 use Rattle.job.specs.Job.{shot_count, place_of}
 use Rattle.shotfile_records.specs.declared.Fields.{Fields}
-use Rattle.shotfile_records.specs.declared.Taken.{Taken}
-use Rattle.shotfile_records.specs.declared.Taken.TheVariants.{Whole, Refused}
+use Rattle.shotfile_reader.specs.Files.{Taken}
+use Rattle.shotfile_records.specs.declared.Record.{Record}
+use Rattle.std.specs.Prelude.{Ok, Err}
 use Rattle.shotfile_reader.specs.declared.Cursor.{Cursor}
-use Rattle.shotfile_reader.specs.declared.Step.TheVariants.{Shot, End}
+use Rattle.std.specs.Prelude.{Some, None}
 use Rattle.shotfile_records.specs.Records.{record_at}
 use Rattle.shotfile_records.specs.Numbers.{shot_numbers}
 use Rattle.shotfile_reader.specs.Files.{step_of, step_at, Rest, coordinates, faulty, with_shot, on_step, shots_from, next_shots}
@@ -25,7 +26,7 @@ pub data Reads (s : List ℕ) : ℕ → ℕ → Cursor → List ℕ → Type 0 w
   done : {left places : ℕ} {c : Cursor} → length s ≤ c.at → Reads s left places c []
   shot : {left places : ℕ} {c : Cursor} {f : Fields} {end : ℕ} {coords : List ℕ}
       → c.at < length s
-      → record_at s c.at c.last ≡ Whole f end
+      → record_at s c.at c.last ≡ Ok (record { fields = f; end = end })
       → Reads s left places (record { at = end; last = f }) coords
       → Reads s (suc left) (suc places) c (shot_numbers f ++ coords)
 
@@ -46,7 +47,7 @@ module _ (s : List ℕ) where
 
   then : (left places : ℕ) (c : Cursor) (f : Fields) (end : ℕ) (r : Rest) {coords : List ℕ}
       → c.at < length s
-      → record_at s c.at c.last ≡ Whole f end
+      → record_at s c.at c.last ≡ Ok (record { fields = f; end = end })
       → ((later : List ℕ) → r ≡ coordinates later → Reads s left places (record { at = end; last = f }) later)
       → with_shot f r ≡ coordinates coords
       → Reads s (suc left) (suc places) c coords
@@ -61,10 +62,10 @@ module _ (s : List ℕ) where
     where
       go : (b : Bool) → ltb c.at (length s) ≡ b → (t : Taken) → record_at s c.at c.last ≡ t
           → ((c' : Cursor) (later : List ℕ) → shots_from left places s c' ≡ coordinates later → Reads s left places c' later)
-          → on_step (cond b (step_of t) End) (shots_from left places s) ≡ coordinates coords → Reads s (suc left) (suc places) c coords
+          → on_step (cond b (step_of t) (Ok None)) (shots_from left places s) ≡ coordinates coords → Reads s (suc left) (suc places) c coords
       go false l t q k e = no-shots (suc left) (suc places) c (ltb-false c.at (length s) l) e
-      go true l (Whole f end) q k e = then left places c f end (shots_from left places s (record { at = end; last = f })) (ltb-true c.at (length s) l) q (k (record { at = end; last = f })) e
-      go true l (Refused r) q k e = apart e
+      go true l (Ok taken) q k e = then left places c taken.fields taken.end (shots_from left places s (record { at = taken.end; last = taken.fields })) (ltb-true c.at (length s) l) q (k (record { at = taken.end; last = taken.fields })) e
+      go true l (Err r) q k e = apart e
 
 -- ---- what follows for the coordinates
 -- they are whole shots
@@ -84,7 +85,7 @@ pub reads-next : {s : List ℕ} {left places : ℕ} {c : Cursor} {coords : List 
 unfolding next_shots
 reads-next (done h) = refl
 reads-next {s} {left} {places} {c} (shot {f = f} {end = end} {coords = coords} l t r) =
-    let e : step_at s c ≡ Shot (record { at = end; last = f }) = sym (step-on s c l (Whole f end) (sym t)) in
+    let e : step_at s c ≡ Ok (Some (record { at = end; last = f })) = sym (step-on s c l (Ok (record { fields = f; end = end })) (sym t)) in
     rw (count-more f coords, e, reads-next r)
 
 -- however many places there are, they are the same coordinates
@@ -93,8 +94,9 @@ reads_same (done h) (done k) = refl
 reads_same (done h) (shot l t r) = absurd (omega arith)
 reads_same (shot l t r) (done h) = absurd (omega arith)
 reads_same {s} (shot {f = f} {end = end} l t r) (shot {left = allowed} {places = room} {f = g} {end = place} {coords = others} k q w) =
-    let same : Whole f end ≡ Whole g place = sym t ∙ q in
-    let same-fields : f ≡ g = cc in
-    let same_end : end ≡ place = cc in
+    let same : ◌≡◌ {A = Taken} (Ok (record { fields = f; end = end })) (Ok (record { fields = g; end = place })) = sym t ∙ q in
+    let same-record : ◌≡◌ {A = Record} (record { fields = f; end = end }) (record { fields = g; end = place }) = cc in
+    let same-fields : f ≡ g = ap (λ (k : Record). k.fields) same-record in
+    let same_end : end ≡ place = ap (λ (k : Record). k.end) same-record in
     let w' : Reads s allowed room (record { at = end; last = f }) others = rw (same-fields, same_end) w in
     ap₂ (λ (h : Fields) (later : List ℕ). shot_numbers h ++ later) same-fields (reads_same r w')

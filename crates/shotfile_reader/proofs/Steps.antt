@@ -8,19 +8,18 @@ use borrow.Author.Tests.{le-ltb, lt-ltb}
 use Rattle.refusals.specs.declared.Refusal.{Refusal}
 use Rattle.refusals.specs.declared.Refusal.TheVariants.{TooManyShots, NoPlace}
 use Rattle.shotfile_records.specs.declared.Fields.{Fields}
-use Rattle.shotfile_records.specs.declared.Taken.{Taken}
+use Rattle.shotfile_reader.specs.Files.{Taken}
 use Rattle.shotfile_reader.specs.declared.Cursor.{Cursor}
-use Rattle.shotfile_reader.specs.declared.Step.{Step}
-use Rattle.shotfile_reader.specs.declared.Step.TheVariants.{Shot, Refused as Stopped, End}
-use Rattle.shotfile_reader.specs.declared.Counted.{Counted}
-use Rattle.shotfile_reader.specs.declared.Counted.TheVariants.{Shots, Refused as Uncounted}
+use Rattle.shotfile_reader.specs.Files.{Step}
+use Rattle.std.specs.Prelude.{Some, None, Ok, Err}
+use Rattle.shotfile_reader.specs.Calls.{Counted}
 use Rattle.shotfile_records.specs.Records.{record_at}
 use Rattle.shotfile_reader.specs.Files.{step_of, step_at, Rest, coordinates, faulty, with_shot, on_step, shots_from}
 use Rattle.shotfile_reader.specs.Calls.{count_of}
 use Rattle.shotfile_reader.proofs.Coords.{count-more}
 
 module _ (s : List ℕ) (c : Cursor) where
-  pub step_end : length s ≤ c.at → End ≡ step_at s c
+  pub step_end : length s ≤ c.at → (Ok None) ≡ step_at s c
   unfolding step_at
   step_end h = simp (le-ltb c.at (length s) h)
 
@@ -51,15 +50,15 @@ module _ (s : List ℕ) (c : Cursor) where
 -- ---- counting
 -- n shots more
 abbrev pub more : ℕ → Counted → Counted
-more n (Shots k) = Shots (n + k)
-more n (Uncounted r) = Uncounted r
+more n (Ok k) = Ok (n + k)
+more n (Err r) = Err r
 
 more-none : (k : Counted) → more 0 k ≡ k
-more-none (Shots k) = ap Shots (omega arith)
-more-none (Uncounted r) = refl
+more-none (Ok k) = ap Ok (omega arith)
+more-none (Err r) = refl
 
 more-shot : (n : ℕ) (f : Fields) (r : Rest) → more n (count_of (with_shot f r)) ≡ more (n + 1) (count_of r)
-more-shot n f (coordinates coords) = ap Shots (omega (arith, count-more f coords))
+more-shot n f (coordinates coords) = ap Ok (omega (arith, count-more f coords))
 more-shot n f (faulty r) = refl
 
 -- the count of all shots, after n of them
@@ -67,11 +66,11 @@ abbrev pub Counting : List ℕ → ℕ → Counted → Cursor → ℕ → Type 0
 Counting s places all c n = more n (count_of (shots_from (4096 - n) (places - n) s c)) ≡ all
 
 module _ (s : List ℕ) (places : ℕ) {all : Counted} (c : Cursor) (n : ℕ) (h : Counting s places all c n) where
-  pub count-end : length s ≤ c.at → Shots n ≡ all
-  count-end e = ap Shots (omega arith) ∙ (sym (ap (λ (r : Rest). more n (count_of r)) (shots-end s c (4096 - n) (places - n) e)) ∙ h)
+  pub count-end : length s ≤ c.at → Ok n ≡ all
+  count-end e = ap Ok (omega arith) ∙ (sym (ap (λ (r : Rest). more n (count_of r)) (shots-end s c (4096 - n) (places - n) e)) ∙ h)
 
   module _ (l : c.at < length s) where
-    pub count-many : n ≡ 4096 → Uncounted (TooManyShots c.at) ≡ all
+    pub count-many : n ≡ 4096 → Err (TooManyShots c.at) ≡ all
     count-many e =
         let z : 4096 - n ≡ 0 = omega arith in
         let r : shots_from (4096 - n) (places - n) s c ≡ faulty (TooManyShots c.at) = rw z (shots-many s c l (places - n)) in
@@ -81,7 +80,7 @@ module _ (s : List ℕ) (places : ℕ) {all : Counted} (c : Cursor) (n : ℕ) (h
       next-left : 4096 - n ≡ suc (4096 - (n + 1))
       next-left = omega arith
 
-      pub count-full : places ≤ n → Uncounted (NoPlace c.at) ≡ all
+      pub count-full : places ≤ n → Err (NoPlace c.at) ≡ all
       count-full p =
           let z : places - n ≡ 0 = omega arith in
           let r : shots_from (4096 - n) (places - n) s c ≡ faulty (NoPlace c.at) = rw (next-left, z) (shots-full s c l (4096 - (n + 1))) in
@@ -95,14 +94,14 @@ module _ (s : List ℕ) (places : ℕ) {all : Counted} (c : Cursor) (n : ℕ) (h
             let r : shots_from (4096 - n) (places - n) s c ≡ on_step (step_at s c) (shots_from (4096 - (n + 1)) (places - (n + 1)) s) = rw (next-left, q) (shots-on s c (4096 - (n + 1)) (places - (n + 1))) in
             ap (λ (t : Step). more n (count_of (on_step t (shots_from (4096 - (n + 1)) (places - (n + 1)) s)))) e ∙ (sym (ap (λ (r : Rest). more n (count_of r)) r) ∙ h)
 
-        pub count-shot : {next : Cursor} → Shot next ≡ step_at s c → Counting s places all next (n + 1)
-        count-shot {next} e = sym (more-shot n next.last (shots_from (4096 - (n + 1)) (places - (n + 1)) s next)) ∙ on (Shot next) e
+        pub count-shot : {next : Cursor} → Ok (Some next) ≡ step_at s c → Counting s places all next (n + 1)
+        count-shot {next} e = sym (more-shot n next.last (shots_from (4096 - (n + 1)) (places - (n + 1)) s next)) ∙ on (Ok (Some next)) e
 
-        pub count-stopped : {r : Refusal} → Stopped r ≡ step_at s c → Uncounted r ≡ all
-        count-stopped {r} e = on (Stopped r) e
+        pub count-stopped : {r : Refusal} → Err r ≡ step_at s c → Err r ≡ all
+        count-stopped {r} e = on (Err r) e
 
-        pub count-ended : End ≡ step_at s c → Shots n ≡ all
-        count-ended e = ap Shots (omega arith) ∙ on End e
+        pub count-ended : (Ok None) ≡ step_at s c → Ok n ≡ all
+        count-ended e = ap Ok (omega arith) ∙ on (Ok None) e
 
 pub count-start : (s : List ℕ) (places : ℕ) (c : Cursor) → Counting s places (count_of (shots_from 4096 places s c)) c 0
 count-start s places c =

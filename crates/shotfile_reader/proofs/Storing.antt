@@ -7,8 +7,8 @@ use Rattle.buffer.proofs.Underway.{Underway, underway-none}
 use Rattle.refusals.specs.declared.Refusal.{Refusal}
 use Rattle.job.specs.Job.{place_of}
 use Rattle.shotfile_reader.specs.declared.Cursor.{Cursor}
-use Rattle.shotfile_reader.specs.declared.Step.{Step}
-use Rattle.shotfile_reader.specs.declared.Step.TheVariants.{Shot, Refused as Stopped, End}
+use Rattle.shotfile_reader.specs.Files.{Step}
+use Rattle.std.specs.Prelude.{Some, None, Ok, Err}
 use Rattle.shotfile_records.specs.Numbers.{shot_numbers}
 use Rattle.shotfile_reader.specs.Files.{step_at, on_shot, next_shots}
 
@@ -32,11 +32,11 @@ module _ (s : List ℕ) (c : Cursor) (n i : ℕ) where
         let m : n - i ≡ suc (n - (i + 1)) = omega arith in
         rw (m, e)
 
-    pub next-stopped : {r : Refusal} → Stopped r ≡ step_at s c → next_shots (n - i) s c ≡ []
-    next-stopped {r} e = on (Stopped r) e
+    pub next-stopped : {r : Refusal} → Err r ≡ step_at s c → next_shots (n - i) s c ≡ []
+    next-stopped {r} e = on (Err r) e
 
-    pub next-ended : End ≡ step_at s c → next_shots (n - i) s c ≡ []
-    next-ended e = on End e
+    pub next-ended : (Ok None) ≡ step_at s c → next_shots (n - i) s c ≡ []
+    next-ended e = on (Ok None) e
 
-    pub next_shot : {next : Cursor} → Shot next ≡ step_at s c → next_shots (n - i) s c ≡ shot_numbers next.last ++ next_shots (n - (i + 1)) s next
-    next_shot {next} e = on (Shot next) e
+    pub next_shot : {next : Cursor} → Ok (Some next) ≡ step_at s c → next_shots (n - i) s c ≡ shot_numbers next.last ++ next_shots (n - (i + 1)) s next
+    next_shot {next} e = on (Ok (Some next)) e

@@ -10,8 +10,12 @@ ghost use Rattle.job.specs.Job.{shot_count};
 ghost use Rattle.shotfile_reader.specs.Files.{step_at, shots_from, next_shots};
 ghost use Rattle.shotfile_reader.specs.Calls.{count_of, ReadCall};
 
+use job::Stored;
 use refusals::Refusal;
-use shotfile_records::{Fields, Taken, first_absent, header_absent, take_record};
+use shotfile_records::{Fields, first_absent, header_absent, take_record};
+
+// The most shots that a file may have.
+const MOST: usize = 4096;
 
 // A place of a shot file, and the coordinates of the last shot taken: zeros before the first.
 #[derive(Clone, Copy)]
@@ -20,86 +24,43 @@ pub struct Cursor {
     pub last: Fields,
 }
 
-// What a step of the cursor takes.
-#[derive(Clone, Copy)]
-pub enum Step {
-    // A whole record: the cursor after it, which holds the shot's coordinates.
-    Shot(Cursor),
-    Refused(Refusal),
-    // No record is left.
-    End,
-}
-
-// What a check of the shots finds.
-#[derive(Clone, Copy)]
-pub enum Counted {
-    Shots(usize),
-    Refused(Refusal),
-}
-
-// What `read` answers.
-#[derive(Clone, Copy)]
-pub enum ReadAnswer {
-    // The settings, and how many shots were stored.
-    Read {
-        field: u16,
-        edge: u16,
-        grid: u16,
-        shots: usize,
-    },
-    Refused(Refusal),
-}
-
 impl Cursor {
-    // Takes one record.
-    pub fn step(self, bytes: &[u8]) -> Step
+    // Takes one record, and gives the cursor after it, which holds the shot's coordinates; nothing where no record is left.
+    pub fn step(self, bytes: &[u8]) -> Result<Option<Cursor>, Refusal>
         ensures { result ≡ step_at bytes.now self }
     {
-        let at = self.at;
-        if bytes.len() <= at {
-            return Step::End;
+        if bytes.len() <= self.at {
+            return Ok(None);
         }
-        let last = self.last;
-        match take_record(bytes, at, last) {
-            Taken::Whole { fields, end } => Step::Shot(Cursor {
-                at: end,
-                last: fields,
-            }),
-            Taken::Refused(refusal) => Step::Refused(refusal),
-        }
+        let record = take_record(bytes, self.at, self.last)?;
+        Ok(Some(Cursor {
+            at: record.end,
+            last: record.fields,
+        }))
     }
 }
 
 // Checks the records from a cursor on, where so many shots have a place, and counts them.
-fn count_shots(bytes: &[u8], places: usize, start: Cursor) -> Counted
+fn count_shots(bytes: &[u8], places: usize, start: Cursor) -> Result<usize, Refusal>
     ensures { result ≡ count_of (shots_from 4096 places bytes.now start) }
 {
     let mut c = start;
-    let mut n = 0;
-    loop {
-        let at = c.at;
-        if bytes.len() <= at {
-            return Counted::Shots(n);
-        }
-        if n == 4096 {
-            return Counted::Refused(Refusal::TooManyShots { at: at });
+    for n in 0..MOST {
+        if bytes.len() <= c.at {
+            return Ok(n);
         }
         if places <= n {
-            return Counted::Refused(Refusal::NoPlace { at: at });
+            return Err(Refusal::NoPlace { at: c.at });
         }
-        match c.step(bytes) {
-            Step::Shot(next) => {
-                c = next;
-                n += 1;
-            }
-            Step::Refused(refusal) => {
-                return Counted::Refused(refusal);
-            }
-            Step::End => {
-                return Counted::Shots(n);
-            }
+        match c.step(bytes)? {
+            Some(next) => c = next,
+            None => return Ok(n),
         }
     }
+    if bytes.len() <= c.at {
+        return Ok(MOST);
+    }
+    Err(Refusal::TooManyShots { at: c.at })
 }
 
 // Stores the coordinates of the next n shots from a cursor on.
@@ -108,50 +69,34 @@ fn store_shots(bytes: &[u8], coords: &mut [u16], start: Cursor, n: usize)
     ensures { coords.new ≡ in_front (next_shots n bytes.now start) coords.old }
 {
     let mut c = start;
-    let mut i = 0;
-    while i < n {
+    for i in 0..n {
         match c.step(bytes) {
-            Step::Shot(next) => {
+            Ok(Some(next)) => {
                 let shot = next.last;
                 job::shot::put(coords, i, shot.first, shot.second, shot.third);
                 c = next;
             }
-            Step::Refused(_) => {
-                return;
-            }
-            Step::End => {
-                return;
-            }
+            Ok(None) => return,
+            Err(_) => return,
         }
-        i += 1;
     }
 }
 
 // Reads a file into the coordinate slice, or says why not.
-pub fn read(bytes: &[u8], coords: &mut [u16]) -> ReadAnswer
+pub fn read(bytes: &[u8], coords: &mut [u16]) -> Result<Stored, Refusal>
     ensures { ReadCall bytes.now coords.old result coords.new }
 {
-    let absent = header_absent();
-    match take_record(bytes, 0, absent) {
-        Taken::Whole { fields, end } => {
-            let last = first_absent();
-            let start = Cursor {
-                at: end,
-                last: last,
-            };
-            match count_shots(bytes, job::shot::count(coords), start) {
-                Counted::Shots(n) => {
-                    store_shots(bytes, coords, start, n);
-                    ReadAnswer::Read {
-                        field: fields.first,
-                        edge: fields.second,
-                        grid: fields.third,
-                        shots: n,
-                    }
-                }
-                Counted::Refused(refusal) => ReadAnswer::Refused(refusal),
-            }
-        }
-        Taken::Refused(refusal) => ReadAnswer::Refused(refusal),
-    }
+    let header = take_record(bytes, 0, header_absent())?;
+    let start = Cursor {
+        at: header.end,
+        last: first_absent(),
+    };
+    let shots = count_shots(bytes, job::shot::count(coords), start)?;
+    store_shots(bytes, coords, start, shots);
+    Ok(Stored {
+        field: header.fields.first,
+        edge: header.fields.second,
+        grid: header.fields.third,
+        shots,
+    })
 }

@@ -1,23 +1,18 @@
 -- The shortest record: its length, and how it is written field by field. Assumes nothing.
-use mathlib.Core.Path.{◌≡◌, refl, ap, ◌∙◌}
-use mathlib.Core.Bool.{Bool, true, false, cond}
-use mathlib.Core.List.{List, [], ◌∷◌, ◌++◌, append_assoc}
-use Prim.Native.Nat.{ℕ, suc, ◌+◌, ◌*◌, ◌/◌, ◌%◌, ◌≤◌, ◌<◌}
+use mathlib.Core.Path.{◌≡◌, refl, ap}
+use mathlib.Core.Bool.{Bool, true, false, not, cond}
+use Rattle.std.specs.Int.{from_bool, w16, to_le_bytes}
+use mathlib.Core.List.{List, [], ◌∷◌, ◌++◌}
+use Prim.Native.Nat.{ℕ, ◌+◌, ◌-◌, ◌*◌, ◌/◌, ◌%◌, ◌≤◌, ◌<◌}
 use native.Mathlib.Omega.{arith}
 use lib.Dec.{eqb}
-use lib.ListN.{length, take, drop, set, length-append}
-use lib.Seq.{sets-eq}
+use lib.ListN.{length, take, set, length-append}
+use borrow.Rule.Slice.PartMut.{put_mid, Post-is}
 use borrow.Author.Tests.{eq-eqb, ne_eqb}
 use Rattle.shotfile_records.specs.declared.Fields.{Fields}
 use Rattle.shotfile_records.specs.Records.{bit_of, field_of, map_of, record_of}
 use Rattle.buffer.specs.Wrote.{Wrote}
 use Rattle.buffer.proofs.WroteLaws.{wrote_none, wrote_one, wrote-length, wrote_then}
-
--- two stores one after the other
-two-stores : (l : List ℕ) (i a b : ℕ) → i + 2 ≤ length l → set (set l i a) (i + 1) b ≡ take i l ++ ((a ∷ b ∷ []) ++ drop (i + 2) l)
-two-stores l i a b h =
-    let e : i + 1 ≡ suc i = omega arith in
-    rw e (sets-eq (a ∷ b ∷ []) l i h ∙ append_assoc (take i l) (a ∷ b ∷ []) (drop (i + 2) l))
 
 -- ---- a field
 module _ (absent v : ℕ) where
@@ -28,6 +23,14 @@ module _ (absent v : ℕ) where
   pub bit-there : (v ≡ absent → ⊥) → 1 ≡ bit_of absent v
   unfolding bit_of
   bit-there n = simp (ne_eqb v absent n)
+
+  pub bit-told : from_bool (not (eqb v absent)) ≡ bit_of absent v
+  unfolding bit_of
+  bit-told = go (eqb v absent)
+    where
+      go : (b : Bool) → from_bool (not b) ≡ cond b 0 1
+      go true = refl
+      go false = refl
 
   pub bit-small : bit_of absent v ≤ 1
   unfolding bit_of
@@ -57,10 +60,6 @@ module _ (absent v : ℕ) where
   pub field_most : length (field_of absent v) ≤ 2
   field_most = omega (arith, field-size, bit-small)
 
--- three bits that are told, of any fields, as one number
-pub told-small : (a₁ v₁ a₂ v₂ a₃ v₃ : ℕ) {b₁ b₂ b₃ : ℕ} → b₁ ≡ bit_of a₁ v₁ → b₂ ≡ bit_of a₂ v₂ → b₃ ≡ bit_of a₃ v₃ → b₁ + 2 * b₂ + 4 * b₃ < 8
-told-small a₁ v₁ a₂ v₂ a₃ v₃ e₁ e₂ e₃ = omega (arith, e₁, e₂, e₃, bit-small a₁ v₁, bit-small a₂ v₂, bit-small a₃ v₃)
-
 -- ---- a record
 module _ (absent f : Fields) where
   bits₁ : bit_of absent.first f.first ≤ 1
@@ -85,14 +84,6 @@ module _ (absent f : Fields) where
   pub map-small : map_of absent f < 8
   map-small = omega (arith, bits₁, bits₂, bits₃)
 
-  -- made of its bits
-  module _ {b₁ b₂ b₃ : ℕ} (e₁ : b₁ ≡ bit_of absent.first f.first) (e₂ : b₂ ≡ bit_of absent.second f.second) (e₃ : b₃ ≡ bit_of absent.third f.third) where
-    pub map-made : b₁ + 2 * b₂ + 4 * b₃ ≡ map_of absent f
-    map-made = rw (e₁, e₂, e₃)
-
-    pub made-small : b₁ + 2 * b₂ + 4 * b₃ < 8
-    made-small = omega (arith, map-made, map-small)
-
   pub record-size : length (record_of absent f) ≡ 1 + length (field_of absent.first f.first) + length (field_of absent.second f.second) + length (field_of absent.third f.third)
   unfolding record_of
   record-size =
@@ -114,10 +105,15 @@ module _ (w : List ℕ) (at : ℕ) where
   pub put-absent : (absent v : ℕ) → v ≡ absent → at + length (field_of absent v) ≤ length w → Wrote w w at at (field_of absent v)
   put-absent absent v e h = rw (field-none absent v e) (wrote_none w at (omega arith))
 
-  pub put-there : (absent v : ℕ) → (v ≡ absent → ⊥) → at + length (field_of absent v) ≤ length w → Wrote w (set (set w at (v % 256)) (at + 1) (v / 256)) at (at + 2) (field_of absent v)
-  put-there absent v n h =
-      let room : at + 2 ≤ length w = omega (arith, ap length (field-some absent v n)) in
-      rw (field-some absent v n) (record { next = refl; room = room; is = two-stores w at (v % 256) (v / 256) room })
+  pub put-there : (absent v : ℕ) → (v ≡ absent → ⊥) → v < 65536 → at + length (field_of absent v) ≤ length w → Wrote w (put_mid at (at + 2 - at) w (to_le_bytes w16 v)) at (at + 2) (field_of absent v)
+  put-there absent v n small h =
+      let high : v / 256 % 256 ≡ v / 256 = omega arith in
+      rw (field-some absent v n, high)
+      (record {
+        next = refl;
+        room = omega (arith, ap length (field-some absent v n));
+        is = ap (λ (l : List ℕ). take at w ++ ((v % 256 ∷ v / 256 ∷ []) ++ l)) (Post-is at (at + 2) w (omega arith));
+      })
 
 module _ (absent f : Fields) where
   pub put_map : (w : List ℕ) (at : ℕ) {m : ℕ} → at < length w → m ≡ map_of absent f → Wrote w (set w at m) at (at + 1) (map_of absent f ∷ [])

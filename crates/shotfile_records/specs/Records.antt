@@ -1,10 +1,10 @@
 -- One record of a shot file: a map byte, then the 16-bit fields whose bits stand in it, least byte first. docs/SCOPE.md, 'Shot file'.
 -- The header has the fields F, E, G, and each shot x, y, z: three numbers, in bits 0, 1, 2. What an absent field means is given with them.
-use Rattle.std.specs.Prelude.{Bool, not, cond, ◌&&◌, List, [], ◌∷◌, ◌++◌, ℕ, ◌+◌, ◌*◌, ◌/◌, ◌%◌, ltb, leb, eqb, length, get_or}
+use Rattle.std.specs.Prelude.{Bool, not, cond, ◌&&◌, List, [], ◌∷◌, ◌++◌, ℕ, ◌+◌, ◌*◌, ◌/◌, ◌%◌, ltb, leb, eqb, length, get_or, Result, Ok, Err}
+use Rattle.refusals.specs.declared.Refusal.{Refusal}
 use Rattle.refusals.specs.declared.Refusal.TheVariants.{UnknownBit, CutShort, NeedlessField}
 use Rattle.shotfile_records.specs.declared.Fields.{Fields}
-use Rattle.shotfile_records.specs.declared.Taken.{Taken}
-use Rattle.shotfile_records.specs.declared.Taken.TheVariants.{Whole, Refused}
+use Rattle.shotfile_records.specs.declared.Record.{Record}
 
 -- what the header's absent fields mean: a field side of 1,024, a shot edge of 16, a grid size of 16
 unfoldable pub header_absent : Fields
@@ -55,17 +55,17 @@ tight s at absent =
 
 -- the record at a place: refusal 4 where another bit than the three stands, 5 where the file ends before its map or a field, 17 where a
 -- field is needless
-unfoldable pub record_at : List ℕ → ℕ → Fields → Taken
+unfoldable pub record_at : List ℕ → ℕ → Fields → Result Record Refusal
 record_at s at absent =
     cond (ltb at (length s))
     (cond (ltb (get_or s at 0) 8)
     (cond (leb (end_at (get_or s at 0) at) (length s))
     (cond (tight s at absent)
-    (Whole (fields_at s (get_or s at 0) at absent) (end_at (get_or s at 0) at))
-    (Refused (NeedlessField at)))
-    (Refused (CutShort at)))
-    (Refused (UnknownBit at)))
-    (Refused (CutShort at))
+    (Ok (record { fields = fields_at s (get_or s at 0) at absent; end = end_at (get_or s at 0) at }))
+    (Err (NeedlessField at)))
+    (Err (CutShort at)))
+    (Err (UnknownBit at)))
+    (Err (CutShort at))
 
 -- ---- writing
 -- a number that is what its absence means is left out

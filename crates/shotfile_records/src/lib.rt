@@ -5,6 +5,7 @@
 
 ghost use Rattle.std.specs.Prelude.{◌≡◌, [], ◌∷◌, ◌≤◌, ◌<◌, ◌+◌, ◌*◌, length};
 ghost use Rattle.shotfile_records.specs.Records.{field_at, record_at, header_absent, first_absent, bit_of, field_of, map_of, record_of};
+ghost use Rattle.std.specs.Int.{from_bool};
 ghost use Rattle.buffer.specs.Wrote.{Wrote};
 
 use refusals::Refusal;
@@ -24,15 +25,15 @@ pub struct Fields {
     pub third: u16,
 }
 
-// What stands at a place of a file.
+// A whole record at a place of a file: its numbers, and the place after it.
 #[derive(Clone, Copy)]
-pub enum Taken {
-    // A whole record: its numbers, and the place after it.
-    Whole { fields: Fields, end: usize },
-    Refused(Refusal),
+pub struct Record {
+    pub fields: Fields,
+    pub end: usize,
 }
 
 // The numbers that the header's absent fields mean.
+// Kept so: a constant has no contract, and callers' proofs go by what this one and `first_absent` promise.
 pub fn header_absent() -> Fields
     ensures { result ≡ header_absent }
 {
@@ -54,68 +55,53 @@ pub fn first_absent() -> Fields
     }
 }
 
-fn wide(b: u8) -> usize
-    ensures { result ≡ b }
+// A field at a place: the number there if the field stands, else what its absence means.
+fn field(bytes: &[u8], at: usize, stands: bool, absent: u16) -> u16
+    requires { at + 2 * from_bool stands ≤ length bytes.now }
+    ensures { result ≡ field_at bytes.now at (from_bool stands) absent }
 {
-    b as usize
-}
-
-fn word(low: u8, high: u8) -> u16
-    ensures { result ≡ low + 256 * high }
-{
-    (low as u16) + 256 * (high as u16)
-}
-
-// A field at a place: the number there if its bit stands, else what its absence means.
-fn field(bytes: &[u8], at: usize, bit: usize, absent: u16) -> u16
-    requires { at + 2 * bit ≤ length bytes.now }
-    ensures { result ≡ field_at bytes.now at bit absent }
-{
-    if bit == 0 {
+    if !stands {
         return absent;
     }
-    word(bytes[at], bytes[at + 1])
+    u16::from_le_bytes([bytes[at], bytes[at + 1]])
 }
 
-// The bit of a field in the map: 0 where its absence says it.
-fn bit(absent: u16, value: u16) -> u8
-    ensures { result ≡ bit_of absent value }
+// Whether a number has a field of its own in the shortest record: its absence says another.
+fn stands(absent: u16, number: u16) -> bool
+    ensures { from_bool result ≡ bit_of absent number }
 {
-    if value == absent {
-        return 0;
-    }
-    1
+    number != absent
 }
 
 // The map of the shortest record of these numbers: a bit for each that is not what its absence means.
 fn map_of(absent: Fields, fields: Fields) -> u8
     ensures { result ≡ map_of absent fields }
 {
-    let b1 = bit(absent.first, fields.first);
-    let b2 = bit(absent.second, fields.second);
-    let b3 = bit(absent.third, fields.third);
+    let b1 = u8::from(stands(absent.first, fields.first));
+    let b2 = u8::from(stands(absent.second, fields.second));
+    let b3 = u8::from(stands(absent.third, fields.third));
     b1 + 2 * b2 + 4 * b3
 }
 
 // Takes the record whose map is at a place, if no field of it says what its absence means: then its map is that of the shortest record.
-pub fn take_record(bytes: &[u8], at: usize, absent: Fields) -> Taken
+pub fn take_record(bytes: &[u8], at: usize, absent: Fields) -> Result<Record, Refusal>
     ensures { result ≡ record_at bytes.now at absent }
 {
     if bytes.len() <= at {
-        return Taken::Refused(Refusal::CutShort { at: at });
+        return Err(Refusal::CutShort { at });
     }
     let map = bytes[at];
     if 8 <= map {
-        return Taken::Refused(Refusal::UnknownBit { at: at });
+        return Err(Refusal::UnknownBit { at });
     }
-    let b1 = wide(map % 2);
-    let b2 = wide(map / 2 % 2);
-    let b3 = wide(map / 4);
-    let second = at + 1 + 2 * b1;
-    let third = second + 2 * b2;
-    let end = third + 2 * b3;
+    let b1 = map % 2 == 1;
+    let b2 = map / 2 % 2 == 1;
+    let b3 = map / 4 == 1;
+    let second = at + 1 + 2 * usize::from(b1);
+    let third = second + 2 * usize::from(b2);
+    let end = third + 2 * usize::from(b3);
     if bytes.len() < end {
-        return Taken::Refused(Refusal::CutShort { at: at });
+        return Err(Refusal::CutShort { at });
     }
     let fields = Fields {
         first: field(bytes, at + 1, b1, absent.first),
@@ -123,19 +109,16 @@ pub fn take_record(bytes: &[u8], at: usize, absent: Fields) -> Taken
         third: field(bytes, third, b3, absent.third),
     };
     if map != map_of(absent, fields) {
-        return Taken::Refused(Refusal::NeedlessField { at: at });
+        return Err(Refusal::NeedlessField { at });
     }
-    Taken::Whole {
-        fields: fields,
-        end: end,
-    }
+    Ok(Record { fields, end })
 }
 
 // How many bytes a field takes: two where its bit stands.
 fn field_length(absent: u16, value: u16) -> usize
     ensures { result ≡ length (field_of absent value) }
 {
-    2 * wide(bit(absent, value))
+    2 * usize::from(stands(absent, value))
 }
 
 // How many bytes the shortest record of these numbers takes.
@@ -156,9 +139,9 @@ fn put_field(bytes: &mut [u8], at: usize, absent: u16, number: u16) -> usize
     if number == absent {
         return at;
     }
-    bytes[at] = (number % 256) as u8;
-    bytes[at + 1] = (number / 256) as u8;
-    at + 2
+    let end = at + 2;
+    bytes[at..end].copy_from_slice(&number.to_le_bytes());
+    end
 }
 
 // Writes the map of a record at a place, and gives the place after it.

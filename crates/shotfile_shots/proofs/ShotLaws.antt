@@ -10,9 +10,8 @@ use Rattle.buffer.proofs.WroteLaws.{wrote_none, wrote_then, wrote_as}
 use Rattle.refusals.specs.declared.Refusal.{Refusal}
 use Rattle.refusals.specs.declared.Refusal.TheVariants.{TooManyShots}
 use Rattle.shotfile_reader.specs.declared.Cursor.{Cursor}
-use Rattle.shotfile_reader.specs.declared.Step.{Step}
-use Rattle.shotfile_reader.specs.declared.Step.TheVariants.{Shot, Refused as Stopped, End}
-use Rattle.shotfile_reader.specs.Files.{step_at}
+use Rattle.std.specs.Prelude.{Ok, Err, Some, None}
+use Rattle.shotfile_reader.specs.Files.{Step, step_at}
 use Rattle.shotfile_lines.specs.Lines.{shot_line, refused_line}
 use Rattle.shotfile_shots.specs.ShotLines.{step_line, shot_lines}
 use Rattle.shotfile_lines.proofs.LineLaws.{refused-length, shot-length}
@@ -55,22 +54,22 @@ module _ {s all w w' : List ℕ} {at next : ℕ} {c : Cursor} {n : ℕ} (l : Lis
         let m : shot_lines (4096 - n) n s c ≡ step_line n c.at (step_at s c) (shot_lines (4096 - (n + 1)) (n + 1) s) = ap (λ (k : ℕ). shot_lines k n s c) k ∙ lines-on s c n (4096 - (n + 1)) in
         ap (λ (t : Step). l.lines ++ step_line n c.at t (shot_lines (4096 - (n + 1)) (n + 1) s)) e ∙ (ap (λ (x : List ℕ). l.lines ++ x) (sym m) ∙ l.rest)
 
-    pub listed-shot : {w'' : List ℕ} {r : ℕ} {after : Cursor} → Shot after ≡ step_at s c → Wrote w' w'' next r (shot_line after.last n c.at) → Listed s all w w'' at r after (n + 1)
+    pub listed-shot : {w'' : List ℕ} {r : ℕ} {after : Cursor} → Ok (Some after) ≡ step_at s c → Wrote w' w'' next r (shot_line after.last n c.at) → Listed s all w w'' at r after (n + 1)
     listed-shot {after = after} e x =
         record {
           lines = l.lines ++ shot_line after.last n c.at;
           wrote = wrote_then l.wrote x;
-          rest = append_assoc l.lines (shot_line after.last n c.at) (shot_lines (4096 - (n + 1)) (n + 1) s after) ∙ on (Shot after) e;
+          rest = append_assoc l.lines (shot_line after.last n c.at) (shot_lines (4096 - (n + 1)) (n + 1) s after) ∙ on (Ok (Some after)) e;
           few = omega (arith, l.few, x.next, shot-length after.last n c.at);
         }
 
-    pub listed-stopped : {w'' : List ℕ} {r : ℕ} {q : Refusal} → Stopped q ≡ step_at s c → Wrote w' w'' next r (refused_line q) → AllListed all w w'' at r
-    listed-stopped {q = q} e x = (wrote_as (on (Stopped q) e) (wrote_then l.wrote x), omega (arith, l.few, x.next, refused-length q))
+    pub listed-stopped : {w'' : List ℕ} {r : ℕ} {q : Refusal} → Err q ≡ step_at s c → Wrote w' w'' next r (refused_line q) → AllListed all w w'' at r
+    listed-stopped {q = q} e x = (wrote_as (on (Err q) e) (wrote_then l.wrote x), omega (arith, l.few, x.next, refused-length q))
 
-    pub listed-ended : End ≡ step_at s c → AllListed all w w' at next
-    listed-ended e = (wrote_as (sym (append-nil l.lines) ∙ on End e) l.wrote, omega (arith, l.few))
+    pub listed-ended : Ok None ≡ step_at s c → AllListed all w w' at next
+    listed-ended e = (wrote_as (sym (append-nil l.lines) ∙ on (Ok None) e) l.wrote, omega (arith, l.few))
 
-  module _ (b : n ≤ 4096) (h : 4096 ≤ n) where
+  module _ (h : n ≡ 4096) where
     last : (x : List ℕ) → shot_lines 0 n s c ≡ x → l.lines ++ x ≡ all
     last x e =
         let k : 4096 - n ≡ 0 = omega arith in

@@ -9,7 +9,7 @@ ghost use Rattle.shotfile_shots.specs.ShotLines.{shot_lines};
 
 use refusals::Refusal;
 use shotfile_lines::{put_refused, put_shot};
-use shotfile_reader::{Cursor, Step};
+use shotfile_reader::Cursor;
 
 // Puts the lines of the shots from a cursor on, and the line of the first faulty record.
 pub fn put_shots(bytes: &[u8], out: &mut [u8], at: usize, start: Cursor) -> usize
@@ -19,27 +19,18 @@ pub fn put_shots(bytes: &[u8], out: &mut [u8], at: usize, start: Cursor) -> usiz
 {
     let mut c = start;
     let mut next = at;
-    let mut n = 0;
-    while n < 4096 {
-        let place = c.at;
+    for n in 0..4096 {
         match c.step(bytes) {
-            Step::Shot(after) => {
-                let shot = after.last;
-                next = put_shot(out, next, shot, n, place);
+            Ok(Some(after)) => {
+                next = put_shot(out, next, after.last, n, c.at);
                 c = after;
             }
-            Step::Refused(refusal) => {
-                return put_refused(out, next, refusal);
-            }
-            Step::End => {
-                return next;
-            }
+            Ok(None) => return next,
+            Err(refusal) => return put_refused(out, next, refusal),
         }
-        n += 1;
     }
-    let place = c.at;
-    if bytes.len() <= place {
+    if bytes.len() <= c.at {
         return next;
     }
-    put_refused(out, next, Refusal::TooManyShots { at: place })
+    put_refused(out, next, Refusal::TooManyShots { at: c.at })
 }

@@ -13,13 +13,11 @@ use Rattle.refusals.specs.declared.Refusal.{Refusal}
 use Rattle.refusals.specs.declared.Refusal.TheVariants.{TooManyShots}
 use Rattle.job.specs.Checking.{checked}
 use Rattle.shotfile_records.specs.declared.Fields.{Fields}
-use Rattle.shotfile_records.specs.declared.Taken.{Taken}
-use Rattle.shotfile_records.specs.declared.Taken.TheVariants.{Whole, Refused}
+use Rattle.std.specs.Prelude.{None, Ok, Err}
 use Rattle.shotfile_reader.specs.declared.Cursor.{Cursor}
-use Rattle.shotfile_reader.specs.declared.Step.TheVariants.{End}
 use Rattle.shotfile_records.specs.Records.{header_absent, record_at}
 use Rattle.shotfile_records.specs.Numbers.{setting_fields, shot_numbers}
-use Rattle.shotfile_reader.specs.Files.{step_of, step_at, Rest, coordinates, faulty, with_shot, on_step, shots_from, File, file, refused, first_shot, with_settings, on_header, file_in}
+use Rattle.shotfile_reader.specs.Files.{Taken, step_of, step_at, Rest, coordinates, faulty, with_shot, on_step, shots_from, File, file, refused, first_shot, with_settings, on_header, file_in}
 use Rattle.shotfile_lines.specs.Lines.{settings, shot_line, refused_line}
 use Rattle.shotfile_shots.specs.ShotLines.{step_line, shot_lines}
 use Rattle.shotfile_verdict.specs.Verdicts.{list_verdict, verdict}
@@ -66,12 +64,12 @@ shows-rest (suc left) n zero s c h = absurd (omega arith)
 shows-rest (suc left) n (suc places) s c h = go (ltb c.at (length s)) (record_at s c.at c.last) (λ after. shows-rest left (n + 1) places s after (omega arith))
   where
     go : (b : Bool) (t : Taken) → ((after : Cursor) → ShowsRest (n + 1) (shots_from left places s after) (shot_lines left (n + 1) s after))
-        → ShowsRest n (on_step (cond b (step_of t) End) (shots_from left places s)) (step_line n c.at (cond b (step_of t) End) (shot_lines left (n + 1) s))
+        → ShowsRest n (on_step (cond b (step_of t) (Ok None)) (shots_from left places s)) (step_line n c.at (cond b (step_of t) (Ok None)) (shot_lines left (n + 1) s))
     go false t k = none
-    go true (Refused r) k = breaks-here n r
-    go true (Whole f end) k =
-        let after : Cursor = record { at = end; last = f } in
-        rest_more n c.at f (shots_from left places s after) (shot_lines left (n + 1) s after) (k after)
+    go true (Err r) k = breaks-here n r
+    go true (Ok taken) k =
+        let after : Cursor = record { at = taken.end; last = taken.fields } in
+        rest_more n c.at taken.fields (shots_from left places s after) (shot_lines left (n + 1) s after) (k after)
 
 -- ---- the whole text
 -- the text of a file that reads: the settings, the shots, and the refusal of the list, if there is one
@@ -108,9 +106,9 @@ text-shows places s h = header (record_at s 0 header_absent) refl
     rest end = shots_from 4096 places s (first_shot end)
 
     header : (t : Taken) → record_at s 0 header_absent ≡ t → TextShows s (on_header t rest) (records_text places s t)
-    header (Whole f end) e =
-        with-verdict s f (rest end) (shot_lines 4096 0 s (first_shot end)) (shows-rest 4096 0 places s (first_shot end) (omega arith)) (ap (λ (t : Taken). on_header t rest) e)
-    header (Refused r) e = record { lines = []; is = refl }
+    header (Ok taken) e =
+        with-verdict s taken.fields (rest taken.end) (shot_lines 4096 0 s (first_shot taken.end)) (shows-rest 4096 0 places s (first_shot taken.end) (omega arith)) (ap (λ (t : Taken). on_header t rest) e)
+    header (Err r) e = record { lines = []; is = refl }
 
 pub text-of-file : (places : ℕ) (s : List ℕ) {job : Job} → 4096 ≤ places → file_in places s ≡ file job → TextOfFile s job (plain_text places s)
 text-of-file places s h e = subst (λ (k : File). TextShows s k (plain_text places s)) e (text-shows places s h)

@@ -9,35 +9,26 @@ ghost use Rattle.shotfile_text.specs.Text.{TextCall};
 
 use shotfile_lines::{put_refused, put_settings};
 use shotfile_reader::Cursor;
-use shotfile_records::Taken;
+use shotfile_records::{first_absent, header_absent, take_record};
 use shotfile_shots::put_shots;
 use shotfile_verdict::put_verdict;
 
-// Puts the text of a file at the front: its settings, its shots and the verdict on its list, or the refusal of its header.
-fn put_file(bytes: &[u8], coords: &mut [u16], out: &mut [u8]) -> usize
-    requires { 524288 ≤ length out.old }
-    ensures { TextCall bytes.now coords.old out.old result coords.new out.new }
-{
-    let absent = shotfile_records::header_absent();
-    match shotfile_records::take_record(bytes, 0, absent) {
-        Taken::Whole { fields, end } => {
-            let set = put_settings(out, 0, bytes[0], fields);
-            let last = shotfile_records::first_absent();
-            let start = Cursor {
-                at: end,
-                last: last,
-            };
-            let listed = put_shots(bytes, out, set, start);
-            put_verdict(bytes, coords, out, listed)
-        }
-        Taken::Refused(refusal) => put_refused(out, 0, refusal),
-    }
-}
-
-// Puts the text of a file at the front, and gives its length. The list of a file that reads well is in the coordinate slice then.
+// Puts the text of a file at the front, and gives its length: its settings, its shots and the verdict on its list, or the refusal of its
+// header. The list of a file that reads well is in the coordinate slice then.
 pub fn put_text(bytes: &[u8], coords: &mut [u16], out: &mut [u8]) -> usize
     requires { 524288 ≤ length out.old }
     ensures { TextCall bytes.now coords.old out.old result coords.new out.new }
 {
-    put_file(bytes, coords, out)
+    match take_record(bytes, 0, header_absent()) {
+        Ok(header) => {
+            let set = put_settings(out, 0, bytes[0], header.fields);
+            let start = Cursor {
+                at: header.end,
+                last: first_absent(),
+            };
+            let listed = put_shots(bytes, out, set, start);
+            put_verdict(bytes, coords, out, listed)
+        }
+        Err(refusal) => put_refused(out, 0, refusal),
+    }
 }

@@ -4,30 +4,21 @@
 
 ghost use Rattle.std.specs.Prelude.{◌≡◌, ◌+◌, ◌≤◌, length};
 ghost use Rattle.buffer.specs.Wrote.{Wrote};
-ghost use Rattle.job.specs.Job.{job_of};
+ghost use Rattle.job.specs.Seen.{seen};
 ghost use Rattle.job.specs.Checking.{checked};
 ghost use Rattle.shotfile_verdict.specs.Verdicts.{list_verdict, file_verdict, coords_after};
 
-use refusals::Checked;
+use job::Job;
 use shotfile_lines::put_refused;
-use shotfile_reader::ReadAnswer;
 
 // Puts the line of the refusal that the checks of a list give, or nothing.
-fn put_list_verdict(
-    field: u16,
-    edge: u16,
-    grid: u16,
-    coords: &[u16],
-    out: &mut [u8],
-    at: usize,
-) -> usize
+fn put_list_verdict(job: Job, out: &mut [u8], at: usize) -> usize
     requires { at + 128 ≤ length out.old }
-    ensures { Wrote out.old out.new at result
-        (list_verdict (checked (job_of field edge grid coords.now))) }
+    ensures { Wrote out.old out.new at result (list_verdict (checked (seen job.entry))) }
 {
-    match job::check(field, edge, grid, coords) {
-        Checked::Accepted => at,
-        Checked::Refused(refusal) => put_refused(out, at, refusal),
+    match job.check() {
+        Ok(()) => at,
+        Err(refusal) => put_refused(out, at, refusal),
     }
 }
 
@@ -37,14 +28,8 @@ pub fn put_verdict(bytes: &[u8], coords: &mut [u16], out: &mut [u8], at: usize) 
     ensures wrote { Wrote out.old out.new at result (file_verdict bytes.now coords.old) }
     ensures coordinates { coords.new ≡ coords_after bytes.now coords.old }
 {
-    let read = shotfile_reader::read(bytes, coords);
-    match read {
-        ReadAnswer::Read {
-            field,
-            edge,
-            grid,
-            shots,
-        } => put_list_verdict(field, edge, grid, job::shot::first(coords, shots), out, at),
-        ReadAnswer::Refused(_) => at,
+    match shotfile_reader::read(bytes, coords) {
+        Ok(stored) => put_list_verdict(stored.job(coords), out, at),
+        Err(_) => at,
     }
 }

@@ -5,12 +5,11 @@ use Prim.Native.Nat.{ℕ, ◌≤◌}
 use native.Mathlib.Omega.{arith}
 use lib.ListN.{length}
 use Rattle.buffer.specs.Wrote.{in_front}
-use Rattle.refusals.specs.declared.Checked.{Checked}
-use Rattle.refusals.specs.declared.Checked.TheVariants.{Accepted, Refused as Turned}
+use Rattle.refusals.specs.Refusals.{Checked}
+use Rattle.std.specs.Prelude.{Ok, Err}
 use Rattle.job.specs.Job.{Job, Valid}
 use Rattle.refusals.specs.Tests.{first_of, if_accepted}
-use Rattle.shotfile_writer.specs.declared.WriteAnswer.{WriteAnswer}
-use Rattle.shotfile_writer.specs.declared.WriteAnswer.TheVariants.{Written, Refused as Unwritten}
+use Rattle.shotfile_writer.specs.Calls.{WriteAnswer}
 use Rattle.shotfile_writer.specs.Files.{file_of}
 use Rattle.shotfile_writer.specs.Calls.{write_tests, write_answer, write_bytes, WriteCall}
 use Rattle.shotfile_writer.proofs.Writing.{write-decides}
@@ -22,15 +21,15 @@ pub record AcceptedList (job : Job) (before : List ℕ) (n : ℕ) (after : List 
   pub room : length (file_of job) ≤ length before
   pub leaves : after ≡ in_front (file_of job) before
 
-pub accepted-list : {job : Job} {before after : List ℕ} {w : WriteAnswer} → WriteCall job before w after → {n : ℕ} → w ≡ Written n
+pub accepted-list : {job : Job} {before after : List ℕ} {w : WriteAnswer} → WriteCall job before w after → {n : ℕ} → w ≡ Ok n
     → AcceptedList job before n after
 unfolding write_answer write_bytes
 accepted-list {job} {before} {after} c {n} e = go (first_of (write_tests job (length before))) refl (sym c.answer ∙ e)
   where
-    go : (k : Checked) → first_of (write_tests job (length before)) ≡ k → if_accepted k Unwritten (Written (length (file_of job))) ≡ Written n
+    go : (k : Checked) → first_of (write_tests job (length before)) ≡ k → if_accepted k Err (Ok (length (file_of job))) ≡ Ok n
         → AcceptedList job before n after
-    go (Turned r) q e = let z : ◌≡◌ {A = ℕ} 0 1 = cc in absurd (omega arith)
-    go Accepted q e =
+    go (Err r) q e = let z : ◌≡◌ {A = ℕ} 0 1 = cc in absurd (omega arith)
+    go (Ok tt) q e =
         let m : length (file_of job) ≡ n = cc in
         let (v, r) = (write-decides job (length before)).accepted.0 q in
         record {

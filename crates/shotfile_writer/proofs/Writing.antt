@@ -7,7 +7,7 @@ use lib.ListN.{length, drop, length-append}
 use Rattle.lattice.specs.Shots.{Shot}
 use Rattle.refusals.specs.declared.Refusal.{Refusal}
 use Rattle.refusals.specs.declared.Refusal.TheVariants.{ShortFile}
-use Rattle.refusals.specs.declared.Checked.TheVariants.{Accepted, Refused as Turned}
+use Rattle.std.specs.Prelude.{Ok, Err}
 use Rattle.job.specs.Job.{Job, shots, shots_of, shot_count, place_of}
 use Rattle.refusals.specs.Tests.{first_of}
 use Rattle.job.specs.Checking.{tests, checked}
@@ -18,7 +18,6 @@ use Rattle.job.proofs.Conditions.{job-decides, accepted-valid}
 use Rattle.refusals.proofs.Deciding.{decides-more}
 use Rattle.job.proofs.Shots.{shots-count, shots-from, shots-end}
 use Rattle.shotfile_records.specs.declared.Fields.{Fields}
-use Rattle.shotfile_writer.specs.declared.WriteAnswer.TheVariants.{Written, Refused as Unwritten}
 use Rattle.shotfile_writer.specs.Calls.{long_file, write_tests, written_numbers, write_answer, write_values, write_bytes, WriteCall}
 use Rattle.shotfile_writer.specs.Conditions.{WriteAccepts, WriteRefuses}
 use Rattle.shotfile_records.specs.Records.{header_absent, first_absent, record_of}
@@ -101,17 +100,17 @@ module _ {E : ℕ} {coords : List ℕ} {last : Fields} {i total whole : ℕ} (m 
 module _ (job : Job) where
   open job use {coords}
 
-  pub few-shots : Accepted ≡ checked job → shot_count coords ≤ 4096
+  pub few-shots : Ok tt ≡ checked job → shot_count coords ≤ 4096
   few-shots a = ((accepted-valid job).0 (sym a)).few
 
   module _ (room : ℕ) where
-    tests-stopped : {r : Refusal} → Turned r ≡ checked job → Turned r ≡ first_of (write_tests job room)
+    tests-stopped : {r : Refusal} → Err r ≡ checked job → Err r ≡ first_of (write_tests job room)
     unfolding write_tests
     tests-stopped h = sym (first-stopped (long_file job room ∷ []) (tests job) (sym h))
 
-    tests-short : Accepted ≡ checked job → {n : ℕ} → n ≡ length (file_of job) → room < n → Turned (ShortFile n) ≡ first_of (write_tests job room)
+    tests-short : Ok tt ≡ checked job → {n : ℕ} → n ≡ length (file_of job) → room < n → Err (ShortFile n) ≡ first_of (write_tests job room)
     unfolding write_tests
-    tests-short a e l = ap (λ (n : ℕ). Turned (ShortFile n)) e ∙ sym (too_short (tests job) room (length (file_of job)) (ShortFile (length (file_of job))) (sym a) (omega arith))
+    tests-short a e l = ap (λ (n : ℕ). Err (ShortFile n)) e ∙ sym (too_short (tests job) room (length (file_of job)) (ShortFile (length (file_of job))) (sym a) (omega arith))
 
     -- the list is accepted if and only if it is valid and the file fits
     pub write-decides : Decides (write_tests job room) (WriteAccepts job room) (WriteRefuses job room)
@@ -119,22 +118,22 @@ module _ (job : Job) where
     write-decides = decides-more (job-decides job) room (length (file_of job)) (ShortFile (length (file_of job)))
 
 module _ (job : Job) (before : List ℕ) where
-  says-refused : {r : Refusal} → Turned r ≡ first_of (write_tests job (length before)) → WriteCall job before (Unwritten r) before
+  says-refused : {r : Refusal} → Err r ≡ first_of (write_tests job (length before)) → WriteCall job before (Err r) before
   unfolding write_answer written_numbers write_values write_bytes
   says-refused h = record { answer = simp (sym h); numbers = simp (sym h); file = simp (sym h) }
 
-  pub write-refused : {r : Refusal} → Turned r ≡ checked job → WriteCall job before (Unwritten r) before
+  pub write-refused : {r : Refusal} → Err r ≡ checked job → WriteCall job before (Err r) before
   write-refused h = says-refused (tests-stopped job (length before) h)
 
-  pub write-short : Accepted ≡ checked job → {n : ℕ} → n ≡ length (file_of job) → length before < n → WriteCall job before (Unwritten (ShortFile n)) before
+  pub write-short : Ok tt ≡ checked job → {n : ℕ} → n ≡ length (file_of job) → length before < n → WriteCall job before (Err (ShortFile n)) before
   write-short a e l = says-refused (tests-short job (length before) a e l)
 
-  says-written : Accepted ≡ first_of (write_tests job (length before)) → WriteCall job before (Written (length (file_of job))) (in_front (file_of job) before)
+  says-written : Ok tt ≡ first_of (write_tests job (length before)) → WriteCall job before (Ok (length (file_of job))) (in_front (file_of job) before)
   unfolding write_answer written_numbers write_values write_bytes
   says-written h = record { answer = simp (sym h); numbers = simp (sym h); file = simp (sym h) }
 
-  pub write_done : Accepted ≡ checked job → {n : ℕ} → n ≡ length (file_of job) → n ≤ length before → {after : List ℕ} → after ≡ in_front (file_of job) before
-      → WriteCall job before (Written n) after
+  pub write_done : Ok tt ≡ checked job → {n : ℕ} → n ≡ length (file_of job) → n ≤ length before → {after : List ℕ} → after ≡ in_front (file_of job) before
+      → WriteCall job before (Ok n) after
   write_done a e l w =
       rw (e, w)
       (says-written (sym ((write-decides job (length before)).accepted.1 ((accepted-valid job).0 (sym a), omega (arith, e)))))

@@ -1,13 +1,12 @@
 -- What `write` answers, and what it leaves in the byte buffer. docs/SCOPE.md, 'When a job is refused'.
-use Rattle.std.specs.Prelude.{◌≡◌, List, [], ◌∷◌, ◌++◌, ℕ, length}
+use Rattle.std.specs.Prelude.{◌≡◌, List, [], ◌∷◌, ◌++◌, ℕ, length, Result, Ok, Err}
 use Rattle.buffer.specs.Wrote.{in_front}
+use Rattle.refusals.specs.declared.Refusal.{Refusal}
 use Rattle.refusals.specs.declared.Refusal.TheVariants.{ShortFile}
 use Rattle.job.specs.Job.{Job}
 use Rattle.refusals.specs.Refusals.{number_of, detail_of}
 use Rattle.refusals.specs.Tests.{Test, length_test, first_of, if_accepted}
 use Rattle.job.specs.Checking.{tests}
-use Rattle.shotfile_writer.specs.declared.WriteAnswer.{WriteAnswer}
-use Rattle.shotfile_writer.specs.declared.WriteAnswer.TheVariants.{Written, Refused as Unwritten}
 use Rattle.shotfile_writer.specs.Files.{file_of}
 
 -- the file of a list is longer than the byte buffer
@@ -18,14 +17,18 @@ long_file job room = length_test room (length (file_of job)) (ShortFile (length 
 unfoldable pub write_tests : Job → ℕ → List Test
 write_tests job room = tests job ++ long_file job room ∷ []
 
+-- what a writer answers: how many bytes the file has, or the refusal
+abbrev pub WriteAnswer : Type 0
+WriteAnswer = Result ℕ Refusal
+
 -- the file's length, or the refusal
 unfoldable pub write_answer : Job → ℕ → WriteAnswer
-write_answer job room = if_accepted (first_of (write_tests job room)) Unwritten (Written (length (file_of job)))
+write_answer job room = if_accepted (first_of (write_tests job room)) Err (Ok (length (file_of job)))
 
 -- the numbers of an answer: the refusal's number and detail, 0 and 0 where there is none, then the file's length, 0 if refused
 unfoldable pub written_numbers : WriteAnswer → List ℕ
-written_numbers (Written n) = 0 ∷ 0 ∷ n ∷ []
-written_numbers (Unwritten r) = number_of r ∷ detail_of r ∷ 0 ∷ []
+written_numbers (Ok n) = 0 ∷ 0 ∷ n ∷ []
+written_numbers (Err r) = number_of r ∷ detail_of r ∷ 0 ∷ []
 
 -- the same numbers, from what the tests say
 unfoldable pub write_values : Job → ℕ → List ℕ

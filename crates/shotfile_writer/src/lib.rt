@@ -6,93 +6,79 @@
 
 ghost use Rattle.std.specs.Prelude.{◌≡◌, ◌≤◌, ◌<◌, length};
 ghost use Rattle.buffer.specs.Wrote.{in_front};
-ghost use Rattle.job.specs.Job.{job_of, shot_count};
+ghost use Rattle.job.specs.Job.{shot_count};
+ghost use Rattle.job.specs.Seen.{seen};
+ghost use Rattle.shotfile_records.specs.Numbers.{setting_fields};
 ghost use Rattle.shotfile_writer.specs.Files.{coords_at, file_of};
 ghost use Rattle.shotfile_writer.specs.Calls.{WriteCall};
 
-use refusals::{Checked, Refusal};
+use job::Job;
+use refusals::Refusal;
 use shotfile_records::{Fields, first_absent, header_absent, put_record, record_length};
 
-// What `write` answers.
-#[derive(Clone, Copy)]
-pub enum WriteAnswer {
-    // How many bytes the file has.
-    Written { bytes: usize },
-    Refused(Refusal),
+// The settings of a list, as its header has them.
+fn settings_of(job: Job) -> Fields
+    ensures { result ≡ setting_fields (seen job.entry) }
+{
+    Fields {
+        first: job.field,
+        second: job.edge,
+        third: job.grid,
+    }
 }
 
 // The coordinates of a shot.
-fn shot_at(coords: &[u16], i: usize) -> Fields
-    requires { i < shot_count coords.now }
-    ensures { result ≡ coords_at coords.now i }
+fn shot_at(job: Job, i: usize) -> Fields
+    requires { i < shot_count job.coords.now }
+    ensures { result ≡ coords_at job.entry.coords.now i }
 {
     Fields {
-        first: job::shot::x_of(coords, i),
-        second: job::shot::y_of(coords, i),
-        third: job::shot::z_of(coords, i),
+        first: job.x_of(i),
+        second: job.y_of(i),
+        third: job.z_of(i),
     }
 }
 
 // How many bytes the file of a list takes.
-fn file_length(field: u16, edge: u16, grid: u16, coords: &[u16]) -> usize
-    requires { shot_count coords.now ≤ 4096 }
-    ensures { result ≡ length (file_of (job_of field edge grid coords.now)) }
+fn file_length(job: Job) -> usize
+    requires { shot_count job.coords.now ≤ 4096 }
+    ensures { result ≡ length (file_of (seen job.entry)) }
 {
     let absent = header_absent();
-    let settings = Fields {
-        first: field,
-        second: edge,
-        third: grid,
-    };
-    let mut total = record_length(absent, settings);
-    let n = job::shot::count(coords);
+    let mut total = record_length(absent, settings_of(job));
     let mut last = first_absent();
-    let mut i = 0;
-    while i < n {
-        let shot = shot_at(coords, i);
+    for i in 0..job.count() {
+        let shot = shot_at(job, i);
         total += record_length(last, shot);
         last = shot;
-        i += 1;
     }
     total
 }
 
 // Writes the file of a list.
-fn put_file(bytes: &mut [u8], field: u16, edge: u16, grid: u16, coords: &[u16])
-    requires { length (file_of (job_of field edge grid coords.now)) ≤ length bytes.old }
-    ensures { bytes.new ≡ in_front (file_of (job_of field edge grid coords.now)) bytes.old }
+fn put_file(bytes: &mut [u8], job: Job)
+    requires { length (file_of (seen job)) ≤ length bytes.old }
+    ensures { bytes.new ≡ in_front (file_of (seen job.entry)) bytes.old }
 {
     let absent = header_absent();
-    let settings = Fields {
-        first: field,
-        second: edge,
-        third: grid,
-    };
-    let mut at = put_record(bytes, 0, absent, settings);
-    let n = job::shot::count(coords);
+    let mut at = put_record(bytes, 0, absent, settings_of(job));
     let mut last = first_absent();
-    let mut i = 0;
-    while i < n {
-        let shot = shot_at(coords, i);
+    for i in 0..job.count() {
+        let shot = shot_at(job, i);
         at = put_record(bytes, at, last, shot);
         last = shot;
-        i += 1;
     }
 }
 
-// Writes a list as the shortest file that says it, or says why not.
-pub fn write(field: u16, edge: u16, grid: u16, coords: &[u16], bytes: &mut [u8]) -> WriteAnswer
-    ensures { WriteCall (job_of field edge grid coords.now) bytes.old result bytes.new }
+// Writes a list as the shortest file that says it, and gives how many bytes that has, or says why not.
+pub fn write(job: Job, bytes: &mut [u8]) -> Result<usize, Refusal>
+    ensures { WriteCall (seen job.entry) bytes.old result bytes.new }
 {
-    match job::check(field, edge, grid, coords) {
-        Checked::Refused(refusal) => WriteAnswer::Refused(refusal),
-        Checked::Accepted => {
-            let needed = file_length(field, edge, grid, coords);
-            if bytes.len() < needed {
-                return WriteAnswer::Refused(Refusal::ShortFile { bytes: needed });
-            }
-            put_file(bytes, field, edge, grid, coords);
-            WriteAnswer::Written { bytes: needed }
-        }
+    job.check()?;
+    let needed = file_length(job);
+    if bytes.len() < needed {
+        return Err(Refusal::ShortFile { bytes: needed });
     }
+    put_file(bytes, job);
+    Ok(needed)
 }

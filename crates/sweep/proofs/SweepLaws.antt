@@ -2,7 +2,7 @@
 use mathlib.Core.Path.{◌≡◌, refl, sym, ◌∙◌, ap, subst, fun_ext}
 use mathlib.Core.Bool.{false}
 use mathlib.Core.List.{List, []}
-use Prim.Native.Nat.{ℕ, ◌<◌, ◌≤◌}
+use Prim.Native.Nat.{ℕ, ◌≤◌}
 use native.Mathlib.Omega.{arith}
 use lib.ListN.{replicate, length-replicate}
 use Rattle.ground.specs.Numbers.{any_to}
@@ -25,14 +25,8 @@ none_yet : (boxes : List ℕ) (y z : ℕ) → false ≡ touching boxes 0 0 y z
 unfolding touching any_to
 none_yet boxes y z = refl
 
-columns-small : (field : ℕ) → field < 126 → image_size field ≤ 2052
-columns-small field h = omega arith
-
-columns-most : (field : ℕ) → field ≤ 1024 → image_size field ≤ 17442
-columns-most field h = omega arith
-
 -- blank images, before the first plane
-both-blank : (field m : ℕ) (boxes : List ℕ) → field ≤ 1024 → image_size field ≤ m → Both field (touching boxes 0 0) (replicate m 0) (replicate m 0) (replicate 1040 0)
+pub both-blank : (field m : ℕ) (boxes : List ℕ) → field ≤ 1024 → image_size field ≤ m → Both field (touching boxes 0 0) (replicate m 0) (replicate m 0) (replicate 1040 0)
 both-blank field m boxes h k = record {
   lent = record {
     small = h;
@@ -43,12 +37,6 @@ both-blank field m boxes h k = record {
   lower = shows-ext (none_yet boxes) (shows-zeros field m k);
   upper = shows-ext (none_yet boxes) (shows-zeros field m k);
 }
-
-pub small-blank : (field : ℕ) (boxes : List ℕ) → field < 126 → Both field (touching boxes 0 0) (replicate 2052 0) (replicate 2052 0) (replicate 1040 0)
-small-blank field boxes h = both-blank field 2052 boxes (omega arith) (columns-small field h)
-
-pub large-blank : (field : ℕ) (boxes : List ℕ) → field ≤ 1024 → Both field (touching boxes 0 0) (replicate 17442 0) (replicate 17442 0) (replicate 1040 0)
-large-blank field boxes h = both-blank field 17442 boxes h (columns-most field h)
 
 -- ---- the boxes of a list's shots
 pub same-found : (n : ℕ) (s s' : Cells) → ((i j k : ℕ) → s i j k ≡ s' i j k) → (b : List ℕ) {r : CornerSums} {b' : List ℕ} → AllFound n s b r b' → AllFound n s' b r b'

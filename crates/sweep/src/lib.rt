@@ -11,39 +11,27 @@ ghost use Rattle.lattice.specs.Shots.{cells};
 ghost use Rattle.lattice.specs.Listing.{corners};
 ghost use Rattle.lattice_sums.specs.CornerSums.{sums_of};
 ghost use Rattle.lattice_weights.specs.Packed.{Packed};
-ghost use Rattle.job.specs.Job.{job_of, shots_of};
-ghost use Rattle.grid.specs.Grid.{Holds};
+ghost use Rattle.job.specs.Job.{shots};
+ghost use Rattle.job.specs.Seen.{seen};
+ghost use Rattle.sweep_image.specs.Images.{image_size};
 ghost use Rattle.sweep_order.specs.Order.{Given, EndsRow};
 ghost use Rattle.sweep_tally.specs.Found.{state, found};
 ghost use Rattle.sweep_planes.specs.Planes.{AllFound};
 
+use grid::indexed::Indexed;
 use lattice_sums::sums::CornerSums;
 use lattice_weights::pack;
 use sweep_order::count_ends;
 use sweep_planes::planes;
 
-// The planes of a small field, whose images have two columns.
-fn sweep_small(
-    field: u16,
-    boxes: &[u16],
-    count: usize,
-    ends: &[u16],
-    weights: &[i8],
-    buf: &mut [u8],
-) -> CornerSums
-    requires { Given field boxes.now count × EndsRow boxes.now count ends.now × (field ≤ 125) × Packed weights.now }
-    ensures { AllFound field (box_cells boxes.now count) buf.old result buf.new }
-{
-    let mut l = [0u64; 2052];
-    let mut u = [0u64; 2052];
-    let mut names = [0u64; 1040];
-    planes(
-        field, boxes, count, ends, &mut l, &mut u, &mut names, weights, buf,
-    )
-}
+// How many words two columns of an image have, which show a field of at most 125.
+const TWO_COLUMNS: usize = 2 * sweep_image::ROWS;
 
-// The planes of any field.
-fn sweep_large(
+// How many words the columns of the largest field have.
+const ALL_COLUMNS: usize = 17 * sweep_image::ROWS;
+
+// The planes of a field whose images have at most so many words.
+fn sweep_by<const WORDS: usize>(
     field: u16,
     boxes: &[u16],
     count: usize,
@@ -51,11 +39,11 @@ fn sweep_large(
     weights: &[i8],
     buf: &mut [u8],
 ) -> CornerSums
-    requires { Given field boxes.now count × EndsRow boxes.now count ends.now × Packed weights.now }
+    requires { Given field boxes.now count × EndsRow boxes.now count ends.now × (image_size field ≤ WORDS) × (WORDS ≤ 17442) × Packed weights.now }
     ensures { AllFound field (box_cells boxes.now count) buf.old result buf.new }
 {
-    let mut l = [0u64; 17442];
-    let mut u = [0u64; 17442];
+    let mut l = [0u64; WORDS];
+    let mut u = [0u64; WORDS];
     let mut names = [0u64; 1040];
     planes(
         field, boxes, count, ends, &mut l, &mut u, &mut names, weights, buf,
@@ -72,25 +60,18 @@ pub fn sweep_boxes(field: u16, boxes: &[u16], count: usize, buf: &mut [u8]) -> C
     let mut ends = [0u16; 1026];
     count_ends(field, boxes, count, &mut ends);
     if field < 126 {
-        return sweep_small(field, boxes, count, &ends, &weights, buf);
+        sweep_by::<TWO_COLUMNS>(field, boxes, count, &ends, &weights, buf)
+    } else {
+        sweep_by::<ALL_COLUMNS>(field, boxes, count, &ends, &weights, buf)
     }
-    sweep_large(field, boxes, count, &ends, &weights, buf)
 }
 
-// The sums of all corners of a list's solid, and their records as far as the buffer has room; `work` holds the list's index.
-pub fn sweep(
-    field: u16,
-    edge: u16,
-    grid: u16,
-    coords: &[u16],
-    work: &[u32],
-    buf: &mut [u8],
-) -> CornerSums
-    requires { Holds (job_of field edge grid coords.now) work.now }
-    ensures { state result buf.new
-        ≡ found (state (sums_of []) buf.old) (corners field (cells (shots_of edge coords.now))) }
+// The sums of all corners of the solid of a list with its index, and their records as far as the buffer has room.
+pub fn sweep(list: Indexed, buf: &mut [u8]) -> CornerSums
+    ensures { let job = seen list.entry.job in
+        state result buf.new ≡ found (state (sums_of []) buf.old) (corners job.field (cells (shots job))) }
 {
     let mut boxes = [0u16; 24576];
-    let n = sweep_slots::fill_slots(field, edge, grid, coords, work, &mut boxes);
-    sweep_boxes(field, &boxes, n, buf)
+    let n = sweep_slots::fill_slots(list, &mut boxes);
+    sweep_boxes(list.job.field, &boxes, n, buf)
 }

@@ -9,19 +9,6 @@ use lib.ListN.{get_or}
 use Rattle.sweep_words.proofs.BitLaws.{or-none}
 use Rattle.sweep_blanks.specs.Blanks.{Blank}
 
-pub blank_none : (names : List ℕ) (y : ℕ) → Blank names y y
-blank_none names y = record { at = λ i a b. absurd (omega arith) }
-
-pub blank-less : (names : List ℕ) {y i j : ℕ} → i ≤ j → Blank names y j → Blank names y i
-blank-less names h b = record { at = λ k p q. b.at k p (omega arith) }
-
-pub blank-more : (names : List ℕ) {y i j : ℕ} → Blank names y i → Blank names i j → Blank names y j
-blank-more names {y} {i} {j} a b = record { at = λ k p q. go k p q (dec_le i k) }
-  where
-    go : (k : ℕ) → y ≤ k → k < j → Dec (i ≤ k) → (get_or names k 0 ≡ 0) × (get_or names (k + 1) 0 ≡ 0)
-    go k p q (yes h) = b.at k h q
-    go k p q (no h) = a.at k p (omega arith)
-
 -- the entries from one on up to another are 0
 record Zeros (names : List ℕ) (from end : ℕ) : Type 0 where
   pub at : (i : ℕ) → from ≤ i → i < end → get_or names i 0 ≡ 0

@@ -31,6 +31,7 @@ pub fn next_named(names: &[u64], y: usize, end: usize) -> usize
     ensures { Blank names.now y result × (y ≤ result) × (result ≤ end) }
 {
     let mut i = y;
+    // Kept so: a step is eight rows or one, so no range has the rows that are looked at.
     while i < end {
         let n = blank_rows(names, i);
         if n == 0 {

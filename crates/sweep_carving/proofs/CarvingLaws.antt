@@ -12,13 +12,15 @@ use Rattle.ground.specs.Numbers.{any_to}
 use Rattle.ground.proofs.AnyLaws.{any-to-more}
 use Rattle.lattice.specs.Boxes.{box_at}
 use Rattle.sweep_image.specs.Images.{Layer, Shows, Turned, Beside, RectIn, in_rect, painted, wiped}
+use Rattle.sweep_image.specs.Rects.{empty_rect, shared_rect, part_of}
 use Rattle.sweep_image.specs.declared.Rect.{Rect}
+use Rattle.sweep_image.specs.declared.Side.{Side}
 use Rattle.sweep_image.proofs.ImageLaws.{shows-ext}
 use Rattle.sweep_image.proofs.WordLaws.{beside-less}
-use Rattle.sweep_overlaps.specs.Overlaps.{rect_of, shade_of, shade, shade_from, FirstBoxes, empty_rect, meets_rect, meets_at, shared_rect, part_of}
+use Rattle.sweep_overlaps.specs.Overlaps.{rect_of, shade_of, shade, shade_from, FirstBoxes, meets_rect, meets_at}
 use Rattle.sweep_overlaps.proofs.RectLaws.{empty-bare, met, shared-in, shared-fits}
 use Rattle.sweep_overlaps.proofs.ShadeLaws.{from-none, from_more, shade-from, shade-past, missed, first-bare}
-use Rattle.sweep_overlaps.proofs.PartLaws.{parts_to, part_in, part_out, parts_out, parts-rest}
+use Rattle.sweep_overlaps.proofs.PartLaws.{side_at, parts_to, part_in, part_out, parts_out, parts-rest}
 use Rattle.sweep_carving.specs.Carving.{replaced, joined, Carved}
 
 -- ---- an image, and what it shows cell by cell
@@ -131,20 +133,20 @@ module _ (field : ℕ) (boxes : List ℕ) (x from to : ℕ) (r : Rect) where
     unfolding any_to
     parts_none u = record { shows = λ f s shown bare. s; same_size = refl }
 
-    part-past : (side y z : ℕ) → in_rect (part_of r c side) y z ≡ true → ((y z : ℕ) → in_rect r y z ≡ true → shade boxes x from y z ≡ false)
+    part-past : (side : Side) (y z : ℕ) → in_rect (part_of r c side) y z ≡ true → ((y z : ℕ) → in_rect r y z ≡ true → shade boxes x from y z ≡ false)
         → shade boxes x (n + 1) y z ≡ false
     part-past side y z h bare =
         let inside = part_in boxes x r n (first.passes before) c c-is side y z h in
         shade-past boxes x y z from n (bare y z inside) (first-bare boxes x r first y z inside) (part_out boxes x r n (first.passes before) c c-is side y z h)
 
-    pub parts_more : (side : ℕ) (u v w : List ℕ) → Partly field boxes x from to r (parts_to r c side) u v
-        → Carved field boxes x (n + 1) to (part_of r c side) v w → Partly field boxes x from to r (parts_to r c (side + 1)) u w
-    parts_more side u v w p q = record {
+    pub parts_more : (m : ℕ) (u v w : List ℕ) → Partly field boxes x from to r (parts_to r c m) u v
+        → Carved field boxes x (n + 1) to (part_of r c (side_at m)) v w → Partly field boxes x from to r (parts_to r c (m + 1)) u w
+    parts_more m u v w p q = record {
       shows = λ f s shown bare. shows-ext
-          (λ y z. cond-twice (parts_to r c side y z) (in_rect (part_of r c side) y z) (shade boxes x to y z) (f y z) ∙ ap (λ (b : Bool). cond b (shade boxes x to y z) (f y z)) (sym (any-to-more side _)))
+          (λ y z. cond-twice (parts_to r c m y z) (in_rect (part_of r c (side_at m)) y z) (shade boxes x to y z) (f y z) ∙ ap (λ (b : Bool). cond b (shade boxes x to y z) (f y z)) (sym (any-to-more m _)))
           (q.shows _ (p.shows f s shown bare)
-          (λ y z h. cond-true (parts_to r c side y z) h (shown y z h))
-          (λ y z h. part-past side y z h bare));
+          (λ y z h. cond-true (parts_to r c m y z) h (shown y z h))
+          (λ y z h. part-past (side_at m) y z h bare));
       same_size = q.same_size ∙ p.same_size;
     }
 

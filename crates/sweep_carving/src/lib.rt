@@ -14,9 +14,9 @@ ghost use Rattle.sweep_names.specs.Names.{Tells, Lent};
 ghost use Rattle.sweep_overlaps.specs.Overlaps.{shade_of, shade_from, FirstBoxes};
 ghost use Rattle.sweep_carving.specs.Carving.{replaced, joined, Carved};
 
-use sweep_image::{Rect, fill_rect};
-use sweep_names::{name, wipe};
-use sweep_overlaps::{common, first_meeting, fuel_left, has_no_cell, meets, part, size};
+use sweep_image::{Fill, Rect, SIDES, fill_rect};
+use sweep_names::{fill_and_name, name};
+use sweep_overlaps::{common, first_meeting, fuel_left, meets};
 
 // Sets what box i has of a rectangle in an image, if it ends past the plane x.
 fn fill_common(field: u16, boxes: &[u16], x: u16, i: usize, r: Rect, u: &mut [u64])
@@ -26,10 +26,9 @@ fn fill_common(field: u16, boxes: &[u16], x: u16, i: usize, r: Rect, u: &mut [u6
     ensures turned { Turned field (joined r (shade_of boxes.now x i)) u.old u.new }
     ensures beside { Beside r u.old u.new }
 {
-    if !meets(boxes, i, x, r) {
-        return;
+    if meets(boxes, i, x, r) {
+        fill_rect(field, Fill::Set, common(boxes, i, r), u);
     }
-    fill_rect(field, true, common(boxes, i, r), u);
 }
 
 // Shows a rectangle anew, box by box: clears it, and sets what each box that ends past the plane x has of it, from number `from` on and
@@ -52,7 +51,7 @@ pub fn again(
     ensures turned { Turned field (replaced r (shade_from boxes.now x from to)) u.old u.new }
     ensures tells { Tells field l.now u.new names.new }
 {
-    fill_rect(field, false, r, u);
+    fill_rect(field, Fill::Clear, r, u);
     for i in from..to {
         fill_common(field, boxes, x, i, r, u);
     }
@@ -83,7 +82,7 @@ fn carve(
     ensures carved { Carved field boxes.now x from to r u.old u.new }
     ensures tells { Tells field l.now u.new names.new }
 {
-    if has_no_cell(r) {
+    if r.is_empty() {
         return fuel;
     }
     if fuel == 0 {
@@ -93,19 +92,18 @@ fn carve(
     let place = first_meeting(boxes, x, from, to, r);
     let mut left = fuel_left(fuel, from, place);
     if place == to {
-        wipe(field, r, l, u, names);
+        fill_and_name(field, Fill::Clear, r, l, u, names);
         return left;
     }
     let core = common(boxes, place, r);
-    let next = place + 1;
-    for side in 0..4 {
+    for side in SIDES {
         left = carve(
             field,
             boxes,
             x,
-            next,
+            place + 1,
             to,
-            part(r, core, side),
+            r.part(core, side),
             l,
             u,
             names,
@@ -119,7 +117,7 @@ fn carve(
 fn fuel_to_carve(r: Rect) -> usize
     requires { (r.high ≤ 1024) × (r.to ≤ 1024) }
 {
-    size(r) / 8 + 64
+    r.size() / 8 + 64
 }
 
 // Shows a rectangle anew where the image shows all boxes before number `to`, and none before number `from` has a cell of the rectangle.

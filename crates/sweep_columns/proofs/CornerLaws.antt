@@ -76,7 +76,7 @@ module _ (x y k l₀ l₁ u₀ u₁ all : ℕ) (w : (b : ℕ) → bit_at all b �
   is-corner : corner (pattern_of l₀ l₁ u₀ u₁ j) ≡ true
   is-corner = (named-corner x y k l₀ l₁ u₀ u₁ all w j (next-set named d l)).1
 
-  pub point-in : j < 63
+  point-in : j < 63
   point-in = next-in named d l
 
   module _ (i : Inside k l₀ l₁ u₀ u₁) where

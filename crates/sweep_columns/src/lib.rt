@@ -34,6 +34,7 @@ fn points(
 {
     let mut s = t;
     let mut m = sweep_words::corner_places(l0, l1, u0, u1);
+    // Kept so: set bits are taken off a word, and no index is counted; an iterator over them would be a type and its laws for this loop.
     while m != 0 {
         let b = sweep_words::lowest(m);
         let p = sweep_words::pattern(l0, l1, u0, u1, b);
@@ -60,7 +61,7 @@ pub fn column(
     ensures { state result buf.new ≡ found (state t buf.old) (column_at x y l.now u.now k) }
 {
     let i = k * sweep_image::ROWS;
-    let j = y as usize;
+    let j = usize::from(y);
     let l0 = l[i + j];
     let l1 = l[i + (j + 1)];
     let u0 = u[i + j];

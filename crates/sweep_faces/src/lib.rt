@@ -12,21 +12,7 @@ ghost use Rattle.sweep_names.specs.Names.{Tells, Lent};
 ghost use Rattle.sweep_overlaps.specs.Overlaps.{rect_of, shade};
 ghost use Rattle.sweep_faces.specs.Layers.{About, touching, released, Becomes};
 
-use sweep_image::Rect;
-
-// The rectangle of a box.
-pub fn rect(boxes: &[u16], i: usize) -> Rect
-    requires { 6 * i + 6 ≤ length boxes.now }
-    ensures { result ≡ rect_of (box_at boxes.now i) }
-{
-    let at = 6 * i;
-    Rect {
-        low: boxes[at + 2],
-        high: boxes[at + 3],
-        from: boxes[at + 4],
-        to: boxes[at + 5],
-    }
-}
+pub use sweep_overlaps::rect;
 
 // Takes the face of box q away, if the box ends on the plane.
 fn release_face(

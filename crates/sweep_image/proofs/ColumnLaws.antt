@@ -11,6 +11,8 @@ use Rattle.sweep_words.specs.Words.{bit_at}
 use Rattle.sweep_words.proofs.BitLaws.{bit-and, bit-or, bit_not}
 use Rattle.sweep_image.specs.Images.{word_at, Beside, after, in_rect, filling, rows}
 use Rattle.sweep_image.specs.Changes.{Changed, masked, ColumnFilled}
+use Rattle.sweep_image.specs.declared.Fill.{Fill}
+use Rattle.sweep_image.specs.declared.Fill.TheVariants.{Set, Clear}
 use Rattle.sweep_image.specs.declared.Rect.{Rect}
 use Rattle.sweep_image.proofs.WordLaws.{not-word}
 
@@ -38,15 +40,15 @@ module _ (r : Rect) (y z : ℕ) where
       ∙ ap (λ (t : Bool). after r.low r.high y && t) (and-false (ltb r.from z)) ∙ and-false (after r.low r.high y)
 
 -- a cell elsewhere stays as it is
-pub filling-kept : (fill s : Bool) {t : Bool} → t ≡ false → s ≡ filling fill s t
-filling-kept true s e = sym (ap (λ (t : Bool). s || t) e ∙ or-false s)
-filling-kept false s e = sym (ap (λ (t : Bool). s && not t) e ∙ and-true s)
+pub filling-kept : (fill : Fill) (s : Bool) {t : Bool} → t ≡ false → s ≡ filling fill s t
+filling-kept Set s e = sym (ap (λ (t : Bool). s || t) e ∙ or-false s)
+filling-kept Clear s e = sym (ap (λ (t : Bool). s && not t) e ∙ and-true s)
 
 -- ---- the mask of a column
 module _ (k a b v : ℕ) (fits : v < 2 ^ 64) (mask : (i : ℕ) → i < 64 → bit_at v i ≡ after a b (63 * k + i)) where
-  pub mask-bits : (fill : Bool) (w i : ℕ) → i < 64 → bit_at (masked fill v w) i ≡ filling fill (bit_at w i) (after a b (63 * k + i))
-  mask-bits true w i h = bit-or w v i ∙ ap (λ (t : Bool). bit_at w i || t) (mask i h)
-  mask-bits false w i h =
+  pub mask-bits : (fill : Fill) (w i : ℕ) → i < 64 → bit_at (masked fill v w) i ≡ filling fill (bit_at w i) (after a b (63 * k + i))
+  mask-bits Set w i h = bit-or w v i ∙ ap (λ (t : Bool). bit_at w i || t) (mask i h)
+  mask-bits Clear w i h =
       bit-and w ((2 ^ 64 - 1) - v) i ∙ ap (λ (t : Bool). bit_at w i && t) (bit_not v i fits h ∙ ap not (mask i h))
 
 -- ---- a column filled or emptied
@@ -80,7 +82,7 @@ module _ {g : ℕ → ℕ → ℕ} (r : Rect) (k : ℕ) {u u' : List ℕ} (small
           let same : j ≡ k = omega arith in
           absurd (not-here (same, omega arith, omega arith))
 
-  pub column-filled : (fill : Bool)
+  pub column-filled : (fill : Fill)
       → ((i w b : ℕ) → b < 64 → bit_at (g i w) b ≡ filling fill (bit_at w b) (after r.from r.to (63 * k + b)))
       → ColumnFilled fill r k u u'
   column-filled fill bits = record {

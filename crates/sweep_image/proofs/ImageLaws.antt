@@ -12,18 +12,19 @@ use Rattle.sweep_words.specs.Words.{bit_at}
 use Rattle.sweep_words.proofs.BitLaws.{bit-zero}
 use Rattle.sweep_image.specs.Images.{Layer, word_at, Shows, in_rect, Turned, filling, filled, rows, image_size}
 use Rattle.sweep_image.specs.Changes.{ColumnFilled}
+use Rattle.sweep_image.specs.declared.Fill.{Fill}
 use Rattle.sweep_image.specs.declared.Rect.{Rect}
 use Rattle.sweep_image.proofs.ColumnLaws.{left-of, right_of, filling-kept}
 
 -- ---- column by column
 -- the columns before j are filled or emptied
-pub record FilledTo (fill : Bool) (r : Rect) (j : ℕ) (u u' : List ℕ) : Type 0 where
+pub record FilledTo (fill : Fill) (r : Rect) (j : ℕ) (u u' : List ℕ) : Type 0 where
   pub same_size : length u' ≡ length u
   pub done : (k y b : ℕ) → k < j → y < rows → b < 64
       → bit_at (word_at u' k y) b ≡ filling fill (bit_at (word_at u k y) b) (in_rect r y (63 * k + b))
   pub rest : (k y : ℕ) → j ≤ k → y < rows → word_at u' k y ≡ word_at u k y
 
-module _ (fill : Bool) where
+module _ (fill : Fill) where
   -- where no cell of a column lies in the rectangle, the column stays as it is
   pub filled_none : (r : Rect) (u : List ℕ) → FilledTo fill r (r.from / 63) u u
   filled_none r u = record {

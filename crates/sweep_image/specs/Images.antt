@@ -1,7 +1,9 @@
 -- Bit images of a layer of cells about a plane. A cell is numbered by the points where it ends on y and z; word k * rows + y of an image has
 -- the cells of row y from place 63k to place 63k + 63.
-use Rattle.std.specs.Prelude.{◌≡◌, Bool, true, false, not, ◌&&◌, ◌||◌, List, ℕ, ◌+◌, ◌*◌, ◌/◌, ◌≤◌, ◌<◌, leb, ltb, length, get_or}
+use Rattle.std.specs.Prelude.{◌≡◌, Bool, false, not, ◌&&◌, ◌||◌, List, ℕ, ◌+◌, ◌*◌, ◌/◌, ◌≤◌, ◌<◌, leb, ltb, length, get_or}
 use Rattle.sweep_words.specs.Words.{bit_at}
+use Rattle.sweep_image.specs.declared.Fill.{Fill}
+use Rattle.sweep_image.specs.declared.Fill.TheVariants.{Set, Clear}
 use Rattle.sweep_image.specs.declared.Rect.{Rect}
 
 -- a layer: whether the cell that ends at (y, z) is covered
@@ -62,12 +64,12 @@ pub record Turned (n : ℕ) (change : Layer → Layer) (u u' : List ℕ) : Type 
   pub same_size : length u' ≡ length u
 
 -- whether a cell is covered once a rectangle is filled, or emptied: s says whether it was, t whether it lies in the rectangle
-abbrev pub filling : Bool → Bool → Bool → Bool
-filling true s t = s || t
-filling false s t = s && not t
+abbrev pub filling : Fill → Bool → Bool → Bool
+filling Set s t = s || t
+filling Clear s t = s && not t
 
 -- a layer with a rectangle filled or emptied
-abbrev pub filled : Bool → Rect → Layer → Layer
+abbrev pub filled : Fill → Rect → Layer → Layer
 filled fill r f y z = filling fill (f y z) (in_rect r y z)
 
 -- a layer with the cells of a rectangle

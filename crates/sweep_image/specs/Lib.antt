@@ -1,2 +1,3 @@
 pub mod Images
 pub mod Changes
+pub mod Rects

@@ -12,7 +12,6 @@ ghost use Rattle.sweep_faces.specs.Layers.{About, touching, Becomes};
 
 use sweep_faces::{paint_faces, rect, release};
 use sweep_image::Rect;
-use sweep_overlaps::{product, size};
 
 // Shows all boxes anew that reach past the plane.
 fn renew_all(
@@ -63,7 +62,8 @@ fn renew_faces(
 fn pays(field: u16, r: Rect, boxes: usize, ended: usize) -> bool
     requires { (field ≤ 1024) × (r.high ≤ 1024) × (r.to ≤ 1024) × (1 ≤ boxes) × (ended ≤ 4096) }
 {
-    size(r) / 126 + 8 + product(field, field) / 63 / boxes < 4 * ended
+    let side = usize::from(field);
+    r.size() / 126 + 8 + side * side / 63 / boxes < 4 * ended
 }
 
 // From the layer below the plane to the layer above it, where about `ends` boxes end on the plane.
@@ -86,7 +86,7 @@ pub fn renew(
 {
     if pays(field, rect(boxes, 0), n - from + 1, ends) {
         renew_all(field, boxes, x, from, old, n, l, u, names);
-        return;
+    } else {
+        renew_faces(field, boxes, x, from, old, n, l, u, names);
     }
-    renew_faces(field, boxes, x, from, old, n, l, u, names);
 }

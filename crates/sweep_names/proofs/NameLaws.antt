@@ -4,7 +4,7 @@ use mathlib.Core.Path.{◌≡◌, refl, sym, ◌∙◌, ap}
 use mathlib.Core.Bool.{Bool, true, false, cond, ◌||◌, or-false, or-true, false≢true}
 use mathlib.Core.List.{List}
 use mathlib.Core.Logic.{⊎_elim}
-use Prim.Native.Nat.{ℕ, ◌+◌, ◌*◌, ◌/◌, ◌^◌, ◌≤◌, ◌<◌}
+use Prim.Native.Nat.{ℕ, ◌+◌, ◌*◌, ◌^◌, ◌≤◌, ◌<◌}
 use native.Mathlib.Omega.{arith}
 use lib.Bits.{bit_or}
 use lib.Dec.{eqb, ltb, leb}
@@ -102,15 +102,6 @@ tells-beside t b = record {
   few = t.few;
 }
 
--- past the last column there are no words of the rectangle left
-pub tells_all : {n : ℕ} (r : Rect) {l u names : List ℕ} → TellsBut n (words_from r (r.to / 63 + 1)) l u names → Tells n l u names
-tells_all r t = record {
-  size = t.size;
-  same = λ k y h m e. t.same k y h m (word-not r (r.to / 63 + 1) k y λ w. omega (arith, w.from, w.to)) e;
-  past = t.past;
-  few = t.few;
-}
-
 -- two images that are the same, and blank names
 tells-blank : (n : ℕ) (l names : List ℕ) → length names ≡ name_rows → ((y : ℕ) → get_or names y 0 ≡ 0) → Tells n l l names
 tells-blank n l names h z = record {
@@ -128,16 +119,7 @@ tells-zeros n l = tells-blank n l (replicate name_rows 0) (length-replicate {A =
 pub lent_still : {n : ℕ} {l u names u' names' : List ℕ} → Lent n l u names → length u' ≡ length u → Tells n l u' names' → Lent n l u' names'
 lent_still h e t = record { small = h.small; lower = h.lower; upper = omega (arith, e, h.upper); tells = t }
 
--- and where the lower one does
-pub lent_below : {n : ℕ} {l u names l' names' : List ℕ} → Lent n l u names → length l' ≡ length l → Tells n l' u names' → Lent n l' u names'
-lent_below h e t = record { small = h.small; lower = omega (arith, e, h.lower); upper = h.upper; tells = t }
-
 -- but for the words of a rectangle that is changed in the upper image
 pub lent-beside : {n : ℕ} {r : Rect} {l u v names : List ℕ} → Lent n l u names → length v ≡ length u → Beside r u v
     → LentBut n (in_words r) l v names
 lent-beside h e b = record { small = h.small; lower = h.lower; upper = omega (arith, e, h.upper); tells = tells-beside h.tells b }
-
--- column after column of it is named
-pub lent-more : {n : ℕ} {but but' : ℕ → ℕ → Bool} {l u names names' : List ℕ} → LentBut n but l u names → TellsBut n but' l u names'
-    → LentBut n but' l u names'
-lent-more h t = record { small = h.small; lower = h.lower; upper = h.upper; tells = t }

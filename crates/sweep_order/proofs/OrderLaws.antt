@@ -1,16 +1,59 @@
--- The ends of boxes counted.
-use mathlib.Core.Path.{◌≡◌, refl, sym, ◌∙◌, subst}
+-- What a search along a range finds, and the ends of boxes counted.
+use mathlib.Core.Path.{◌≡◌, refl, sym, ◌∙◌, ap, subst}
 use mathlib.Core.Logic.{◌≢◌}
 use mathlib.Core.Bool.{Bool, true, false}
-use mathlib.Core.List.{List}
-use Prim.Native.Nat.{ℕ, ◌+◌, ◌<◌, ◌≤◌}
+use mathlib.Core.List.{List, ◌++◌}
+use Prim.Native.Nat.{ℕ, ◌+◌, ◌-◌, ◌*◌, ◌<◌, ◌≤◌}
 use native.Mathlib.Omega.{arith}
 use lib.Dec.{eqb}
-use lib.ListN.{length, get_or, set, length-set}
+use lib.ListN.{length, get_or, set, take, drop, length-set, length-append, length-drop, get_or-append}
 use lib.Seq.{get_or-set_same, get_or-set_other}
+use Rattle.std.proofs.lemmas.List.{drop-drop, get_or-drop, get_or-take, length-take-le}
+use lib.Seq.{drop-append_seam}
 use borrow.Author.Tests.{eqb-true, eqb-false}
+use Rattle.std.proofs.Common.{Option, None, Some}
+use Rattle.std.specs.Option.{MatchOption, unwrap_or}
+use Rattle.ground.specs.FirstPlace.{FirstPlace}
 use Rattle.lattice.specs.Boxes.{box_at}
 use Rattle.sweep_order.specs.Order.{Given, EndsRow}
+
+-- ---- the first place that passes
+-- what `find` gives along a range, or else its end
+pub place_found : (f : ℕ → Bool) (from to : ℕ) (r : Option ℕ) → from ≤ to
+    → MatchOption r ((k : ℕ) → from ≤ k → k < to → f k ≡ false) (λ i. (from ≤ i) × (i < to) × (f i ≡ true) × ((k : ℕ) → from ≤ k → k < i → f k ≡ false))
+    → FirstPlace f from to (unwrap_or r to)
+place_found f from to None h m = record { onward = h; within = omega arith; earlier = m; passes = λ l. absurd (omega arith) }
+place_found f from to (Some i) h m = record { onward = m.0; within = omega (arith, m.1); earlier = m.3; passes = λ l. m.2 }
+
+-- ---- box after box
+-- the numbers of the boxes from number i on
+abbrev pub sixes_from : List ℕ → ℕ → ℕ → List ℕ
+sixes_from boxes count i = drop (6 * i) (take (6 * count) boxes)
+
+module _ (boxes : List ℕ) (count : ℕ) (there : 6 * count ≤ length boxes) (i : ℕ) where
+  sixes-length : length (sixes_from boxes count i) ≡ 6 * count - 6 * i
+  sixes-length = omega (arith, length-drop (6 * i) (take (6 * count) boxes), length-take-le (6 * count) boxes there)
+
+  -- the next one
+  module _ (a b : List ℕ) (e : sixes_from boxes count i ≡ a ++ b) (six : length a ≡ 6) where
+    pub six-in : i < count
+    six-in = omega (arith, sixes-length, ap length e, length-append a b)
+
+    pub six_end : get_or a 1 0 ≡ (box_at boxes i).x_end
+    six_end =
+        sym (get_or-append a b 0 1 (omega arith))
+        ∙ ap (λ l. get_or l 1 0) (sym e)
+        ∙ get_or-drop (6 * i) (take (6 * count) boxes) 1 0
+        ∙ get_or-take (6 * count) boxes (6 * i + 1) 0 (omega (arith, six-in))
+
+    pub six-rest : b ≡ sixes_from boxes count (i + 1)
+    six-rest =
+        let k : 6 * i + 6 ≡ 6 * (i + 1) = omega arith in
+        sym (drop-append_seam a b)
+        ∙ ap (λ n. drop n (a ++ b)) six
+        ∙ ap (drop 6) (sym e)
+        ∙ drop-drop 6 (6 * i) (take (6 * count) boxes)
+        ∙ ap (λ n. drop n (take (6 * count) boxes)) k
 
 -- ---- the ends counted
 module _ (field : ℕ) (boxes : List ℕ) (count : ℕ) (g : Given field boxes count) where

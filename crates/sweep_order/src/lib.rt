@@ -14,16 +14,7 @@ pub fn first_past(boxes: &[u16], count: usize, old: usize, x: u16) -> usize
     requires { (6 * count ≤ length boxes.now) × (old ≤ count) × (count ≤ 4096) }
     ensures { FirstPlace (begins_past boxes.now x) old count result }
 {
-    let mut i = old;
-    loop {
-        if i == count {
-            break i;
-        }
-        if x < boxes[6 * i] {
-            break i;
-        }
-        i += 1;
-    }
+    (old..count).find(|i| x < boxes[6 * *i]).unwrap_or(count)
 }
 
 // Passes over the boxes from `from` on that end before the plane x, up to the first that does not, or to `old`.
@@ -31,16 +22,7 @@ pub fn pass(boxes: &[u16], from: usize, old: usize, x: u16) -> usize
     requires { (6 * old ≤ length boxes.now) × (from ≤ old) × (old ≤ 4096) }
     ensures { FirstPlace (lasts_to boxes.now x) from old result }
 {
-    let mut i = from;
-    loop {
-        if i == old {
-            break i;
-        }
-        if x <= boxes[6 * i + 1] {
-            break i;
-        }
-        i += 1;
-    }
+    (from..old).find(|i| x <= boxes[6 * *i + 1]).unwrap_or(old)
 }
 
 // One more at a place of a row.
@@ -48,8 +30,7 @@ fn count_one(row: &mut [u16], place: u16)
     requires { (place < length row.old) × (get_or row.old place 0 ≤ 4096) }
     ensures { row.new ≡ set row.old place (get_or row.old place 0 + 1) }
 {
-    let at = place as usize;
-    row[at] = row[at] + 1;
+    row[usize::from(place)] += 1;
 }
 
 // Counts the boxes by the plane on which they end.
@@ -57,7 +38,7 @@ pub fn count_ends(field: u16, boxes: &[u16], count: usize, row: &mut [u16])
     requires { Given field boxes.now count × EndsRow boxes.now 0 row.old }
     ensures { EndsRow boxes.now count row.new }
 {
-    for i in 0..count {
-        count_one(row, boxes[6 * i + 1]);
+    for ends in boxes[..6 * count].chunks_exact(6) {
+        count_one(row, ends[1]);
     }
 }

@@ -88,8 +88,3 @@ four-tests t r h k v w v-is w-is =
       not-reached t.z r.to (omega (arith, k.z_in)),
       passed t.z_end r.from (omega (arith, k.z_order, k.z_in)),
     )
-
--- the sum stays in 64 bits
-pub four-fits : (t : Box) (r : Rect) → BoxIn 1024 t → (v w : ℕ) → v ≡ four_of t.y t.y_end t.z t.z_end
-    → w ≡ four_of (32768 - r.high) (32767 - r.low) (32768 - r.to) (32767 - r.from) → v + w < 2 ^ 64
-four-fits t r h v w v-is w-is = omega (arith, v-is, w-is, h.y_order, h.y_in, h.z_order, h.z_in)

@@ -1,16 +1,18 @@
 -- The cells of a rectangle, as numbers between bounds: those that it shares with another, and the four parts around these.
 use mathlib.Core.Path.{◌≡◌, refl, sym, ◌∙◌}
 use mathlib.Core.Bool.{Bool, true, false, ◌&&◌, true≢false}
-use Prim.Native.Nat.{ℕ, zero, suc, ◌-◌, ◌≤◌, ◌<◌, min, max}
-use native.Mathlib.Nat.{zero-mul, mul-zero}
+use Prim.Native.Nat.{ℕ, ◌≤◌, ◌<◌, min, max}
 use native.Mathlib.Omega.{arith}
 use lib.Dec.{leb, ltb}
 use borrow.Author.Tests.{le-leb, lt-leb, lt-ltb, leb-true, leb-false, ltb-true, ltb-false}
 use Rattle.ground.proofs.Bools.{and-true, or-false, not_so}
 use Rattle.lattice.specs.Boxes.{Box, BoxIn}
 use Rattle.sweep_image.specs.Images.{RectIn, after, in_rect}
+use Rattle.sweep_image.specs.Rects.{empty_rect, shared_rect, part_of}
 use Rattle.sweep_image.specs.declared.Rect.{Rect}
-use Rattle.sweep_overlaps.specs.Overlaps.{rect_of, empty_rect, size_of, overlaps_rect, meets_rect, shared_rect, part_of}
+use Rattle.sweep_image.specs.declared.Side.{Side}
+use Rattle.sweep_image.specs.declared.Side.TheVariants.{Below, Above, Before, After}
+use Rattle.sweep_overlaps.specs.Overlaps.{rect_of, overlaps_rect, meets_rect}
 
 -- ---- a cell of a rectangle
 
@@ -42,23 +44,6 @@ has-not r y z h = not_so (in_rect r y z) λ e. h (in-has r y z e)
 -- ---- a rectangle without cells
 
 module _ (r : Rect) where
-  pub empty-y : r.high ≤ r.low → true ≡ empty_rect r
-  empty-y h = rw (le-leb r.high r.low h)
-
-  pub empty-by-z : r.low < r.high → leb r.to r.from ≡ empty_rect r
-  empty-by-z h = rw (lt-leb r.high r.low h)
-
-  -- it has 0 of them, where it ends on an axis before it begins
-  pub size-none-y : r.high < r.low → 0 ≡ size_of r
-  size-none-y h =
-      let e : r.high - r.low ≡ 0 = omega arith in
-      rw e (sym (zero-mul (r.to - r.from)))
-
-  pub size-none-z : r.to < r.from → 0 ≡ size_of r
-  size-none-z h =
-      let e : r.to - r.from ≡ 0 = omega arith in
-      rw e (sym (mul-zero (r.high - r.low)))
-
   pub empty-bare : empty_rect r ≡ true → (y z : ℕ) → in_rect r y z ≡ false
   empty-bare e y z = has-not r y z λ h. true≢false (sym e ∙ rw (lt-leb r.high r.low (omega (arith, h.low, h.high)), lt-leb r.to r.from (omega (arith, h.from, h.to))))
 
@@ -69,15 +54,6 @@ module _ (r : Rect) where
       record { y_order = leb-false r.high r.low yz.0; y_in = y_in; z_order = leb-false r.to r.from yz.1; z_in = z_in }
 
 -- ---- a box that meets a rectangle
-
-module _ (t : Box) (x : ℕ) (r : Rect) where
-  pub meet-by-x : overlaps_rect t r ≡ true → ltb x t.x_end ≡ meets_rect t x r
-  unfolding meets_rect
-  meet-by-x h = rw h
-
-  pub meet-not : overlaps_rect t r ≡ false → false ≡ meets_rect t x r
-  unfolding meets_rect
-  meet-not h = rw h
 
 -- what they say of numbers
 pub record Meets (t : Box) (x : ℕ) (r : Rect) : Type 0 where
@@ -159,90 +135,82 @@ shared-fits n r t x h k m =
 
 -- ---- the four parts around them
 
--- all that is none of the first three is the last
-pub part-last : (r c : Rect) (side : ℕ) → ((Unit {0} × (side ≡ 0 → ⊥)) × (side ≡ 1 → ⊥)) × (side ≡ 2 → ⊥)
-    → record { low = c.low; high = c.high; from = c.to; to = r.to } ≡ part_of r c side
-part-last r c zero h = absurd (h.0.0.1 refl)
-part-last r c (suc zero) h = absurd (h.0.1 refl)
-part-last r c (suc (suc zero)) h = absurd (h.1 refl)
-part-last r c (suc (suc (suc n))) h = refl
-
 module _ (r : Rect) (t : Box) (x : ℕ) (m : Meets t x r) where
   abbrev core : Rect
   core = shared_rect r (rect_of t)
 
   -- they stay in a field, as the rectangle does
-  pub part-fits : (n : ℕ) → RectIn n r → (side : ℕ) → ((part_of r core side).high ≤ n) × ((part_of r core side).to ≤ n)
-  part-fits n h zero = (omega (arith, h.y_order, h.y_in, m.y-low), h.z_in)
-  part-fits n h (suc zero) = (h.y_in, h.z_in)
-  part-fits n h (suc (suc zero)) = (omega (arith, h.y_in), omega (arith, h.z_order, h.z_in, m.z-low))
-  part-fits n h (suc (suc (suc side))) = (omega (arith, h.y_in), h.z_in)
+  pub part-fits : (n : ℕ) → RectIn n r → (side : Side) → ((part_of r core side).high ≤ n) × ((part_of r core side).to ≤ n)
+  part-fits n h Below = (omega (arith, h.y_order, h.y_in, m.y-low), h.z_in)
+  part-fits n h Above = (h.y_in, h.z_in)
+  part-fits n h Before = (omega (arith, h.y_in), omega (arith, h.z_order, h.z_in, m.z-low))
+  part-fits n h After = (omega (arith, h.y_in), h.z_in)
 
   module _ (y z : ℕ) where
     -- their cells are cells of the rectangle, and not of the box
-    pub part-has : (side : ℕ) → Has (part_of r core side) y z → Has r y z
-    part-has zero h =
+    pub part-has : (side : Side) → Has (part_of r core side) y z → Has r y z
+    part-has Below h =
         let high : y ≤ max r.low t.y = h.high in
         let low : r.low < y = h.low in
         record { low = low; high = omega (arith, high, low, m.y-low); from = h.from; to = h.to }
-    part-has (suc zero) h =
+    part-has Above h =
         let low : min r.high t.y_end < y = h.low in
         let high : y ≤ r.high = h.high in
         record { low = omega (arith, low, high, m.y-high); high = high; from = h.from; to = h.to }
-    part-has (suc (suc zero)) h =
+    part-has Before h =
         let low : max r.low t.y < y = h.low in
         let high : y ≤ min r.high t.y_end = h.high in
         let from : r.from < z = h.from in
         let to : z ≤ max r.from t.z = h.to in
         record { low = omega (arith, low); high = omega (arith, high); from = from; to = omega (arith, from, to, m.z-low) }
-    part-has (suc (suc (suc side))) h =
+    part-has After h =
         let low : max r.low t.y < y = h.low in
         let high : y ≤ min r.high t.y_end = h.high in
         let from : min r.to t.z_end < z = h.from in
         let to : z ≤ r.to = h.to in
         record { low = omega (arith, low); high = omega (arith, high); from = omega (arith, from, to, m.z-high); to = to }
 
-    pub part-bare : (side : ℕ) → Has (part_of r core side) y z → Has (rect_of t) y z → ⊥
-    part-bare zero h k =
+    pub part-bare : (side : Side) → Has (part_of r core side) y z → Has (rect_of t) y z → ⊥
+    part-bare Below h k =
         let high : y ≤ max r.low t.y = h.high in
         let low : r.low < y = h.low in
         let l : t.y < y = k.low in
         omega (arith, high, low, l)
-    part-bare (suc zero) h k =
+    part-bare Above h k =
         let low : min r.high t.y_end < y = h.low in
         let high : y ≤ r.high = h.high in
         let l : y ≤ t.y_end = k.high in
         omega (arith, high, low, l)
-    part-bare (suc (suc zero)) h k =
+    part-bare Before h k =
         let from : r.from < z = h.from in
         let to : z ≤ max r.from t.z = h.to in
         let l : t.z < z = k.from in
         omega (arith, from, to, l)
-    part-bare (suc (suc (suc side))) h k =
+    part-bare After h k =
         let from : min r.to t.z_end < z = h.from in
         let to : z ≤ r.to = h.to in
         let l : z ≤ t.z_end = k.to in
         omega (arith, from, to, l)
 
     -- and what is in none of the four is in the box
-    pub part-rest : Has r y z → ((side : ℕ) → side < 4 → in_rect (part_of r core side) y z ≡ false) → Has (rect_of t) y z
+    pub part-rest : Has r y z → ((side : Side) → in_rect (part_of r core side) y z ≡ false) → Has (rect_of t) y z
     part-rest h none = on-y (leb y t.y) (ltb t.y_end y) refl refl
       where
-        out : (side : ℕ) → side < 4 → Has (part_of r core side) y z → ⊥
-        out side l k = true≢false (sym (has_in (part_of r core side) y z k) ∙ none side l)
+        out : (side : Side) → Has (part_of r core side) y z → ⊥
+        out side k = true≢false (sym (has_in (part_of r core side) y z k) ∙ none side)
 
         on-z : t.y < y → y ≤ t.y_end → (a b : Bool) → leb z t.z ≡ a → ltb t.z_end z ≡ b → Has (rect_of t) y z
         on-z l l' true b e k =
-            absurd (out 2 (omega arith) (record { low = omega (arith, l, h.low); high = omega (arith, l', h.high); from = h.from; to = omega (arith, leb-true z t.z e) }))
+            absurd (out Before (record { low = omega (arith, l, h.low); high = omega (arith, l', h.high); from = h.from; to = omega (arith, leb-true z t.z e) }))
         on-z l l' false true e k =
-            absurd (out 3 (omega arith) (record { low = omega (arith, l, h.low); high = omega (arith, l', h.high); from = omega (arith, ltb-true t.z_end z k); to = h.to }))
+            absurd (out After (record { low = omega (arith, l, h.low); high = omega (arith, l', h.high); from = omega (arith, ltb-true t.z_end z k); to = h.to }))
         on-z l l' false false e k =
             record { low = l; high = l'; from = leb-false z t.z e; to = ltb-false t.z_end z k }
 
         on-y : (a b : Bool) → leb y t.y ≡ a → ltb t.y_end y ≡ b → Has (rect_of t) y z
         on-y true b e k =
-            absurd (out 0 (omega arith) (record { low = h.low; high = omega (arith, leb-true y t.y e); from = h.from; to = h.to }))
+            absurd (out Below (record { low = h.low; high = omega (arith, leb-true y t.y e); from = h.from; to = h.to }))
         on-y false true e k =
-            absurd (out 1 (omega arith) (record { low = omega (arith, ltb-true t.y_end y k); high = h.high; from = h.from; to = h.to }))
+            absurd (out Above (record { low = omega (arith, ltb-true t.y_end y k); high = h.high; from = h.from; to = h.to }))
         on-y false false e k =
             on-z (leb-false y t.y e) (ltb-false t.y_end y k) (leb z t.z) (ltb t.z_end z) refl refl

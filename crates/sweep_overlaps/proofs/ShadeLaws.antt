@@ -1,18 +1,20 @@
 -- The layer from the boxes: more boxes, the boxes from one on, and the first box or the last that meets a rectangle.
-use mathlib.Core.Path.{◌≡◌, refl, sym, ◌∙◌, subst}
+use mathlib.Core.Path.{◌≡◌, refl, sym, ◌∙◌}
 use mathlib.Core.Bool.{Bool, true, false, ◌&&◌, ◌||◌, true≢false}
 use mathlib.Core.List.{List}
-use Prim.Native.Nat.{ℕ, ◌+◌, ◌-◌, ◌≤◌, ◌<◌}
+use Prim.Native.Nat.{ℕ, ◌+◌, ◌≤◌, ◌<◌}
 use native.Mathlib.Omega.{arith}
 use lib.Dec.{leb, ltb}
-use borrow.Author.Tests.{le-leb, lt-leb, leb-true, leb-false, ltb-true, ltb-false}
+use borrow.Author.Tests.{le-leb, lt-leb, leb-true, leb-false, ltb-true}
+use Rattle.std.specs.Option.{MatchOption, unwrap_or}
+use Rattle.std.proofs.Common.{Option, Some, None}
 use Rattle.ground.specs.FirstPlace.{FirstPlace}
 use Rattle.ground.proofs.Bools.{and-true, not_so}
 use Rattle.ground.proofs.AnyLaws.{any-to-less, any-to-more, any-to-true, any-to-false, any-to-none, any-to-ext}
 use Rattle.lattice.specs.Boxes.{box_at}
 use Rattle.sweep_image.specs.Images.{in_rect}
 use Rattle.sweep_image.specs.declared.Rect.{Rect}
-use Rattle.sweep_overlaps.specs.Overlaps.{rect_of, shade_of, shade, shade_from, meets_rect, meets_at, LastMeeting}
+use Rattle.sweep_overlaps.specs.Overlaps.{rect_of, shade_of, shade, shade_from, meets_rect, meets_at}
 use Rattle.sweep_overlaps.proofs.RectLaws.{in-has, has-meets}
 
 -- ---- the layer at a cell
@@ -71,27 +73,16 @@ first-bare boxes x r {from} {to} {n} first y z h = any-to-none n λ i l. one i l
     one i l true e = missed boxes x r i (first.earlier i (leb-true from i e) l) y z h
     one i l false e = refl
 
+-- what `find` gives along a range of boxes, or else its end
+pub place_found : (f : ℕ → Bool) (from to : ℕ) (r : Option ℕ) → from ≤ to
+    → MatchOption r ((k : ℕ) → from ≤ k → k < to → f k ≡ false)
+    (λ i. (from ≤ i) × (i < to) × (f i ≡ true) × ((k : ℕ) → from ≤ k → k < i → f k ≡ false))
+    → FirstPlace f from to (unwrap_or r to)
+place_found f from to None h m = record { onward = h; within = omega arith; earlier = m; passes = λ l. absurd (omega arith) }
+place_found f from to (Some i) h m = record { onward = m.0; within = omega (arith, m.1); earlier = m.3; passes = λ l. m.2 }
+
 -- ---- the last box that meets it, from `to` down: no box from number n on meets it
 pub record Down (boxes : List ℕ) (x from to : ℕ) (r : Rect) (n : ℕ) : Type 0 where
   pub onward : from ≤ n
   pub within : n ≤ to
   pub later : (i : ℕ) → n ≤ i → i < to → meets_rect (box_at boxes i) x r ≡ false
-
-pub down-none : (boxes : List ℕ) (x from to : ℕ) (r : Rect) → from ≤ to → Down boxes x from to r to
-down-none boxes x from to r h = record { onward = h; within = omega arith; later = λ i l k. absurd (omega (arith, l, k)) }
-
-module _ {boxes : List ℕ} {x from to : ℕ} {r : Rect} {n : ℕ} (d : Down boxes x from to r n) where
-  pub down-next : from < n → {t : Bool} → t ≡ meets_rect (box_at boxes (n - 1)) x r → t ≡ false → Down boxes x from to r (n - 1)
-  down-next h is e = record { onward = omega arith; within = omega (arith, d.within); later = λ i l k. go i l k (ltb i n) refl }
-    where
-      go : (i : ℕ) → n - 1 ≤ i → i < to → (b : Bool) → ltb i n ≡ b → meets_rect (box_at boxes i) x r ≡ false
-      go i l k true m =
-          let same : n - 1 ≡ i = omega (arith, ltb-true i n m) in
-          subst (λ j. meets_rect (box_at boxes j) x r ≡ false) same (sym is ∙ e)
-      go i l k false m = d.later i (ltb-false i n m) k
-
-  pub none-down : n ≡ from → LastMeeting boxes x from to r n
-  none-down e = record { onward = d.onward; within = d.within; found = λ h. absurd (omega (arith, e, h)); later = d.later }
-
-  pub found-down : {t : Bool} → t ≡ meets_rect (box_at boxes (n - 1)) x r → t ≡ true → LastMeeting boxes x from to r n
-  found-down is e = record { onward = d.onward; within = d.within; found = λ h. sym is ∙ e; later = d.later }

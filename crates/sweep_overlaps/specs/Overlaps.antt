@@ -1,6 +1,6 @@
--- Rectangles of the layer above a plane across x, and the boxes that begin on the plane or before it: which cells they have, which of them meet
--- a rectangle, and what is left of it around one of them.
-use Rattle.std.specs.Prelude.{◌≡◌, Bool, true, false, ◌&&◌, ◌||◌, List, ℕ, zero, suc, ◌+◌, ◌*◌, ◌≤◌, ◌<◌, min, max, ◌-◌, leb, ltb, length}
+-- Rectangles of the layer above a plane across x, and the boxes that begin on the plane or before it: which cells they have, and which of them
+-- meet a rectangle.
+use Rattle.std.specs.Prelude.{◌≡◌, Bool, true, false, ◌&&◌, List, ℕ, ◌+◌, ◌*◌, ◌≤◌, ◌<◌, ◌-◌, leb, ltb, length}
 use Rattle.ground.specs.Numbers.{any_to}
 use Rattle.lattice.specs.Boxes.{Box, BoxIn, box_at}
 use Rattle.sweep_image.specs.Images.{Layer, in_rect}
@@ -29,14 +29,6 @@ pub record FirstBoxes (field : ℕ) (boxes : List ℕ) (n : ℕ) : Type 0 where
   pub inside : (i : ℕ) → i < n → BoxIn field (box_at boxes i)
 
 -- ---- a box and a rectangle
--- a rectangle has no cell
-abbrev pub empty_rect : Rect → Bool
-empty_rect r = leb r.high r.low || leb r.to r.from
-
--- how many cells it has
-abbrev pub size_of : Rect → ℕ
-size_of r = (r.high - r.low) * (r.to - r.from)
-
 -- four numbers as one, sixteen bits each
 abbrev pub four_of : ℕ → ℕ → ℕ → ℕ → ℕ
 four_of a b c d = ((d * 65536 + c) * 65536 + b) * 65536 + a
@@ -59,15 +51,3 @@ pub record LastMeeting (boxes : List ℕ) (x from to : ℕ) (r : Rect) (n : ℕ)
   pub within : n ≤ to
   pub found : from < n → meets_rect (box_at boxes (n - 1)) x r ≡ true
   pub later : (i : ℕ) → n ≤ i → i < to → meets_rect (box_at boxes i) x r ≡ false
-
--- the cells that two rectangles share
-abbrev pub shared_rect : Rect → Rect → Rect
-shared_rect r s =
-    record { low = max r.low s.low; high = min r.high s.high; from = max r.from s.from; to = min r.to s.to }
-
--- what is left of r around c: below and above it on y; in its rows, before and after it on z
-abbrev pub part_of : Rect → Rect → ℕ → Rect
-part_of r c zero = record { low = r.low; high = c.low; from = r.from; to = r.to }
-part_of r c (suc zero) = record { low = c.high; high = r.high; from = r.from; to = r.to }
-part_of r c (suc (suc zero)) = record { low = c.low; high = c.high; from = r.from; to = c.from }
-part_of r c (suc (suc (suc n))) = record { low = c.low; high = c.high; from = c.to; to = r.to }

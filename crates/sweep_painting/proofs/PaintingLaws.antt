@@ -9,12 +9,13 @@ use Rattle.ground.specs.Numbers.{any_to}
 use Rattle.ground.proofs.AnyLaws.{any-to-more}
 use Rattle.lattice.specs.Boxes.{box_at}
 use Rattle.sweep_image.specs.Images.{Layer, Turned, in_rect, painted}
+use Rattle.sweep_image.specs.Rects.{empty_rect, shared_rect, part_of}
 use Rattle.sweep_image.specs.declared.Rect.{Rect}
 use Rattle.sweep_image.proofs.ImageLaws.{shows-ext}
-use Rattle.sweep_overlaps.specs.Overlaps.{rect_of, shade, empty_rect, meets_rect, shared_rect, part_of}
+use Rattle.sweep_overlaps.specs.Overlaps.{rect_of, shade, meets_rect}
 use Rattle.sweep_overlaps.proofs.RectLaws.{empty-bare}
 use Rattle.sweep_overlaps.proofs.ShadeLaws.{shade-less}
-use Rattle.sweep_overlaps.proofs.PartLaws.{parts_to, parts_out, parts-rest}
+use Rattle.sweep_overlaps.proofs.PartLaws.{side_at, parts_to, parts_out, parts-rest}
 use Rattle.sweep_painting.specs.Painting.{Painted}
 
 module _ (field : ℕ) (boxes : List ℕ) (x to : ℕ) (r : Rect) where
@@ -36,12 +37,12 @@ module _ (field : ℕ) (boxes : List ℕ) (x to : ℕ) (r : Rect) where
   painted-none c u = record { shows = λ f s shown. shows-ext (λ y z. sym (or-false (f y z))) s; same_size = refl }
 
   module _ (n : ℕ) (before : n < to) (c : Rect) where
-    pub painted-more : (side : ℕ) (u v w : List ℕ) → Painted field boxes x to (parts_to r c side) u v
-        → Painted field boxes x n (in_rect (part_of r c side)) v w → Painted field boxes x to (parts_to r c (side + 1)) u w
-    painted-more side u v w p q = record {
+    pub painted-more : (m : ℕ) (u v w : List ℕ) → Painted field boxes x to (parts_to r c m) u v
+        → Painted field boxes x n (in_rect (part_of r c (side_at m))) v w → Painted field boxes x to (parts_to r c (m + 1)) u w
+    painted-more m u v w p q = record {
       shows = λ f s shown. shows-ext
-          (λ y z. or_assoc (f y z) (parts_to r c side y z) (in_rect (part_of r c side) y z) ∙ ap (λ (b : Bool). f y z || b) (sym (any-to-more side _)))
-          (q.shows _ (p.shows f s shown) (λ y z h. or-true-left (f y z) (parts_to r c side y z) (shown y z (shade-less boxes x y z n to (omega (arith, before)) h))));
+          (λ y z. or_assoc (f y z) (parts_to r c m y z) (in_rect (part_of r c (side_at m)) y z) ∙ ap (λ (b : Bool). f y z || b) (sym (any-to-more m _)))
+          (q.shows _ (p.shows f s shown) (λ y z h. or-true-left (f y z) (parts_to r c m y z) (shown y z (shade-less boxes x y z n to (omega (arith, before)) h))));
       same_size = q.same_size ∙ p.same_size;
     }
 

@@ -14,9 +14,9 @@ ghost use Rattle.sweep_names.specs.Names.{Tells, Lent};
 ghost use Rattle.sweep_overlaps.specs.Overlaps.{FirstBoxes};
 ghost use Rattle.sweep_painting.specs.Painting.{Painted};
 
-use sweep_image::Rect;
-use sweep_names::paint;
-use sweep_overlaps::{common, fuel_left, has_no_cell, last_meeting, part, size};
+use sweep_image::{Fill, Rect, SIDES};
+use sweep_names::fill_and_name;
+use sweep_overlaps::{common, fuel_left, last_meeting};
 
 // Paints a rectangle where the image shows all boxes before number `to`. It calls itself for the parts around what the last box that meets
 // the rectangle has of it, down to number `from`, with the boxes before that one; what that box has is painted already. The fuel bounds how
@@ -41,29 +41,29 @@ fn paint_parts(
     ensures painted { Painted field boxes.now x to (in_rect r) u.old u.new }
     ensures tells { Tells field l.now u.new names.new }
 {
-    if has_no_cell(r) {
+    if r.is_empty() {
         return fuel;
     }
     if fuel == 0 {
-        paint(field, r, l, u, names);
+        fill_and_name(field, Fill::Set, r, l, u, names);
         return 0;
     }
     let end = last_meeting(boxes, x, from, to, r);
     let mut left = fuel_left(fuel, end, to);
     if end == from {
-        paint(field, r, l, u, names);
+        fill_and_name(field, Fill::Set, r, l, u, names);
         return left;
     }
     let last = end - 1;
     let core = common(boxes, last, r);
-    for around in 0..4 {
+    for side in SIDES {
         left = paint_parts(
             field,
             boxes,
             x,
             from,
             last,
-            part(r, core, around),
+            r.part(core, side),
             l,
             u,
             names,
@@ -77,11 +77,8 @@ fn paint_parts(
 fn fuel_to_paint(r: Rect) -> usize
     requires { (r.high ≤ 1024) × (r.to ≤ 1024) }
 {
-    let cells = size(r);
-    if cells < 32768 {
-        return 0;
-    }
-    cells / 128
+    let cells = r.size();
+    if cells < 32768 { 0 } else { cells / 128 }
 }
 
 // Paints a rectangle where the image shows all boxes before number `to`; those from number `from` on are asked what they hide of it.

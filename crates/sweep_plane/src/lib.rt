@@ -67,10 +67,8 @@ pub fn plane(
     ensures plane_out { PlaneOut field boxes.now x n (state t buf.old) (state result buf.new) }
     ensures both_2 { Both field (shade boxes.now x n) l.new u.new names.new }
 {
-    if n == 0 {
-        return t;
-    }
-    if ends + (n - old) == 0 {
+    let turning = ends + (n - old);
+    if n == 0 || turning == 0 {
         return t;
     }
     turn(

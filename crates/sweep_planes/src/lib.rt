@@ -5,7 +5,6 @@
 // end, `t` are the corner sums so far, and `buf` is the lent buffer with their records.
 #![tactic(auto)]
 
-ghost use Rattle.std.specs.Prelude.{◌≡◌};
 ghost use Rattle.lattice.specs.Boxes.{box_cells};
 ghost use Rattle.lattice_weights.specs.Packed.{Packed};
 ghost use Rattle.sweep_faces.specs.Layers.{touching};
@@ -15,13 +14,6 @@ ghost use Rattle.sweep_planes.specs.Planes.{AllFound};
 
 use lattice_sums::sums::CornerSums;
 use sweep_order::{first_past, pass};
-
-// A number in the width of an index.
-fn wide(number: u16) -> usize
-    ensures { result ≡ number }
-{
-    number as usize
-}
 
 // All planes, one after the other, from blank images.
 pub fn planes(
@@ -42,8 +34,7 @@ pub fn planes(
     let mut t = CornerSums::new();
     let mut from = 0;
     let mut old = 0;
-    let mut x: u16 = 0;
-    while x <= field {
+    for x in 0..=field {
         let n = first_past(boxes, count, old, x);
         from = pass(boxes, from, old, x);
         t = sweep_plane::plane(
@@ -53,7 +44,7 @@ pub fn planes(
             from,
             old,
             n,
-            wide(ends[x as usize]),
+            usize::from(ends[usize::from(x)]),
             l,
             u,
             names,
@@ -62,7 +53,6 @@ pub fn planes(
             buf,
         );
         old = n;
-        x += 1;
     }
     t
 }

@@ -44,7 +44,8 @@ fn line(
     ensures { state result buf.new ≡ found (state t buf.old) (line_at field x l.now u.now y) }
 {
     let mut s = t;
-    let mut m = named(names, y as usize);
+    let mut m = named(names, usize::from(y));
+    // Kept so: set bits are taken off a word, and no index is counted; an iterator over them would be a type and its laws for this loop.
     while m != 0 {
         let k = sweep_words::lowest(m);
         s = column(l, u, k, x, y, weights, s, buf);
@@ -69,9 +70,10 @@ pub fn lines(
     requires layers { Layers field x l.now u.now × Tells field l.now u.now names.now }
     ensures { PlaneFound field x l.now u.now (state t buf.old) (state result buf.new) }
 {
-    let end = field as usize + 1;
+    let end = usize::from(field) + 1;
     let mut s = t;
     let mut y = next_named(names, 0, end);
+    // Kept so: from row to row goes a search for the next that names a column, so no range has them.
     while y < end {
         s = line(field, x, y as u16, l, u, names, weights, s, buf);
         y = next_named(names, y + 1, end);

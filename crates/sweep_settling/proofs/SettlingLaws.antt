@@ -1,14 +1,15 @@
 -- A word copied from the upper image to the lower one: its column need be named no longer.
 use mathlib.Core.Path.{◌≡◌, refl, sym, ◌∙◌, ap}
 use mathlib.Core.Bool.{Bool, true, false, not, ◌&&◌, and-true, false≢true}
-use mathlib.Core.List.{List}
-use Prim.Native.Nat.{ℕ, ◌+◌, ◌*◌, ◌≤◌, ◌<◌}
+use mathlib.Core.List.{List, [], ◌∷◌}
+use Prim.Native.Nat.{ℕ, zero, suc, ◌+◌, ◌*◌, ◌≤◌, ◌<◌}
 use native.Mathlib.Omega.{arith}
 use lib.Bits.{bit_or}
-use lib.Dec.{eqb, leb, ltb}
+use lib.Dec.{eqb, leb}
 use lib.ListN.{length, get_or, set, length-set}
+use Rattle.std.proofs.Common.{fold}
 use lib.Seq.{get_or-set_same, get_or-set_other}
-use borrow.Author.Tests.{eqb-true, eqb-false, ne_eqb, leb-true, leb-false, ltb-true, ltb-false}
+use borrow.Author.Tests.{eqb-true, eqb-false, ne_eqb, leb-true, leb-false}
 use Rattle.sweep_words.specs.Words.{bit_at, Lowest, WithoutLowest}
 use Rattle.sweep_words.proofs.BitLaws.{bit-zero, bit-some, or-none}
 use Rattle.sweep_image.specs.Images.{columns, word_at, rows, image_size}
@@ -17,20 +18,17 @@ use Rattle.sweep_names.specs.Names.{Tells}
 use Rattle.sweep_settling.specs.Settling.{Settled}
 
 -- ---- rows that are 0
--- eight rows, one after the other
-pub blank-more : (names : List ℕ) (y i w : ℕ) → (w ≡ 0 → (j : ℕ) → y ≤ j → j < y + i → get_or names j 0 ≡ 0)
-    → bit_or w (get_or names (y + i) 0) ≡ 0 → (j : ℕ) → y ≤ j → j < y + (i + 1) → get_or names j 0 ≡ 0
-blank-more names y i w before e j h k = go (ltb j (y + i)) refl
+-- where the numbers of a list have no bit together, each is 0
+pub fold-or-none : (l : List ℕ) (w : ℕ) → fold bit_or w l ≡ 0 → (w ≡ 0) × ((i : ℕ) → get_or l i 0 ≡ 0)
+fold-or-none [] w e = (e, λ i. refl)
+fold-or-none (a ∷ l) w e =
+    let rest = fold-or-none l (bit_or w a) e in
+    let both = or-none w a rest.0 in
+    (both.0, each both.1 rest.1)
   where
-    zero-both : (w ≡ 0) × (get_or names (y + i) 0 ≡ 0)
-    zero-both = or-none w (get_or names (y + i) 0) e
-
-    go : (t : Bool) → ltb j (y + i) ≡ t → get_or names j 0 ≡ 0
-    go true q = before zero-both.0 j h (ltb-true j (y + i) q)
-    go false q =
-        let past : y + i ≤ j = ltb-false j (y + i) q in
-        let same : j ≡ y + i = omega arith in
-        rw same zero-both.1
+    each : a ≡ 0 → ((i : ℕ) → get_or l i 0 ≡ 0) → (i : ℕ) → get_or (a ∷ l) i 0 ≡ 0
+    each front rest zero = front
+    each front rest (suc i) = rest i
 
 -- ---- one word
 -- a bit that is left is one of the word's
@@ -116,10 +114,6 @@ module _ (names : List ℕ) (y : ℕ) {n k m : ℕ} {l u : List ℕ} (low : Lowe
     }
 
 -- ---- all of them
--- rows that are blank already
-pub blank-changed : (a b : ℕ) (names : List ℕ) → ((i : ℕ) → a ≤ i → i < b → get_or names i 0 ≡ 0) → Changed (λ i w. 0) a b names names
-blank-changed a b names z = record { same_size = refl; within = z; before = λ i h. refl; past = λ i h. refl }
-
 -- no column is named once the rows of the field are blank
 pub settled : {n y : ℕ} {u l l' names names' : List ℕ} → n < y → Changed (λ i w. 0) 0 y names names' → Tells n l' u names'
     → length l' ≡ length l → image_size n ≤ length l → Settled n u l l' names'

@@ -17,6 +17,7 @@ fn settle_row(field: u16, u: &[u64], l: &mut [u64], names: &mut [u64], y: usize)
     ensures l_len_unchanged { length l.new ≡ length l.old }
 {
     let mut m = names[y];
+    // Kept so: set bits are taken off a word, and no index is counted; an iterator over them would be a type and its laws for this loop.
     while m != 0 {
         let at = sweep_words::lowest(m) * sweep_image::ROWS + y;
         l[at] = u[at];
@@ -30,11 +31,7 @@ fn blank(names: &[u64], y: usize) -> bool
     requires { y + 8 ≤ length names.now }
     ensures { result ≡ true → (i : ℕ) → y ≤ i → i < y + 8 → get_or names.now i 0 ≡ 0 }
 {
-    let mut w: u64 = 0;
-    for i in 0..8 {
-        w = w | names[y + i];
-    }
-    w == 0
+    names[y..y + 8].iter().fold(0, |bits, w| bits | w) == 0
 }
 
 // Settles the eight rows from y on.
@@ -45,12 +42,10 @@ fn settle_eight(field: u16, u: &[u64], l: &mut [u64], names: &mut [u64], y: usiz
     ensures changed { Changed (λ i w. 0) y (y + 8) names.old names.new }
     ensures l_len_unchanged { length l.new ≡ length l.old }
 {
-    if blank(names, y) {
-        return;
-    }
-    let end = y + 8;
-    for i in y..end {
-        settle_row(field, u, l, names, i);
+    if !blank(names, y) {
+        for i in y..y + 8 {
+            settle_row(field, u, l, names, i);
+        }
     }
 }
 
@@ -59,10 +54,7 @@ pub fn settle(field: u16, u: &[u64], l: &mut [u64], names: &mut [u64])
     requires { Lent field l.old u.now names.old }
     ensures { Settled field u.now l.old l.new names.new }
 {
-    let end = field as usize + 1;
-    let mut y: usize = 0;
-    while y < end {
+    for y in (0..usize::from(field) + 1).step_by(8) {
         settle_eight(field, u, l, names, y);
-        y += 8;
     }
 }

@@ -1,38 +1,16 @@
 -- One corner more: in the buffer, in the sums, and in what is found.
-use mathlib.Core.Path.{◌≡◌, refl, ◌∙◌}
-use mathlib.Core.List.{List, [], ◌∷◌, ◌++◌, append_assoc}
-use Prim.Native.Nat.{ℕ, suc, ◌+◌, ◌*◌, ◌/◌, ◌%◌, ◌≤◌, ◌<◌}
-use native.Mathlib.Omega.{arith}
-use lib.ListN.{length, take, drop, set}
-use lib.Seq.{sets-eq}
+use mathlib.Core.Path.{◌≡◌, refl}
+use mathlib.Core.List.{List, [], ◌∷◌, ◌++◌}
+use Prim.Native.Nat.{ℕ, ◌+◌, ◌*◌, ◌/◌, ◌≤◌, ◌<◌}
+use lib.ListN.{length}
 use borrow.Author.Tests.{lt-ltb, le-ltb}
 use Rattle.lattice.specs.Listing.{Corner, corner_record}
 use Rattle.lattice_sums.specs.CornerSums.{added, Room}
 use Rattle.lattice_sums.specs.declared.sums.CornerSums.{CornerSums}
 use Rattle.lattice_sums.proofs.CornerSumLaws.{added-room}
-use Rattle.sweep_tally.specs.Found.{corner_of, with_record, stored_record, Found, state, meet, found}
+use Rattle.sweep_tally.specs.Found.{with_record, stored_record, Found, state, meet, found}
 
 -- ---- the buffer
--- seven stores one after the other
-seven : (l : List ℕ) (i a b c d e f g : ℕ) → i + 7 ≤ length l
-    → set (set (set (set (set (set (set l i a) (i + 1) b) (i + 2) c) (i + 3) d) (i + 4) e) (i + 5) f) (i + 6) g
-    ≡ take i l ++ ((a ∷ b ∷ c ∷ d ∷ e ∷ f ∷ g ∷ []) ++ drop (i + 7) l)
-seven l i a b c d e f g h =
-    let e1 : i + 1 ≡ suc i = omega arith in
-    let e2 : i + 2 ≡ suc (suc i) = omega arith in
-    let e3 : i + 3 ≡ suc (suc (suc i)) = omega arith in
-    let e4 : i + 4 ≡ suc (suc (suc (suc i))) = omega arith in
-    let e5 : i + 5 ≡ suc (suc (suc (suc (suc i)))) = omega arith in
-    let e6 : i + 6 ≡ suc (suc (suc (suc (suc (suc i))))) = omega arith in
-    rw (e1, e2, e3, e4, e5, e6)
-    (sets-eq (a ∷ b ∷ c ∷ d ∷ e ∷ f ∷ g ∷ []) l i h ∙ append_assoc (take i l) (a ∷ b ∷ c ∷ d ∷ e ∷ f ∷ g ∷ []) (drop (i + 7) l))
-
-pub record-stored : (l : List ℕ) (i x y z p : ℕ) → i + 7 ≤ length l
-    → set (set (set (set (set (set (set l i (x % 256)) (i + 1) (x / 256)) (i + 2) (y % 256)) (i + 3) (y / 256)) (i + 4) (z % 256)) (i + 5) (z / 256)) (i + 6) p
-    ≡ with_record l i (corner_record (corner_of x y z p))
-unfolding corner_record
-record-stored l i x y z p h = seven l i (x % 256) (x / 256) (y % 256) (y / 256) (z % 256) (z / 256) p h
-
 pub stored-none : (b : List ℕ) (n : ℕ) (r : List ℕ) → length b / 7 ≤ n → b ≡ stored_record b n r
 unfolding stored_record
 stored-none b n r h = rw (le-ltb n (length b / 7) h)

@@ -8,32 +8,27 @@ ghost use Rattle.std.specs.Prelude.{◌≡◌, ◌+◌, ◌≤◌, length};
 ghost use Rattle.lattice.specs.Listing.{corner_record};
 ghost use Rattle.lattice_sums.specs.CornerSums.{RoomFor};
 ghost use Rattle.lattice_weights.specs.Packed.{Packed};
-ghost use Rattle.sweep_tally.specs.Found.{corner_of, with_record, stored_record, state, meet};
+ghost use Rattle.sweep_tally.specs.Found.{corner_of, stored_record, state, meet};
 
 use lattice_sums::sums::CornerSums;
 
-// Writes a record at a place of the buffer.
-fn put_record(buf: &mut [u8], start: usize, x: u16, y: u16, z: u16, p: u8)
-    requires { start + 7 ≤ length buf.old }
-    ensures { buf.new ≡ with_record buf.old start (corner_record (corner_of x y z p)) }
+// The record of a corner.
+fn record_of(x: u16, y: u16, z: u16, p: u8) -> [u8; 7]
+    ensures { result ≡ corner_record (corner_of x y z p) }
 {
-    buf[start] = (x % 256) as u8;
-    buf[start + 1] = (x / 256) as u8;
-    buf[start + 2] = (y % 256) as u8;
-    buf[start + 3] = (y / 256) as u8;
-    buf[start + 4] = (z % 256) as u8;
-    buf[start + 5] = (z / 256) as u8;
-    buf[start + 6] = p;
+    let [x0, x1] = x.to_le_bytes();
+    let [y0, y1] = y.to_le_bytes();
+    let [z0, z1] = z.to_le_bytes();
+    [x0, x1, y0, y1, z0, z1, p]
 }
 
 // Writes record n, if the buffer has room for it.
-fn put(buf: &mut [u8], n: usize, x: u16, y: u16, z: u16, p: u8)
-    ensures { buf.new ≡ stored_record buf.old n (corner_record (corner_of x y z p)) }
+fn put(buf: &mut [u8], n: usize, bytes: &[u8; 7])
+    ensures { buf.new ≡ stored_record buf.old n bytes.now }
 {
-    if buf.len() / 7 <= n {
-        return;
+    if n < buf.len() / 7 {
+        buf[7 * n..7 * n + 7].copy_from_slice(bytes);
     }
-    put_record(buf, 7 * n, x, y, z, p);
 }
 
 // One corner more, of pattern p: added to the sums, and its record stored where there is room. The weights are lent.
@@ -49,7 +44,6 @@ pub fn meet(
     requires { (x ≤ 1024) × (y ≤ 1024) × (z ≤ 1024) × RoomFor 1 t × Packed weights.now }
     ensures { state result buf.new ≡ meet (state t buf.old) (corner_of x y z p) }
 {
-    let n = t.corners;
-    put(buf, n, x, y, z, p);
+    put(buf, t.corners, &record_of(x, y, z, p));
     t.add(weights, x, y, z, p)
 }

@@ -1,11 +1,9 @@
--- Words whose set bits are a run: from a place on, up to a place, and one place alone.
+-- Words whose set bits are a run: from a place on, and up to a place.
 use mathlib.Core.Path.{◌≡◌, refl, ◌∙◌, ap}
 use mathlib.Core.Bool.{Bool, true, false}
 use Prim.Native.Nat.{ℕ, suc, ◌+◌, ◌-◌, ◌*◌, ◌/◌, ◌%◌, ◌^◌, ◌<◌, ◌≤◌}
-use native.Mathlib.Nat.{one-mul}
 use native.Mathlib.Omega.{arith}
-use lib.Dec.{leb, lit<}
-use lib.Pow.{shl_exact}
+use lib.Dec.{leb}
 use borrow.Author.Tests.{lt-ltb, leb-true, leb-false}
 use Rattle.ground.proofs.Tests.{leb-alike}
 use Rattle.sweep_words.specs.Words.{bit_at}
@@ -27,7 +25,3 @@ pub bit-lower : (b i : ℕ) → b < 64 → bit_at ((2 ^ 64 - 1) / 2 ^ (63 - b)) 
 bit-lower b i h =
     bit-shr (2 ^ 64 - 1) (63 - b) i ∙ bit-ones 64 (i + (63 - b))
     ∙ leb-alike (suc (i + (63 - b))) 64 i b (λ l. omega arith) (λ l. omega arith)
-
--- bit k
-pub one_shl : (k : ℕ) → k < 64 → 1 * 2 ^ k % 2 ^ 64 ≡ 2 ^ k
-one_shl k h = shl_exact 1 k 64 (lit< tt) (omega arith) ∙ one-mul (2 ^ k)

@@ -14,7 +14,7 @@ pub fn lowest(m: u64) -> usize
     requires { 0 < m }
     ensures { Lowest m result }
 {
-    u64::trailing_zeros(m) as usize
+    m.trailing_zeros() as usize
 }
 
 // The word without its lowest set bit.
@@ -38,7 +38,7 @@ fn upper(a: usize) -> u64
     requires { a < 64 }
     ensures { (i : ℕ) → i < 64 → bit_at result i ≡ leb a i }
 {
-    0xffffffffffffffff << a
+    u64::MAX << a
 }
 
 // Bits 0 to b.
@@ -46,7 +46,7 @@ fn lower(b: usize) -> u64
     requires { b < 64 }
     ensures { (i : ℕ) → bit_at result i ≡ leb i b }
 {
-    0xffffffffffffffff >> (63 - b)
+    u64::MAX >> (63 - b)
 }
 
 // The places of column k after a.
@@ -54,10 +54,7 @@ fn after(k: usize, a: usize) -> u64
     requires { (k ≤ 16) × (a < 63 * k + 63) }
     ensures { (i : ℕ) → i < 64 → bit_at result i ≡ ltb a (63 * k + i) }
 {
-    if a < 63 * k {
-        return upper(0);
-    }
-    upper(a + 1 - 63 * k)
+    upper((a + 1).saturating_sub(63 * k))
 }
 
 // The places of column k up to b.
@@ -65,10 +62,7 @@ fn up_to(k: usize, b: usize) -> u64
     requires { (k ≤ 16) × (63 * k ≤ b) }
     ensures { (i : ℕ) → i < 64 → bit_at result i ≡ leb (63 * k + i) b }
 {
-    if 63 * k + 63 < b {
-        return lower(63);
-    }
-    lower(b - 63 * k)
+    lower((b - 63 * k).min(63))
 }
 
 // The places of column k after a and up to b.

@@ -8,19 +8,11 @@ use native.Mathlib.Nat.{pow-suc}
 use native.Mathlib.Decide.{dec_lt}
 use native.Mathlib.Omega.{arith}
 use lib.Dec.{ltb}
-use lib.ListN.{length, take, get_or, length-append}
-use lib.Seq.{take-suc, take_all}
+use lib.ListN.{length, length-append}
 use borrow.Author.Tests.{lt-ltb, le-ltb}
 use Rattle.buffer.specs.Wrote.{Wrote}
 use Rattle.buffer.proofs.WroteLaws.{wrote_none, wrote_then}
 use Rattle.text_parts.specs.Decimal.{digits, decimal, line, value_from}
-
--- ---- a word, byte after byte
-pub word_more : {w w' w'' : List ℕ} {at r r' : ℕ} (word : List ℕ) (i : ℕ) → i < length word → Wrote w w' at r (take i word) → Wrote w' w'' r r' (get_or word i 0 ∷ []) → Wrote w w'' at r' (take (i + 1) word)
-word_more word i h a b = rw (add-one i, take-suc word i 0 h) (wrote_then a b)
-
-pub word-all : {w w' : List ℕ} {at r : ℕ} (word : List ℕ) (i : ℕ) → length word ≤ i → Wrote w w' at r (take i word) → Wrote w w' at r word
-word-all word i h a = rw (take_all i word h) at a
 
 -- ---- a number
 pub digits-length : (n a : ℕ) → length (digits n a) ≤ n

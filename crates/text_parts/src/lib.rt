@@ -20,20 +20,16 @@ pub fn put_word(out: &mut [u8], at: usize, word: &[u8]) -> usize
     requires { at + length word.now ≤ length out.old }
     ensures { Wrote out.old out.new at result word.now }
 {
-    let mut next = at;
-    let mut i = 0;
-    while i < word.len() {
-        next = put_byte(out, next, word[i]);
-        i += 1;
-    }
-    next
+    let end = at + word.len();
+    out[at..end].copy_from_slice(word);
+    end
 }
 
 // The last decimal digit of a number.
 fn digit(a: u64) -> u8
     ensures { result ≡ 48 + a % 10 }
 {
-    48 + (a % 10) as u8
+    b'0' + (a % 10) as u8
 }
 
 // Puts a number in decimal, with at most n digits.
@@ -57,7 +53,7 @@ pub fn put_line(out: &mut [u8], at: usize, word: &[u8], a: u64) -> usize
     ensures { Wrote out.old out.new at result (line word.now a) }
 {
     let named = put_word(out, at, word);
-    let split = put_byte(out, named, 32);
+    let split = put_byte(out, named, b' ');
     let valued = put_digits(out, split, 20, a);
-    put_byte(out, valued, 10)
+    put_byte(out, valued, b'\n')
 }

@@ -15,11 +15,12 @@ fn refusal_line(out: &mut [u8], number: u8, detail: usize) -> usize
     ensures { Wrote out.old out.new 0 result (refusal_line number detail) }
 {
     let refused = put_word(out, 0, b"refused");
-    let first = put_byte(out, refused, 32);
-    let numbered = put_digits(out, first, 20, number as u64);
-    let second = put_byte(out, numbered, 32);
+    let first = put_byte(out, refused, b' ');
+    let numbered = put_digits(out, first, 20, u64::from(number));
+    let second = put_byte(out, numbered, b' ');
+    // Kept so: a `usize` has no `From` into `u64`, and `try_from` with a proof that it never fails is no plainer.
     let detailed = put_digits(out, second, 20, detail as u64);
-    put_byte(out, detailed, 10)
+    put_byte(out, detailed, b'\n')
 }
 
 // Puts the line of a refusal to the front.

@@ -18,5 +18,6 @@ pub fn quote_lines(out: &mut [u8], t: Totals) -> usize
     let area = put_line(out, volume, b"area", t.area);
     let edge = put_line(out, area, b"edge", t.edge);
     let inner = put_line(out, edge, b"inner", t.inner);
+    // Kept so: a `usize` has no `From` into `u64`, and `try_from` with a proof that it never fails is no plainer.
     put_line(out, inner, b"corners", t.corners as u64)
 }

@@ -6,21 +6,9 @@ ghost use Rattle.std.specs.Prelude.{◌≡◌};
 ghost use Rattle.text_same.specs.Same.{same};
 
 // Whether two slices hold the same bytes.
+// Kept so: the edit `beginning_for_the_whole` is of this function, and its contract says `==` by `same`, which theorems speak of.
 pub fn same_bytes(a: &[u8], b: &[u8]) -> bool
     ensures { result ≡ same a.now b.now }
 {
-    let mut i = 0;
-    while i < a.len() {
-        if b.len() <= i {
-            return false;
-        }
-        if a[i] != b[i] {
-            return false;
-        }
-        i += 1;
-    }
-    if i < b.len() {
-        return false;
-    }
-    true
+    a == b
 }

@@ -7,7 +7,6 @@ use native.Mathlib.Omega.{arith}
 use lib.Dec.{ltb, eqb}
 use lib.ListN.{length, get_or, length-append}
 use borrow.Author.Tests.{lt-ltb}
-use Rattle.refusals.specs.declared.Checked.TheVariants.{Accepted}
 use Rattle.job.specs.Job.{Job, shots, shots_of, shot_count, Valid}
 use Rattle.job.specs.Checking.{checked}
 use Rattle.job.proofs.Conditions.{accepted-valid}
@@ -28,6 +27,7 @@ use Rattle.shotfile_lines.specs.Lines.{note, setting_line, settings, shot_line}
 use Rattle.shotfile_shots.specs.ShotLines.{shot_lines}
 use Rattle.shotfile_text.specs.Text.{plain_text}
 use Rattle.typed_again.proofs.Retyped.{lines_end, lines-shot, file-text}
+use Rattle.std.specs.Prelude.{Ok}
 
 -- ---- numbers with few digits
 few : (n a : ℕ) → a < 10 → length (digits n a) ≤ 1
@@ -95,7 +95,7 @@ shots-length s e {allowed} {room} {c} (shot {f = f} {end = end} {coords = coords
     )
 
 -- ---- the text
-pub text-fits : (s : List ℕ) (places : ℕ) (job : Job) → file_in places s ≡ file job → checked job ≡ Accepted → length (plain_text places s) ≤ 262143
+pub text-fits : (s : List ℕ) (places : ℕ) (job : Job) → file_in places s ≡ file job → checked job ≡ Ok tt → length (plain_text places s) ≤ 262143
 text-fits s places job e a =
     let f = setting_fields job in
     let q = file-parts s places e in

@@ -11,8 +11,10 @@ use Rattle.text_parts.specs.Decimal.{decimal}
 use Rattle.text_same.specs.Same.{same}
 use Rattle.shotfile_lines.specs.Lines.{note, setting_line, shot_line}
 use Rattle.typed_line.specs.declared.entry.Setting.{Setting}
+use Rattle.std.specs.Prelude.{Result, Ok}
 use Rattle.typed_line.specs.declared.entry.Command.{Command}
 use Rattle.typed_line.specs.declared.entry.Command.TheVariants.{Set}
+use Rattle.typed_line.specs.declared.entry.Mistake.{Mistake}
 use Rattle.typed_line.specs.declared.entry.Entry.{Entry}
 use Rattle.typed_line.specs.declared.entry.Entry.TheVariants.{Setting as Settled, Shot}
 use Rattle.typed_line.specs.Words.{before, newline, hash, blank, lines_of, words_of}
@@ -24,7 +26,7 @@ use Rattle.typed_line.proofs.Printed.{Free, no-pass, free-append, freely, free-t
 pub record Line (t rest : List ℕ) (entry : Entry) : Type 0 where
   pub line : List ℕ
   pub first : lines_of t ≡ line ∷ lines_of rest
-  pub says : line_entry line ≡ entry
+  pub says : line_entry line ≡ Ok entry
 
 -- past a word without `#` and the space after it
 past : {word : List ℕ} (rest : List ℕ) {code : List ℕ} → Free hash word → before hash rest ≡ code → before hash (word ++ (32 ∷ rest)) ≡ word ++ (32 ∷ code)
@@ -58,13 +60,13 @@ pub record Plain (word : List ℕ) : Type 0 where
 pub plain : (word : List ℕ) → freely newline word ≡ true → freely hash word ≡ true → freely blank word ≡ true → 0 < length word → Plain word
 plain word a b c d = record { no-newline = free-tested newline word a; no-hash = free-tested hash word b; no-blank = free-tested blank word c; some = d }
 
-module _ {word : List ℕ} (w : Plain word) {s : Setting} (c : command_of word ≡ Set s) (a : ℕ) (small : a ≤ 65535) where
-  setting-says : (line code : List ℕ) → before hash line ≡ word ++ (32 ∷ code) → words_of code ≡ decimal a ∷ [] → line_entry line ≡ Settled s a
+module _ {word : List ℕ} (w : Plain word) {s : Setting} (c : command_of word ≡ Ok (Set s)) (a : ℕ) (small : a ≤ 65535) where
+  setting-says : (line code : List ℕ) → before hash line ≡ word ++ (32 ∷ code) → words_of code ≡ decimal a ∷ [] → line_entry line ≡ Ok (Settled s a)
   unfolding commanded entry_of
   setting-says line code e q =
       ap (λ l. entry_of (words_of l)) e
       ∙ (ap entry_of (word-printed word code w.no-blank w.some ∙ ap (λ l. word ∷ l) q)
-      ∙ (ap (λ (k : Command). commanded k (decimal a ∷ [])) c
+      ∙ (ap (λ (k : Result Command Mistake). commanded k (decimal a ∷ [])) c
       ∙ setting-printed s a small))
 
   noted : (t : Bool) (rest : List ℕ) → Line ((word ++ (32 ∷ [])) ++ decimal a ++ (cond t (text " # default") [] ++ text "\n") ++ rest) rest (Settled s a)
@@ -134,7 +136,7 @@ module _ (x y z n at : ℕ) (hx : x ≤ 65535) (hy : y ≤ 65535) (hz : z ≤ 65
       (word-printed (decimal y) (decimal z ++ (32 ∷ [])) (decimal-blank y) (decimal-some y)
       ∙ ap (λ l. decimal y ∷ l) (last-spaced z)))
 
-  shot-says : line_entry shot-text ≡ Shot x y z
+  shot-says : line_entry shot-text ≡ Ok (Shot x y z)
   unfolding same command_of commanded entry_of
   shot-says = ap (λ l. entry_of (words_of l)) shot-code ∙ (ap entry_of shot-words ∙ shot-printed x y z hx hy hz)
 

@@ -7,7 +7,6 @@ use native.Mathlib.Omega.{arith}
 use lib.Dec.{ltb}
 use lib.ListN.{length, get_or}
 use Rattle.job.specs.Job.{Job}
-use Rattle.refusals.specs.declared.Checked.TheVariants.{Refused as Turned}
 use Rattle.refusals.specs.declared.Refusal.{Refusal}
 use Rattle.refusals.specs.declared.Refusal.TheVariants.{TooManyShots}
 use Rattle.job.specs.Checking.{checked}
@@ -16,14 +15,10 @@ use Rattle.text_parts.specs.Text.{text}
 use Rattle.text_parts.specs.Decimal.{decimal}
 use Rattle.text_same.specs.Same.{same}
 use Rattle.shotfile_records.specs.declared.Fields.{Fields}
-use Rattle.shotfile_records.specs.declared.Taken.{Taken}
-use Rattle.shotfile_records.specs.declared.Taken.TheVariants.{Whole, Refused}
 use Rattle.shotfile_reader.specs.declared.Cursor.{Cursor}
-use Rattle.shotfile_reader.specs.declared.Step.{Step}
-use Rattle.shotfile_reader.specs.declared.Step.TheVariants.{Shot as Step-shot, Refused as Stopped, End}
 use Rattle.shotfile_records.specs.Records.{header_absent, record_at}
 use Rattle.shotfile_records.specs.Numbers.{setting_fields}
-use Rattle.shotfile_reader.specs.Files.{Rest, coordinates, faulty, with_shot, on_step, step_at, shots_from, file, refused, with_settings, on_header, first_shot, file_in}
+use Rattle.shotfile_reader.specs.Files.{Taken, Step, Rest, coordinates, faulty, with_shot, on_step, step_at, shots_from, file, refused, with_settings, on_header, first_shot, file_in}
 use Rattle.shotfile_reader.proofs.FileParts.{file-parts}
 use Rattle.shotfile_lines.specs.Lines.{labelled, note, setting_line, settings, shot_line, place_text, refused_line}
 use Rattle.shotfile_shots.specs.ShotLines.{step_line, shot_lines}
@@ -32,37 +27,35 @@ use Rattle.shotfile_text.specs.Text.{records_text, plain_text}
 use Rattle.text_wording.specs.Sentences.{sentence}
 use Rattle.typed_line.specs.declared.entry.Mistake.{Mistake}
 use Rattle.typed_line.specs.declared.entry.Mistake.TheVariants.{UnknownWord}
-use Rattle.typed_line.specs.declared.entry.Entry.TheVariants.{Wrong}
 use Rattle.typed_draft.specs.declared.Draft.{Draft}
-use Rattle.typed_draft.specs.declared.Next.{Next}
-use Rattle.typed_draft.specs.declared.Next.TheVariants.{Goes, Stops}
-use Rattle.typed_list.specs.declared.Typed.{Typed}
-use Rattle.typed_list.specs.declared.Typed.TheVariants.{Mistake as Mistaken}
+use Rattle.job.specs.declared.Stored.{Stored}
+use Rattle.typed_list.specs.declared.MistakeAt.{MistakeAt}
+use Rattle.std.specs.Prelude.{Result, Ok, Err, Some, None}
 use Rattle.typed_line.specs.Words.{before, newline, lines_from, lines_of, words_from}
 use Rattle.typed_line.specs.Entries.{command_of, commanded, entry_of, line_entry}
 use Rattle.typed_draft.specs.Drafts.{nothing_yet, then}
-use Rattle.typed_list.specs.Lists.{on_next, typed_from, typed_list}
+use Rattle.typed_list.specs.Lists.{mistaken, on_next, typed_from, typed_list}
 use Rattle.typed_line.proofs.Cutting.{lines_cut}
 use Rattle.typed_draft.proofs.DraftLaws.{then-wrong}
 
 -- ---- a wrong line among lines
-pub record Mistakes (t : Typed) : Type 0 where
+pub record Mistakes (t : Result Stored MistakeAt) : Type 0 where
   pub line : ℕ
   pub mistake : Mistake
-  pub is : t ≡ Mistaken line mistake
+  pub is : t ≡ mistaken line mistake
 
 data Has : List (List ℕ) → Type 0 where
-  here : {l : List ℕ} {lines : List (List ℕ)} {m : Mistake} → line_entry l ≡ Wrong m → Has (l ∷ lines)
+  here : {l : List ℕ} {lines : List (List ℕ)} {m : Mistake} → line_entry l ≡ Err m → Has (l ∷ lines)
   there : {l : List ℕ} {lines : List (List ℕ)} → Has lines → Has (l ∷ lines)
 
 stops : (places : ℕ) (d : Draft) (line : ℕ) {lines : List (List ℕ)} → Has lines → Mistakes (typed_from places d line lines)
 unfolding typed_from
-stops places d line (here {l = l} {lines = lines} {m = m} e) = record { line = line; mistake = m; is = ap (λ (n : Next). on_next n line (λ d'. typed_from places d' (suc line) lines)) (sym (then-wrong places d e)) }
+stops places d line (here {l = l} {lines = lines} {m = m} e) = record { line = line; mistake = m; is = ap (λ (n : Result Draft Mistake). on_next n line (λ d'. typed_from places d' (suc line) lines)) (sym (then-wrong places d e)) }
 stops places d line (there {l = l} {lines = lines} h) = go (then places d (line_entry l)) (λ d'. stops places d' (suc line) h)
   where
-    go : (n : Next) → ((d' : Draft) → Mistakes (typed_from places d' (suc line) lines)) → Mistakes (on_next n line (λ d'. typed_from places d' (suc line) lines))
-    go (Goes d') k = k d'
-    go (Stops m) k = record { line = line; mistake = m; is = refl }
+    go : (n : Result Draft Mistake) → ((d' : Draft) → Mistakes (typed_from places d' (suc line) lines)) → Mistakes (on_next n line (λ d'. typed_from places d' (suc line) lines))
+    go (Ok d') k = k d'
+    go (Err m) k = record { line = line; mistake = m; is = refl }
 
 -- what follows a newline keeps its lines
 after-from : (line t rest : List ℕ) → Has (lines_of rest) → Has (lines_from line (t ++ (10 ∷ rest)))
@@ -131,9 +124,9 @@ module _ (s : List ℕ) where
   shots-keep (suc left) n c rest h = go (step_at s c) (λ c'. shots-keep left (n + 1) c' rest h)
     where
       go : (t : Step) → ((c' : Cursor) → Has (lines_of (shot_lines left (n + 1) s c' ++ rest))) → Has (lines_of (step_line n c.at t (shot_lines left (n + 1) s) ++ rest))
-      go (Step-shot c') k = subst (λ (t : List ℕ). Has (lines_of t)) (regroup (shot_line c'.last n c.at) (shot_lines left (n + 1) s c') rest) (shot-keep c'.last n c.at (shot_lines left (n + 1) s c' ++ rest) (k c'))
-      go (Stopped r) k = refusal-has r rest
-      go End k = h
+      go (Ok (Some c')) k = subst (λ (t : List ℕ). Has (lines_of t)) (regroup (shot_line c'.last n c.at) (shot_lines left (n + 1) s c') rest) (shot-keep c'.last n c.at (shot_lines left (n + 1) s c' ++ rest) (k c'))
+      go (Err r) k = refusal-has r rest
+      go (Ok None) k = h
 
   -- a faulty record gives one, where the places do not run out before the shots that are allowed
   shots-has : (left places n : ℕ) (c : Cursor) {r : Refusal} (rest : List ℕ) → left ≤ places → shots_from left places s c ≡ faulty r → Has (lines_of (shot_lines left n s c ++ rest))
@@ -153,9 +146,9 @@ module _ (s : List ℕ) where
       go : (t : Step) → ((c' : Cursor) → shots_from left places s c' ≡ faulty r → Has (lines_of (shot_lines left (n + 1) s c' ++ rest)))
           → on_step t (shots_from left places s) ≡ faulty r
           → Has (lines_of (step_line n c.at t (shot_lines left (n + 1) s) ++ rest))
-      go (Step-shot c') k e = subst (λ (t : List ℕ). Has (lines_of t)) (regroup (shot_line c'.last n c.at) (shot_lines left (n + 1) s c') rest) (shot-keep c'.last n c.at (shot_lines left (n + 1) s c' ++ rest) (k c' (next c'.last (shots_from left places s c') e)))
-      go (Stopped r') k e = refusal-has r' rest
-      go End k e = let z : ◌≡◌ {A = ℕ} 0 1 = cc in absurd (omega arith)
+      go (Ok (Some c')) k e = subst (λ (t : List ℕ). Has (lines_of t)) (regroup (shot_line c'.last n c.at) (shot_lines left (n + 1) s c') rest) (shot-keep c'.last n c.at (shot_lines left (n + 1) s c' ++ rest) (k c' (next c'.last (shots_from left places s c') e)))
+      go (Err r') k e = refusal-has r' rest
+      go (Ok None) k e = let z : ◌≡◌ {A = ℕ} 0 1 = cc in absurd (omega arith)
 
   -- ---- the text
   file-has : (places : ℕ) {r : Refusal} → 4096 ≤ places → file_in places s ≡ refused r → Has (lines_of (plain_text places s))
@@ -167,10 +160,10 @@ module _ (s : List ℕ) where
       rest f (faulty q) e = let m : q ≡ r = cc in ap faulty m
 
       go : (t : Taken) → on_header t (λ end. shots_from 4096 places s (first_shot end)) ≡ refused r → Has (lines_of (records_text places s t))
-      go (Whole f end) e = settings-keep (get_or s 0 0) f (shot_lines 4096 0 s (first_shot end) ++ verdict (file_in places s)) (shots-has 4096 places 0 (first_shot end) (verdict (file_in places s)) (omega arith) (rest f (shots_from 4096 places s (first_shot end)) e))
-      go (Refused q) e = subst (λ (t : List ℕ). Has (lines_of t)) (append-nil (refused_line q)) (refusal-has q [])
+      go (Ok k) e = settings-keep (get_or s 0 0) k.fields (shot_lines 4096 0 s (first_shot k.end) ++ verdict (file_in places s)) (shots-has 4096 places 0 (first_shot k.end) (verdict (file_in places s)) (omega arith) (rest k.fields (shots_from 4096 places s (first_shot k.end)) e))
+      go (Err q) e = subst (λ (t : List ℕ). Has (lines_of t)) (append-nil (refused_line q)) (refusal-has q [])
 
-  list-has : (places : ℕ) (job : Job) {r : Refusal} → file_in places s ≡ file job → checked job ≡ Turned r → Has (lines_of (plain_text places s))
+  list-has : (places : ℕ) (job : Job) {r : Refusal} → file_in places s ≡ file job → checked job ≡ Err r → Has (lines_of (plain_text places s))
   unfolding plain_text
   list-has places job {r} e a =
       let p = file-parts s places e in
@@ -188,5 +181,5 @@ module _ (s : List ℕ) where
   refused-mistakes places room p e = mistakes room (plain_text places s) (file-has places p e)
 
   -- (b) of a file whose list is refused
-  pub turned-mistakes : (places room : ℕ) (job : Job) {r : Refusal} → file_in places s ≡ file job → checked job ≡ Turned r → Mistakes (typed_list room (plain_text places s))
+  pub turned-mistakes : (places room : ℕ) (job : Job) {r : Refusal} → file_in places s ≡ file job → checked job ≡ Err r → Mistakes (typed_list room (plain_text places s))
   turned-mistakes places room job e a = mistakes room (plain_text places s) (list-has places job e a)

@@ -3,134 +3,97 @@
 #![tactic(auto)]
 
 ghost use Rattle.std.specs.Prelude.{◌≡◌};
-ghost use Rattle.typed_draft.specs.Drafts.{nothing_yet, settled, shot_more, then};
+ghost use Rattle.typed_draft.specs.Drafts.{nothing_yet, settings_of, once, settled, shot_more, then};
 
-use shotfile_records::header_absent;
+use shotfile_records::{Fields, header_absent};
 use typed_line::{Entry, Mistake, Setting};
 
-// A setting, and whether a line has given it.
-#[derive(Clone, Copy)]
-pub struct Given {
-    pub number: u16,
-    pub given: bool,
-}
-
-// The settings and the number of shots.
-#[derive(Clone, Copy)]
+// The settings that lines have given, and the number of shots.
+#[derive(Clone, Copy, PartialEq, Eq, Debug)]
 pub struct Draft {
-    pub field: Given,
-    pub edge: Given,
-    pub grid: Given,
+    pub field: Option<u16>,
+    pub edge: Option<u16>,
+    pub grid: Option<u16>,
     pub shots: usize,
 }
 
-// What a line more makes of it.
-#[derive(Clone, Copy)]
-pub enum Next {
-    Goes(Draft),
-    Stops(Mistake),
+impl Draft {
+    // The settings; one that no line has given is what a shot file leaves out.
+    #[tactic(auto, unfolding(crate::specs::Drafts::settings_of))]
+    pub fn settings(&self) -> Fields
+        ensures { result ≡ settings_of self.now }
+    {
+        let absent = header_absent();
+        Fields {
+            first: self.field.unwrap_or(absent.first),
+            second: self.edge.unwrap_or(absent.second),
+            third: self.grid.unwrap_or(absent.third),
+        }
+    }
 }
 
-// Before the first line: the settings that a shot file leaves out, and no shots.
+// Before the first line: no setting and no shots.
+#[tactic(auto, unfolding(crate::specs::Drafts::nothing_yet))]
 pub fn nothing_yet() -> Draft
     ensures { result ≡ nothing_yet }
 {
-    let absent = header_absent();
     Draft {
-        field: Given {
-            number: absent.first,
-            given: false,
-        },
-        edge: Given {
-            number: absent.second,
-            given: false,
-        },
-        grid: Given {
-            number: absent.third,
-            given: false,
-        },
+        field: None,
+        edge: None,
+        grid: None,
         shots: 0,
     }
 }
 
-// A setting more.
-fn settle(d: Draft, which: Setting, number: u16) -> Next
-    ensures { result ≡ settled d which number }
+// A setting that a line gives, where no line above has given it.
+fn once(above: Option<u16>, number: u16) -> Result<Option<u16>, Mistake>
+    ensures { result ≡ once above number }
 {
-    let field = d.field;
-    let edge = d.edge;
-    let grid = d.grid;
-    let now = Given {
-        number: number,
-        given: true,
-    };
-    match which {
-        Setting::Field => {
-            if field.given {
-                return Next::Stops(Mistake::SettingTwice);
-            }
-            Next::Goes(Draft {
-                field: now,
-                edge: edge,
-                grid: grid,
-                shots: d.shots,
-            })
-        }
-        Setting::Edge => {
-            if edge.given {
-                return Next::Stops(Mistake::SettingTwice);
-            }
-            Next::Goes(Draft {
-                field: field,
-                edge: now,
-                grid: grid,
-                shots: d.shots,
-            })
-        }
-        Setting::Grid => {
-            if grid.given {
-                return Next::Stops(Mistake::SettingTwice);
-            }
-            Next::Goes(Draft {
-                field: field,
-                edge: edge,
-                grid: now,
-                shots: d.shots,
-            })
-        }
+    match above {
+        Some(_) => Err(Mistake::SettingTwice),
+        None => Ok(Some(number)),
     }
 }
 
+// A setting more.
+#[tactic(auto, unfolding(crate::specs::Drafts::settled))]
+fn settle(mut d: Draft, which: Setting, number: u16) -> Result<Draft, Mistake>
+    ensures { result ≡ settled d which number }
+{
+    match which {
+        Setting::Field => d.field = once(d.field, number)?,
+        Setting::Edge => d.edge = once(d.edge, number)?,
+        Setting::Grid => d.grid = once(d.grid, number)?,
+    }
+    Ok(d)
+}
+
 // A shot more, where so many have a place.
-fn shoot(d: Draft, places: usize) -> Next
+#[tactic(auto, unfolding(crate::specs::Drafts::shot_more))]
+fn shoot(d: Draft, places: usize) -> Result<Draft, Mistake>
     ensures { result ≡ shot_more places d }
 {
-    let field = d.field;
-    let edge = d.edge;
-    let grid = d.grid;
     let shots = d.shots;
     if 4096 <= shots {
-        return Next::Stops(Mistake::TooManyShots);
+        return Err(Mistake::TooManyShots);
     }
     if places <= shots {
-        return Next::Stops(Mistake::NoPlace);
+        return Err(Mistake::NoPlace);
     }
-    Next::Goes(Draft {
-        field: field,
-        edge: edge,
-        grid: grid,
+    Ok(Draft {
         shots: shots + 1,
+        ..d
     })
 }
 
 // A line more.
-pub fn then(d: Draft, places: usize, entry: Entry) -> Next
+#[tactic(auto, unfolding(crate::specs::Drafts::then))]
+pub fn then(d: Draft, places: usize, entry: Result<Entry, Mistake>) -> Result<Draft, Mistake>
     ensures { result ≡ then places d entry }
 {
-    match entry {
-        Entry::Nothing => Next::Goes(d),
+    match entry? {
+        Entry::Nothing => Ok(d),
         Entry::Setting { which, number } => settle(d, which, number),
-        Entry::Shot { x: _, y: _, z: _ } => shoot(d, places),
-        Entry::Wrong(mistake) => Next::Stops(mistake),
+        Entry::Shot { .. } => shoot(d, places),
     }
 }

@@ -1,53 +1,19 @@
--- How a text is cut at its newlines and a line at its blanks, from one place to the next. Assumes nothing.
+-- How a text is cut at its newlines and a line at its blanks. Assumes nothing.
 use mathlib.Core.Path.{◌≡◌, refl, sym, ap, ◌∙◌}
-use mathlib.Core.Bool.{Bool, true, false, cond}
+use mathlib.Core.Bool.{Bool, true, false, not, cond}
 use mathlib.Core.List.{List, [], ◌∷◌, ◌++◌, append_assoc, append-nil}
-use Prim.Native.Nat.{ℕ, suc, ◌+◌, ◌-◌, ◌≤◌, ◌<◌}
-use native.Mathlib.Decide.{dec_lt}
+use Prim.Native.Nat.{ℕ, suc, ◌+◌, ◌≤◌, ◌<◌}
 use native.Mathlib.Omega.{arith}
-use lib.Dec.{eqb}
-use lib.ListN.{length, take, drop, get_or, length-drop, drop_of_length-le}
-use lib.Seq.{drop-drop}
-use borrow.Author.Tests.{eq-eqb, ne_eqb}
-use Rattle.text_same.proofs.SameLaws.{here}
-use Rattle.typed_line.specs.Words.{before, newline, hash, blank, uncommented, lines_from, lines_of, ended, words_from, words_of, part}
-use Rattle.typed_line.specs.Cursors.{Skipped, NextWord}
-
--- ---- blanks
-module _ (b : ℕ) where
-  pub blank-space : b ≡ 32 → true ≡ blank b
-  blank-space e = rw (eq-eqb b 32 e)
-
-  module _ (n : b ≡ 32 → ⊥) where
-    pub blank-tab : b ≡ 9 → true ≡ blank b
-    blank-tab e = rw (ne_eqb b 32 n, eq-eqb b 9 e)
-
-    pub blank-return : (b ≡ 9 → ⊥) → eqb b 13 ≡ blank b
-    blank-return m = rw (ne_eqb b 32 n, ne_eqb b 9 m)
+use lib.Dec.{ltb}
+use lib.ListN.{length, take, drop}
+use borrow.Author.Tests.{ltb-false}
+use Rattle.std.specs.Prelude.{Option, Some, None, unwrap_or}
+use Rattle.std.specs.List.{position_or_len, slice_split, onto_first}
+use Rattle.std.proofs.lemmas.List.Recursion.{is_position_or_len}
+use Rattle.typed_line.specs.Words.{before, newline, blank, lines_from, lines_of, ended, words_from, words_of}
 
 -- ---- the bytes before the first that passes a test
 module _ (p : ℕ → Bool) where
-  before-met : (b : ℕ) (s : List ℕ) → p b ≡ true → before p (b ∷ s) ≡ []
-  unfolding before
-  before-met b s e = rw e
-
-  before-passed : (b : ℕ) (s : List ℕ) → p b ≡ false → before p (b ∷ s) ≡ b ∷ before p s
-  unfolding before
-  before-passed b s e = rw e
-
-  before-none : before p [] ≡ []
-  unfolding before
-  before-none = refl
-
-  before-take : (s : List ℕ) → take (length (before p s)) s ≡ before p s
-  unfolding before
-  before-take [] = refl
-  before-take (b ∷ s) = go (p b) (before-take s)
-    where
-      go : (t : Bool) → take (length (before p s)) s ≡ before p s → take (length (cond t [] (b ∷ before p s))) (b ∷ s) ≡ cond t [] (b ∷ before p s)
-      go true e = refl
-      go false e = ap (λ l. b ∷ l) e
-
   before-length : (s : List ℕ) → length (before p s) ≤ length s
   unfolding before
   before-length [] = omega arith
@@ -57,35 +23,62 @@ module _ (p : ℕ → Bool) where
       go true h = omega arith
       go false h = omega arith
 
-  module _ (s : List ℕ) (i : ℕ) where
-    pub before-stop : i < length s → p (get_or s i 0) ≡ true → length (before p (drop i s)) ≡ 0
-    before-stop h e = ap (λ l. length (before p l)) (here s i h) ∙ ap length (before-met (get_or s i 0) (drop (i + 1) s) e)
+  pub before-take : (s : List ℕ) → take (length (before p s)) s ≡ before p s
+  unfolding before
+  before-take [] = refl
+  before-take (b ∷ s) = go (p b) (before-take s)
+    where
+      go : (t : Bool) → take (length (before p s)) s ≡ before p s → take (length (cond t [] (b ∷ before p s))) (b ∷ s) ≡ cond t [] (b ∷ before p s)
+      go true e = refl
+      go false e = ap (λ l. b ∷ l) e
 
-    pub before_on : i < length s → p (get_or s i 0) ≡ false → length (before p (drop i s)) ≡ suc (length (before p (drop (i + 1) s)))
-    before_on h e = ap (λ l. length (before p l)) (here s i h) ∙ ap length (before-passed (get_or s i 0) (drop (i + 1) s) e)
+  before-place : (s : List ℕ) → length (before p s) ≡ position_or_len p s
+  unfolding before
+  before-place s = is_position_or_len (λ k. length (before p k)) p refl (λ b k. step (p b) b k) s
+    where
+      step : (t : Bool) (b : ℕ) (k : List ℕ) → length (cond t [] (b ∷ before p k)) ≡ cond t 0 (1 + length (before p k))
+      step true b k = refl
+      step false b k = omega arith
 
-    pub before-end : length s ≤ i → length (before p (drop i s)) ≡ 0
-    before-end h = ap (λ l. length (before p l)) (drop_of_length-le s h) ∙ ap length before-none
-
-  module _ (s : List ℕ) (at : ℕ) {end : ℕ} (e : end ≡ at + length (before p (drop at s))) where
-    before-part : part s at end ≡ before p (drop at s)
-    before-part =
-        let n : end - at ≡ length (before p (drop at s)) = omega arith in
-        ap (λ k. take k (drop at s)) n ∙ before-take (drop at s)
-
-    before-drop : drop (length (before p (drop at s))) (drop at s) ≡ drop end s
-    before-drop = drop-drop (length (before p (drop at s))) at s ∙ ap (λ k. drop k s) (sym e)
-
-    pub before-within : at ≤ length s → end ≤ length s
-    before-within h = omega (arith, before-length (drop at s), length-drop at s)
-
--- a line without its comment
-pub code-part : (line : List ℕ) {end : ℕ} → end ≡ 0 + length (before hash line) → take end line ≡ uncommented line
-code-part line {end} e =
-    let n : end ≡ length (before hash line) = omega arith in
-    ap (λ k. take k line) n ∙ before-take hash line
+  -- the place that `position` finds, or the end
+  pub before-found : (s : List ℕ) {r : Option ℕ} {n : ℕ} → r ≡ cond (ltb (position_or_len p s) (length s)) (Some (position_or_len p s)) None → n ≡ unwrap_or r (length s) → n ≡ length (before p s)
+  before-found s {r} {n} e k = k ∙ (ap (λ o. unwrap_or o (length s)) e ∙ go (ltb (position_or_len p s) (length s)) refl)
+    where
+      go : (t : Bool) → ltb (position_or_len p s) (length s) ≡ t → unwrap_or (cond t (Some (position_or_len p s)) None) (length s) ≡ length (before p s)
+      go true q = sym (before-place s)
+      go false q = omega (arith, before-place s, before-length s, ltb-false (position_or_len p s) (length s) q)
 
 -- ---- lines
+-- bytes in front of the first part
+onto : List ℕ → List (List ℕ) → List (List ℕ)
+onto [] parts = parts
+onto (b ∷ l) parts = onto_first b (onto l parts)
+
+onto-more : (l : List ℕ) (b : ℕ) (parts : List (List ℕ)) → onto (l ++ (b ∷ [])) parts ≡ onto l (onto_first b parts)
+unfolding onto
+onto-more [] b parts = refl
+onto-more (a ∷ l) b parts = ap (onto_first a) (onto-more l b parts)
+
+onto-none : (l : List ℕ) (parts : List (List ℕ)) → onto l ([] ∷ parts) ≡ l ∷ parts
+unfolding onto
+onto-none [] parts = refl
+onto-none (a ∷ l) parts = ap (onto_first a) (onto-none l parts)
+
+onto-split : (line s : List ℕ) → lines_from line s ≡ onto line (slice_split newline s)
+unfolding lines_from onto
+onto-split line [] = sym (onto-none line [])
+onto-split line (b ∷ s) = go (newline b) (onto-split [] s) (onto-split (line ++ (b ∷ [])) s)
+  where
+    go : (t : Bool) → lines_from [] s ≡ slice_split newline s → lines_from (line ++ (b ∷ [])) s ≡ onto (line ++ (b ∷ [])) (slice_split newline s)
+        → cond t (line ∷ lines_from [] s) (lines_from (line ++ (b ∷ [])) s) ≡ onto line (cond t ([] ∷ slice_split newline s) (onto_first b (slice_split newline s)))
+    go true e f = ap (λ k. line ∷ k) e ∙ sym (onto-none line (slice_split newline s))
+    go false e f = f ∙ onto-more line b (slice_split newline s)
+
+-- the lines are the parts between the newlines
+pub lines-split : (text : List ℕ) → slice_split newline text ≡ lines_of text
+unfolding onto
+lines-split text = sym (onto-split [] text)
+
 -- the lines after a newline, if there is one
 unfoldable pub lines_after : List ℕ → List (List ℕ)
 lines_after [] = []
@@ -101,21 +94,6 @@ lines_cut line (b ∷ s) = go (newline b) (lines_cut (line ++ (b ∷ [])) s)
         ≡ (line ++ cond t [] (b ∷ before newline s)) ∷ lines_after (drop (length (cond t [] (b ∷ before newline s))) (b ∷ s))
     go true e = ap (λ l. l ∷ lines_from [] s) (sym (append-nil line))
     go false e = e ∙ ap (λ l. l ∷ lines_after (drop (length (before newline s)) s)) (append_assoc line (b ∷ []) (before newline s))
-
-module _ (text : List ℕ) (at : ℕ) {end : ℕ} (e : end ≡ at + length (before newline (drop at text))) where
-  pub line_first : lines_of (drop at text) ≡ part text at end ∷ lines_after (drop end text)
-  line_first =
-      lines_cut [] (drop at text)
-      ∙ (ap (λ l. l ∷ lines_after (drop (length (before newline (drop at text))) (drop at text))) (sym (before-part newline text at e))
-      ∙ ap (λ l. part text at end ∷ lines_after l) (before-drop newline text at e))
-
-  pub line-last : length text ≤ end → lines_of (drop at text) ≡ part text at end ∷ []
-  unfolding lines_after
-  line-last h = line_first ∙ ap (λ l. part text at end ∷ lines_after l) (drop_of_length-le text h)
-
-  pub line-more : end < length text → lines_of (drop at text) ≡ part text at end ∷ lines_of (drop (end + 1) text)
-  unfolding lines_after
-  line-more h = line_first ∙ ap (λ l. part text at end ∷ lines_after l) (here text end h)
 
 -- ---- words
 pub words-blank : (b : ℕ) (s : List ℕ) → blank b ≡ true → words_of (b ∷ s) ≡ words_of s
@@ -137,28 +115,53 @@ pub words-none : words_of [] ≡ []
 unfolding words_from
 words-none = refl
 
--- blanks in front of a word
-pub words-skip : (line : List ℕ) (i : ℕ) → i < length line → blank (get_or line i 0) ≡ true → words_of (drop i line) ≡ words_of (drop (i + 1) line)
-words-skip line i h e = ap words_of (here line i h) ∙ words-blank (get_or line i 0) (drop (i + 1) line) e
-
 pub ended_some : (word : List ℕ) (words : List (List ℕ)) → 0 < length word → ended word words ≡ word ∷ words
 ended_some [] words h = absurd (omega arith)
 ended_some (b ∷ word) words h = refl
 
-pub next_word : {line : List ℕ} {at start end : ℕ} → Skipped line at start → end ≡ start + length (before blank (drop start line)) → NextWord line at (record { start = start; end = end })
-next_word {line} {at} {start} {end} k e =
-    record {
-      ordered = omega arith;
-      within = before-within blank line start e k.within;
-      none = λ h. k.words ∙ (ap words_of (drop_of_length-le line (past h (dec_lt start (length line)))) ∙ words-none);
-      some = λ h.
-          k.words
-          ∙ (words-cut [] (drop start line)
-          ∙ (ended_some (before blank (drop start line)) (words_of (drop (length (before blank (drop start line))) (drop start line))) (omega arith)
-          ∙ (ap (λ l. l ∷ words_of (drop (length (before blank (drop start line))) (drop start line))) (sym (before-part blank line start e))
-          ∙ ap (λ l. part line start end ∷ words_of l) (before-drop blank line start e))));
-    }
+-- a byte of a word
+abbrev pub inked : ℕ → Bool
+inked b = not (blank b)
+
+-- what is left of a line past the blanks in front of its first word
+abbrev pub past_blanks : List ℕ → List ℕ
+past_blanks line = drop (length (before inked line)) line
+
+past-words : (line : List ℕ) → words_of line ≡ words_of (past_blanks line)
+unfolding before
+past-words [] = refl
+past-words (b ∷ s) = go (blank b) refl (past-words s)
   where
-    past : end ≤ start → Dec (start < length line) → length line ≤ start
-    past h (yes l) = absurd (omega (arith, before_on blank line start l (k.there l)))
-    past h (no g) = omega arith
+    go : (t : Bool) → blank b ≡ t → words_of s ≡ words_of (past_blanks s) → words_of (b ∷ s) ≡ words_of (drop (length (cond (not t) [] (b ∷ before inked s))) (b ∷ s))
+    go true q e = words-blank b s q ∙ e
+    go false q e = refl
+
+past_some : (line : List ℕ) → 0 < length (past_blanks line) → 0 < length (before blank (past_blanks line))
+unfolding before
+past_some [] h = absurd (omega arith)
+past_some (b ∷ s) h = go (blank b) refl (past_some s) h
+  where
+    go : (t : Bool) → blank b ≡ t → (0 < length (past_blanks s) → 0 < length (before blank (past_blanks s)))
+        → 0 < length (drop (length (cond (not t) [] (b ∷ before inked s))) (b ∷ s)) → 0 < length (before blank (drop (length (cond (not t) [] (b ∷ before inked s))) (b ∷ s)))
+    go true q e k = e k
+    go false q e k = rw q (omega arith)
+
+module _ (line : List ℕ) {words : List ℕ} (e : words ≡ past_blanks line) where
+  pub word-none : length words ≡ 0 → words_of line ≡ []
+  word-none h = past-words line ∙ (ap words_of (sym e ∙ empty words h) ∙ words-none)
+    where
+      empty : (k : List ℕ) → length k ≡ 0 → k ≡ []
+      empty [] h = refl
+      empty (b ∷ k) h = absurd (omega arith)
+
+  pub word-some : {word rest : List ℕ} → 0 < length words → word ≡ before blank words → rest ≡ drop (length (before blank words)) words → words_of line ≡ word ∷ words_of rest
+  word-some {word} {rest} h q r =
+      past-words line
+      ∙ (ap words_of (sym e)
+      ∙ (words-cut [] words
+      ∙ (ended_some (before blank words) (words_of (drop (length (before blank words)) words)) some
+      ∙ (ap (λ l. l ∷ words_of (drop (length (before blank words)) words)) (sym q)
+      ∙ ap (λ l. word ∷ words_of l) (sym r)))))
+    where
+      some : 0 < length (before blank words)
+      some = rw e (past_some line (rw (← e) h))

@@ -11,10 +11,10 @@ use borrow.Author.Tests.{le-leb, ne_eqb, not-true}
 use Rattle.text_parts.specs.Decimal.{digits, decimal}
 use Rattle.text_parts.proofs.LineLaws.{decimal-value}
 use Rattle.typed_line.specs.declared.entry.Setting.{Setting}
-use Rattle.typed_line.specs.declared.entry.Number.TheVariants.{Is}
+use Rattle.std.specs.Prelude.{Ok}
 use Rattle.typed_line.specs.declared.entry.Entry.TheVariants.{Setting as Settled, Shot}
 use Rattle.typed_line.specs.Words.{before, newline, hash, blank, lines_of, ended, words_of}
-use Rattle.typed_line.specs.Entries.{digits_only, word_number, on_number, setting_of, shot_of}
+use Rattle.typed_line.specs.Entries.{digits_only, word_number, setting_of, shot_of}
 use Rattle.typed_line.proofs.Cutting.{lines_after, lines_cut, words-cut, words-blank, words-none, ended_some}
 use Rattle.ground.proofs.Bools.{and-true}
 use Rattle.typed_line.proofs.Numbers.{number_is}
@@ -134,14 +134,14 @@ module _ (a : ℕ) where
   decimal-some = digits-some 19 a
 
   -- a number of 16 bits, read back from its digits
-  decimal-number : a ≤ 65535 → word_number (decimal a) ≡ Is a
+  decimal-number : a ≤ 65535 → word_number (decimal a) ≡ Ok a
   decimal-number h = sym (number_is (decimal a) a (digits-only (digits_are 20 a)) (decimal-value a (omega arith)) h)
 
 -- ---- a setting and a shot
-pub setting-printed : (s : Setting) (n : ℕ) → n ≤ 65535 → setting_of s (decimal n ∷ []) ≡ Settled s n
-unfolding setting_of on_number
+pub setting-printed : (s : Setting) (n : ℕ) → n ≤ 65535 → setting_of s (decimal n ∷ []) ≡ Ok (Settled s n)
+unfolding setting_of
 setting-printed s n h = rw (decimal-number n h)
 
-pub shot-printed : (x y z : ℕ) → x ≤ 65535 → y ≤ 65535 → z ≤ 65535 → shot_of (decimal x ∷ decimal y ∷ decimal z ∷ []) ≡ Shot x y z
-unfolding shot_of on_number
+pub shot-printed : (x y z : ℕ) → x ≤ 65535 → y ≤ 65535 → z ≤ 65535 → shot_of (decimal x ∷ decimal y ∷ decimal z ∷ []) ≡ Ok (Shot x y z)
+unfolding shot_of
 shot-printed x y z hx hy hz = simp (decimal-number x hx, decimal-number y hy, decimal-number z hz)

@@ -1,115 +1,109 @@
 -- What a line says, by its words. Assumes nothing.
-use mathlib.Core.Path.{◌≡◌}
-use mathlib.Core.Bool.{true, false}
+use mathlib.Core.Path.{◌≡◌, sym, ap, ◌∙◌}
+use mathlib.Core.Bool.{Bool, true, false}
 use mathlib.Core.List.{List, [], ◌∷◌}
 use Prim.Native.Nat.{ℕ}
+use lib.Dec.{eqb}
+use lib.Pointwise.{pointwise}
+use Rattle.std.specs.Prelude.{Ok, Err}
 use Rattle.text_parts.specs.Text.{text}
 use Rattle.text_same.specs.Same.{same}
+use Rattle.text_same.proofs.SameLaws.{pointwise-same}
 use Rattle.typed_line.specs.declared.entry.Setting.{Setting}
 use Rattle.typed_line.specs.declared.entry.Setting.TheVariants.{Field, Edge, Grid}
 use Rattle.typed_line.specs.declared.entry.Command.{Command}
-use Rattle.typed_line.specs.declared.entry.Command.TheVariants.{Set, Shoot, Unknown}
-use Rattle.typed_line.specs.declared.entry.Number.{Number}
-use Rattle.typed_line.specs.declared.entry.Number.TheVariants.{Is, NoDigit, TooLarge}
-use Rattle.typed_line.specs.declared.entry.Mistake.TheVariants.{UnknownWord, TooFewWords, TooManyWords, NoNumber, LargeNumber}
-use Rattle.typed_line.specs.declared.entry.Entry.{Entry}
-use Rattle.typed_line.specs.declared.entry.Entry.TheVariants.{Nothing, Setting as Settled, Shot, Wrong}
+use Rattle.typed_line.specs.declared.entry.Command.TheVariants.{Set, Shoot}
+use Rattle.typed_line.specs.declared.entry.Mistake.{Mistake}
+use Rattle.typed_line.specs.declared.entry.Mistake.TheVariants.{UnknownWord, TooFewWords}
+use Rattle.typed_line.specs.declared.entry.Entry.TheVariants.{Nothing, Setting as Settled, Shot}
+use Rattle.typed_line.specs.Cursors.{only_word}
 use Rattle.typed_line.specs.Entries.{word_number, command_of, on_number, setting_of, shot_of, commanded, entry_of}
 
 -- ---- the first word
+-- what `==` says of a word and a literal
+pub told : (w : List ℕ) {k s : List ℕ} {r b : Bool} → s ≡ k → r ≡ pointwise eqb w s → r ≡ b → same w k ≡ b
+told w {k} {s} e q h = sym (pointwise-same w k) ∙ (ap (pointwise eqb w) (sym e) ∙ (sym q ∙ h))
+
 module _ (w : List ℕ) where
-  pub is_field : same w (text "field") ≡ true → Set Field ≡ command_of w
+  pub is_field : same w (text "field") ≡ true → Ok (Set Field) ≡ command_of w
   unfolding command_of
   is_field e = rw e
 
   module _ (a : same w (text "field") ≡ false) where
-    pub is-edge : same w (text "edge") ≡ true → Set Edge ≡ command_of w
+    pub is-edge : same w (text "edge") ≡ true → Ok (Set Edge) ≡ command_of w
     unfolding command_of
     is-edge e = rw (a, e)
 
     module _ (b : same w (text "edge") ≡ false) where
-      pub is-grid : same w (text "grid") ≡ true → Set Grid ≡ command_of w
+      pub is-grid : same w (text "grid") ≡ true → Ok (Set Grid) ≡ command_of w
       unfolding command_of
       is-grid e = rw (a, b, e)
 
       module _ (c : same w (text "grid") ≡ false) where
-        pub is_shot : same w (text "shot") ≡ true → Shoot ≡ command_of w
+        pub is_shot : same w (text "shot") ≡ true → Ok Shoot ≡ command_of w
         unfolding command_of
         is_shot e = rw (a, b, c, e)
 
-        pub is-unknown : same w (text "shot") ≡ false → Unknown ≡ command_of w
+        pub is-unknown : same w (text "shot") ≡ false → Err UnknownWord ≡ command_of w
         unfolding command_of
         is-unknown e = rw (a, b, c, e)
 
--- ---- numbers
-pub on-is : (make : ℕ → Entry) {number : Number} {n : ℕ} → number ≡ Is n → make n ≡ on_number number make
-unfolding on_number
-on-is make e = rw e
-
-pub on_none : (make : ℕ → Entry) {number : Number} → number ≡ NoDigit → Wrong NoNumber ≡ on_number number make
-unfolding on_number
-on_none make e = rw e
-
-pub on-large : (make : ℕ → Entry) {number : Number} → number ≡ TooLarge → Wrong LargeNumber ≡ on_number number make
-unfolding on_number
-on-large make e = rw e
-
 -- ---- the words after it
 module _ (s : Setting) where
-  pub setting-none : {words : List (List ℕ)} → words ≡ [] → Wrong TooFewWords ≡ setting_of s words
+  pub setting-wrong : (words : List (List ℕ)) {m : Mistake} → only_word words ≡ Err m → Err m ≡ setting_of s words
   unfolding setting_of
-  setting-none e = rw e
+  setting-wrong [] e = cc
+  setting-wrong (n ∷ []) e = cc
+  setting-wrong (n ∷ k ∷ words) e = cc
 
-  module _ {words rest : List (List ℕ)} {n : List ℕ} (e : words ≡ n ∷ rest) where
-    pub setting-one : rest ≡ [] → on_number (word_number n) (Settled s) ≡ setting_of s words
-    unfolding setting_of
-    setting-one q = rw (e, q)
+  pub setting-one : (words : List (List ℕ)) {n : List ℕ} → only_word words ≡ Ok n → on_number (word_number n) (λ a. Ok (Settled s a)) ≡ setting_of s words
+  unfolding setting_of
+  setting-one [] e = cc
+  setting-one (k ∷ []) {n} e = let q : n ≡ k = cc in ap (λ w. on_number (word_number w) (λ a. Ok (Settled s a))) q
+  setting-one (k ∷ j ∷ words) e = cc
 
-    pub setting-more : {m : List ℕ} {others : List (List ℕ)} → rest ≡ m ∷ others → Wrong TooManyWords ≡ setting_of s words
-    unfolding setting_of
-    setting-more q = rw (e, q)
-
-pub shot-none : {words : List (List ℕ)} → words ≡ [] → Wrong TooFewWords ≡ shot_of words
+pub shot-none : {words : List (List ℕ)} → words ≡ [] → Err TooFewWords ≡ shot_of words
 unfolding shot_of
 shot-none e = rw e
 
 module _ {words after : List (List ℕ)} {x : List ℕ} (e : words ≡ x ∷ after) where
-  pub shot-one : after ≡ [] → Wrong TooFewWords ≡ shot_of words
+  pub shot-one : after ≡ [] → Err TooFewWords ≡ shot_of words
   unfolding shot_of
   shot-one q = rw (e, q)
 
-  module _ {after₂ : List (List ℕ)} {y : List ℕ} (f : after ≡ y ∷ after₂) where
-    pub shot-two : after₂ ≡ [] → Wrong TooFewWords ≡ shot_of words
+  module _ {last : List (List ℕ)} {y : List ℕ} (f : after ≡ y ∷ last) where
+    pub shot-wrong : {m : Mistake} → only_word last ≡ Err m → Err m ≡ shot_of words
     unfolding shot_of
-    shot-two q = rw (e, f, q)
+    shot-wrong {m} q = rw (e, f) (go last q)
+      where
+        go : (k : List (List ℕ)) → only_word k ≡ Err m → Err m ≡ shot_of (x ∷ y ∷ k)
+        go [] h = cc
+        go (z ∷ []) h = cc
+        go (z ∷ w ∷ k) h = cc
 
-    module _ {after₃ : List (List ℕ)} {z : List ℕ} (g : after₂ ≡ z ∷ after₃) where
-      pub shot-three : {i j k : Number} → i ≡ word_number x → j ≡ word_number y → k ≡ word_number z → after₃ ≡ [] → on_number i (λ a. on_number j (λ b. on_number k (Shot a b))) ≡ shot_of words
-      unfolding shot_of
-      shot-three hx hy hz q = simp (e, f, g, q, hx, hy, hz)
-
-      pub shot-more : {w : List ℕ} {others : List (List ℕ)} → after₃ ≡ w ∷ others → Wrong TooManyWords ≡ shot_of words
-      unfolding shot_of
-      shot-more q = rw (e, f, g, q)
+    pub shot-three : {z : List ℕ} → only_word last ≡ Ok z → on_number (word_number x) (λ a. on_number (word_number y) (λ b. on_number (word_number z) (λ c. Ok (Shot a b c)))) ≡ shot_of words
+    unfolding shot_of
+    shot-three {z} q = rw (e, f) (go last q)
+      where
+        go : (k : List (List ℕ)) → only_word k ≡ Ok z → on_number (word_number x) (λ a. on_number (word_number y) (λ b. on_number (word_number z) (λ c. Ok (Shot a b c)))) ≡ shot_of (x ∷ y ∷ k)
+        go [] h = cc
+        go (w ∷ []) h = let q : z ≡ w = cc in ap (λ k. on_number (word_number x) (λ a. on_number (word_number y) (λ b. on_number (word_number k) (λ c. Ok (Shot a b c))))) q
+        go (w ∷ v ∷ k) h = cc
 
 -- ---- the line
-pub says_nothing : {words : List (List ℕ)} → words ≡ [] → Nothing ≡ entry_of words
+pub says_nothing : {words : List (List ℕ)} → words ≡ [] → Ok Nothing ≡ entry_of words
 unfolding entry_of
 says_nothing e = rw e
 
-pub says : {words rest : List (List ℕ)} {word : List ℕ} → words ≡ word ∷ rest → commanded (command_of word) rest ≡ entry_of words
-unfolding entry_of
-says e = rw e
+module _ {words rest : List (List ℕ)} {word : List ℕ} (e : words ≡ word ∷ rest) where
+  pub says-wrong : {m : Mistake} → Err m ≡ command_of word → Err m ≡ entry_of words
+  unfolding commanded entry_of
+  says-wrong q = rw (e, ← q)
 
-module _ {command : Command} (words : List (List ℕ)) where
-  pub obeys-set : {s : Setting} → command ≡ Set s → setting_of s words ≡ commanded command words
-  unfolding commanded
-  obeys-set e = rw e
+  pub says-set : {k : Command} {s : Setting} → Ok k ≡ command_of word → k ≡ Set s → setting_of s rest ≡ entry_of words
+  unfolding commanded entry_of
+  says-set q h = rw (e, ← q, h)
 
-  pub obeys-shot : command ≡ Shoot → shot_of words ≡ commanded command words
-  unfolding commanded
-  obeys-shot e = rw e
-
-  pub obeys-none : command ≡ Unknown → Wrong UnknownWord ≡ commanded command words
-  unfolding commanded
-  obeys-none e = rw e
+  pub says-shot : {k : Command} → Ok k ≡ command_of word → k ≡ Shoot → shot_of rest ≡ entry_of words
+  unfolding commanded entry_of
+  says-shot q h = rw (e, ← q, h)

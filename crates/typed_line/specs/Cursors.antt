@@ -1,25 +1,23 @@
--- What the places are that the reading of a line goes by: the end of a line, of its code and of a word, and the next word.
-use Rattle.std.specs.Prelude.{◌≡◌, Bool, false, List, [], ◌∷◌, ℕ, ◌≤◌, ◌<◌, length, drop, get_or}
-use Rattle.typed_line.specs.declared.word.End.{End}
-use Rattle.typed_line.specs.declared.word.End.TheVariants.{Line, Code, Word}
-use Rattle.typed_line.specs.declared.word.Part.{Part}
-use Rattle.typed_line.specs.Words.{newline, hash, blank, words_of, part}
+-- What the reading of a line goes by: its next word, and what stands behind it.
+use Rattle.std.specs.Prelude.{◌≡◌, List, [], ◌∷◌, ℕ, Option, MatchOption, Result, Ok, Err, MatchResult}
+use Rattle.std.specs.Borrow.{Bor}
+use Rattle.typed_line.specs.declared.entry.Mistake.{Mistake}
+use Rattle.typed_line.specs.declared.entry.Mistake.TheVariants.{TooFewWords, TooManyWords}
+use Rattle.typed_line.specs.Words.{words_of}
 
--- the byte that ends a line, what of it is no comment, and a word
-abbrev pub is_end : End → ℕ → Bool
-is_end Line = newline
-is_end Code = hash
-is_end Word = blank
+-- the first word of a line and the words behind it, or that there is none
+abbrev pub NextWord : List ℕ → Option (Bor (List ℕ) × Bor (List ℕ)) → Type 0
+NextWord line r = MatchOption r (words_of line ≡ []) (λ w. words_of line ≡ w.0.now ∷ words_of w.1.now)
 
--- r is the place of the first byte from `at` on that is no blank, or the end
-pub record Skipped (line : List ℕ) (at r : ℕ) : Type 0 where
-  pub within : r ≤ length line
-  pub words : words_of (drop at line) ≡ words_of (drop r line)
-  pub there : r < length line → blank (get_or line r 0) ≡ false
+-- the same where a word has to be there
+abbrev pub OneWord : List ℕ → Result (Bor (List ℕ) × Bor (List ℕ)) Mistake → Type 0
+OneWord line r = MatchResult r (λ w. words_of line ≡ w.0.now ∷ words_of w.1.now) (λ m. (words_of line ≡ []) × (m ≡ TooFewWords))
 
--- the first word from `at` on and the words after it, or that there is none
-pub record NextWord (line : List ℕ) (at : ℕ) (w : Part) : Type 0 where
-  pub ordered : w.start ≤ w.end
-  pub within : w.end ≤ length line
-  pub none : w.end ≤ w.start → words_of (drop at line) ≡ []
-  pub some : w.start < w.end → words_of (drop at line) ≡ part line w.start w.end ∷ words_of (drop w.end line)
+-- the word of a line that has to have just one
+abbrev pub only_word : List (List ℕ) → Result (List ℕ) Mistake
+only_word [] = Err TooFewWords
+only_word (word ∷ []) = Ok word
+only_word (word ∷ more ∷ words) = Err TooManyWords
+
+abbrev pub OnlyWord : List ℕ → Result (Bor (List ℕ)) Mistake → Type 0
+OnlyWord line r = MatchResult r (λ w. only_word (words_of line) ≡ Ok w.now) (λ m. only_word (words_of line) ≡ Err m)

@@ -1,85 +1,31 @@
 // Where lines, comments and words end.
-ghost use Rattle.std.specs.Prelude.{◌≡◌, ◌+◌, ◌≤◌, length, drop};
+ghost use Rattle.std.specs.Prelude.{Bool, ◌≡◌, ℕ, length, drop};
 ghost use Rattle.typed_line.specs.Words.{before, blank};
-ghost use Rattle.typed_line.specs.Cursors.{is_end, Skipped, NextWord};
-
-// What ends at a byte.
-#[derive(Clone, Copy)]
-pub enum End {
-    Line,
-    Code,
-    Word,
-}
-
-// A part of a line: the place where it starts, and the place after it.
-#[derive(Clone, Copy)]
-pub struct Part {
-    pub start: usize,
-    pub end: usize,
-}
+ghost use Rattle.typed_line.specs.Cursors.{NextWord};
 
 fn is_blank(b: u8) -> bool
     ensures { result ≡ blank b }
 {
-    if b == 32 {
-        return true;
-    }
-    if b == 9 {
-        return true;
-    }
-    b == 13
+    matches!(b, b' ' | b'\t' | b'\r')
 }
 
-fn is_end(what: End, b: u8) -> bool
-    ensures { result ≡ is_end what b }
+// The bytes before the first that a test passes, and the bytes from that one on.
+pub fn until<F: Fn(u8) -> bool>(s: &[u8], ends: F) -> (&[u8], &[u8])
+    requires { F.IsAlwaysCallable ends }
+    ensures before { (p : ℕ → Bool) → ((b : ℕ) (r : Bool) → F.post ends b r → r ≡ p b) → result.0.now ≡ before p s.now }
+    ensures rest { (p : ℕ → Bool) → ((b : ℕ) (r : Bool) → F.post ends b r → r ≡ p b) → result.1.now ≡ drop (length (before p s.now)) s.now }
 {
-    match what {
-        End::Line => b == 10,
-        End::Code => b == 35,
-        End::Word => is_blank(b),
-    }
+    let end = s.iter().position(|b| ends(*b)).unwrap_or(s.len());
+    s.split_at(end)
 }
 
-// The place of the first byte from `at` on that ends it, or the end of the bytes.
-pub fn until(s: &[u8], at: usize, what: End) -> usize
-    requires { at ≤ length s.now }
-    ensures { result ≡ at + length (before (is_end what) (drop at s.now)) }
+// The first word of a line, and what stands behind it; none where the line has only blanks.
+pub fn next_word(line: &[u8]) -> Option<(&[u8], &[u8])>
+    ensures { NextWord line.now result }
 {
-    let mut i = at;
-    while i < s.len() {
-        if is_end(what, s[i]) {
-            return i;
-        }
-        i += 1;
+    let (_, words) = until(line, |b| !is_blank(b));
+    if words.is_empty() {
+        return None;
     }
-    i
-}
-
-// The place of the first byte from `at` on that is no blank, or the end of the line.
-fn past_blanks(s: &[u8], at: usize) -> usize
-    requires { at ≤ length s.now }
-    ensures { Skipped s.now at result }
-{
-    let mut i = at;
-    while i < s.len() {
-        if is_blank(s[i]) {
-            i += 1;
-        } else {
-            return i;
-        }
-    }
-    i
-}
-
-// The next word from a place on; it starts where it ends if there is none.
-pub fn next_word(line: &[u8], at: usize) -> Part
-    requires { at ≤ length line.now }
-    ensures { NextWord line.now at result }
-{
-    let start = past_blanks(line, at);
-    let end = until(line, start, End::Word);
-    Part {
-        start: start,
-        end: end,
-    }
+    Some(until(words, is_blank))
 }

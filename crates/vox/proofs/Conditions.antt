@@ -10,8 +10,8 @@ use lib.Dec.{ltb, leb, eqb}
 use lib.ListN.{length, take, drop}
 use Rattle.refusals.specs.declared.Refusal.{Refusal}
 use Rattle.refusals.specs.declared.Refusal.TheVariants.{TooManyShots, NoPlace, NotVox, BrokenChunk, VoxelRange}
-use Rattle.refusals.specs.declared.Checked.{Checked}
-use Rattle.refusals.specs.declared.Checked.TheVariants.{Accepted, Refused}
+use Rattle.refusals.specs.Refusals.{Checked}
+use Rattle.std.specs.Prelude.{Ok, Err}
 use Rattle.job.specs.Job.{shot_count}
 use Rattle.refusals.specs.Tests.{Test, first_of}
 use Rattle.refusals.specs.Deciding.{Each, Says, First, Decides}
@@ -20,8 +20,7 @@ use Rattle.job.proofs.Tests.{outside-says}
 use Rattle.refusals.proofs.FirstOf.{none_each}
 use Rattle.refusals.proofs.Deciding.{decides-by, decides-as}
 use Rattle.shotfile_reader.specs.Calls.{read_answer}
-use Rattle.shotfile_reader.specs.declared.ReadAnswer.{ReadAnswer}
-use Rattle.shotfile_reader.specs.declared.ReadAnswer.TheVariants.{Read, Refused as Unread}
+use Rattle.shotfile_reader.specs.Calls.{ReadAnswer}
 use Rattle.text_same.proofs.SameLaws.{same-iff}
 use Rattle.text_parts.specs.Text.{text}
 use Rattle.vox_chunks.specs.Chunks.{number_at, stands, content_at, children_at, after_chunk, missing, overruns, mismatched}
@@ -221,13 +220,13 @@ module _ (places : ℕ) (s : List ℕ) where
   abbrev said : Checked → ReadAnswer
   said c = read_answer (given s c)
 
-  says-read : (c : Checked) → (c ≡ Accepted) ↔ (said c ≡ Read (largest_side s) 1 1 (voxel_count s))
-  says-read Accepted = (λ e. rw (voxels-count s 0 (voxel_count s)), λ e. refl)
-  says-read (Refused r) = (λ e. let z : ◌≡◌ {A = ℕ} 0 1 = cc in absurd (omega arith), λ e. let z : ◌≡◌ {A = ℕ} 0 1 = cc in absurd (omega arith))
+  says-read : (c : Checked) → (c ≡ Ok tt) ↔ (said c ≡ Ok (record { field = largest_side s; edge = 1; grid = 1; shots = voxel_count s }))
+  says-read (Ok tt) = (λ e. rw (voxels-count s 0 (voxel_count s)), λ e. refl)
+  says-read (Err r) = (λ e. let z : ◌≡◌ {A = ℕ} 0 1 = cc in absurd (omega arith), λ e. let z : ◌≡◌ {A = ℕ} 0 1 = cc in absurd (omega arith))
 
-  says-refused : (c : Checked) (q : Refusal) → (c ≡ Refused q) ↔ (said c ≡ Unread q)
-  says-refused Accepted q = (λ e. let z : ◌≡◌ {A = ℕ} 0 1 = cc in absurd (omega arith), λ e. let z : ◌≡◌ {A = ℕ} 0 1 = cc in absurd (omega arith))
-  says-refused (Refused r) q = (λ e. let z : r ≡ q = cc in ap Unread z, λ e. let z : r ≡ q = cc in ap Refused z)
+  says-refused : (c : Checked) (q : Refusal) → (c ≡ Err q) ↔ (said c ≡ Err q)
+  says-refused (Ok tt) q = (λ e. let z : ◌≡◌ {A = ℕ} 0 1 = cc in absurd (omega arith), λ e. let z : ◌≡◌ {A = ℕ} 0 1 = cc in absurd (omega arith))
+  says-refused (Err r) q = (λ e. let z : r ≡ q = cc in ap Err z, λ e. let z : r ≡ q = cc in ap Err z)
 
 -- ---- the call
 module _ {s before after : List ℕ} {r : ReadAnswer} (call : VoxCall s before r after) where
@@ -236,14 +235,14 @@ module _ {s before after : List ℕ} {r : ReadAnswer} (call : VoxCall s before r
   told = call.answer
 
   -- a file is read exactly if no condition holds: with the largest side as field, edge 1, grid 1 and a shot for each voxel
-  pub vox-accepts : (r ≡ Read (largest_side s) 1 1 (voxel_count s)) ↔ ((q : Refusal) → ¬ VoxCondition (shot_count before) s q)
+  pub vox-accepts : (r ≡ Ok (record { field = largest_side s; edge = 1; grid = 1; shots = voxel_count s })) ↔ ((q : Refusal) → ¬ VoxCondition (shot_count before) s q)
   vox-accepts =
       let i = says-read (shot_count before) s (first_of (vox_tests (shot_count before) s)) in
       let h = (vox-decides (shot_count before) s).accepted in
       (λ e. h.0 (i.1 (sym told ∙ e)), λ n. told ∙ i.0 (h.1 n))
 
   -- each refusal is given exactly if its condition holds and that of no test before it does
-  pub vox-refuses : (q : Refusal) → (r ≡ Unread q) ↔ First (VoxCondition (shot_count before) s) (vox_tests (shot_count before) s) q
+  pub vox-refuses : (q : Refusal) → (r ≡ Err q) ↔ First (VoxCondition (shot_count before) s) (vox_tests (shot_count before) s) q
   vox-refuses q =
       let i = says-refused (shot_count before) s (first_of (vox_tests (shot_count before) s)) q in
       let h = (vox-decides (shot_count before) s).refused q in

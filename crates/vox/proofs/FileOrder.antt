@@ -9,12 +9,11 @@ use lib.ListN.{length}
 use Rattle.refusals.specs.declared.Refusal.{Refusal}
 use Rattle.refusals.specs.Refusals.{number_of, detail_of}
 use Rattle.refusals.specs.Tests.{Test, first_of}
-use Rattle.refusals.specs.declared.Checked.{Checked}
-use Rattle.refusals.specs.declared.Checked.TheVariants.{Accepted, Refused}
+use Rattle.refusals.specs.Refusals.{Checked}
+use Rattle.std.specs.Prelude.{Ok, Err}
 use Rattle.refusals.specs.Deciding.{Each, First}
 use Rattle.job.specs.Job.{shot_count}
-use Rattle.shotfile_reader.specs.declared.ReadAnswer.{ReadAnswer}
-use Rattle.shotfile_reader.specs.declared.ReadAnswer.TheVariants.{Refused as Unread}
+use Rattle.shotfile_reader.specs.Calls.{ReadAnswer}
 use Rattle.vox_voxels.proofs.VoxelLaws.{wrong_first}
 use Rattle.vox.specs.Vox.{voxel_count, overrun_from, opening_tests, voxel_tests, vox_tests, VoxCall}
 use Rattle.vox.specs.Conditions.{VoxCondition}
@@ -105,22 +104,22 @@ module _ (places : ℕ) (s : List ℕ) where
         (others-after (VoxCondition places s) f.before f.here f.after (subst InFileOrder f.is (vox-in-order places s)) f.none_before (subst (Among q) f.is (listed places s q c)) c);
   }
 
-  only-there : {q : Refusal} → FirstInFile (VoxCondition places s) q → first_of (vox_tests places s) ≡ Refused q
+  only-there : {q : Refusal} → FirstInFile (VoxCondition places s) q → first_of (vox_tests places s) ≡ Err q
   only-there {q} f = go (first_of (vox_tests places s)) refl
     where
-      same : {p : Refusal} → FirstInFile (VoxCondition places s) p → (q ≡ p) ⊎ Precedes p q → (p ≡ q) ⊎ Precedes q p → Refused p ≡ Refused q
-      same g (inl e) b = ap Refused (sym e)
-      same g (inr a) (inl e) = ap Refused e
+      same : {p : Refusal} → FirstInFile (VoxCondition places s) p → (q ≡ p) ⊎ Precedes p q → (p ≡ q) ⊎ Precedes q p → ◌≡◌ {A = Checked} (Err p) (Err q)
+      same g (inl e) b = ap Err (sym e)
+      same g (inr a) (inl e) = ap Err e
       same g (inr a) (inr b) = absurd (never_both a b)
 
-      go : (c : Checked) → first_of (vox_tests places s) ≡ c → c ≡ Refused q
-      go Accepted e = absurd ((vox-decides places s).accepted.0 e q f.holds)
-      go (Refused p) e =
+      go : (c : Checked) → first_of (vox_tests places s) ≡ c → c ≡ Err q
+      go (Ok tt) e = absurd ((vox-decides places s).accepted.0 e q f.holds)
+      go (Err p) e =
           let g = first-there (((vox-decides places s).refused p).0 e) in
           same g (g.others_later q f.holds) (f.others_later p g.holds)
 
 -- ---- the call: each refusal is given exactly if its condition holds and any other whose condition holds comes after it in the file
-pub vox-first : {s before after : List ℕ} {r : ReadAnswer} → VoxCall s before r after → (q : Refusal) → (r ≡ Unread q) ↔ FirstInFile (VoxCondition (shot_count before) s) q
+pub vox-first : {s before after : List ℕ} {r : ReadAnswer} → VoxCall s before r after → (q : Refusal) → (r ≡ Err q) ↔ FirstInFile (VoxCondition (shot_count before) s) q
 vox-first {s} {before} call q =
     let i = vox-refuses call q in
     let places = shot_count before in

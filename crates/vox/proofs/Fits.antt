@@ -3,8 +3,8 @@ use mathlib.Core.Path.{◌≡◌, refl, sym}
 use mathlib.Core.List.{List}
 use Prim.Native.Nat.{ℕ}
 use native.Mathlib.Omega.{arith}
-use Rattle.refusals.specs.declared.Checked.{Checked}
-use Rattle.refusals.specs.declared.Checked.TheVariants.{Accepted, Refused}
+use Rattle.refusals.specs.Refusals.{Checked}
+use Rattle.std.specs.Prelude.{Ok, Err}
 use Rattle.job.specs.Job.{Job}
 use Rattle.refusals.specs.Tests.{first_of}
 use Rattle.shotfile_reader.specs.Files.{file}
@@ -18,8 +18,8 @@ module _ (places : ℕ) (s : List ℕ) where
   vox-fits = go (first_of (vox_tests places s)) refl
     where
       go : (c : Checked) → first_of (vox_tests places s) ≡ c → Fits places (given s c)
-      go Accepted e = (voxels-whole s 0 (voxel_count s), omega (arith, voxels-count s 0 (voxel_count s), (passed-has places s (sym e)).room))
-      go (Refused r) e = tt
+      go (Ok tt) e = (voxels-whole s 0 (voxel_count s), omega (arith, voxels-count s 0 (voxel_count s), (passed-has places s (sym e)).room))
+      go (Err r) e = tt
 
   -- an accepted file
   pub record Accepts (job : Job) : Type 0 where
@@ -31,5 +31,5 @@ module _ (places : ℕ) (s : List ℕ) where
   vox-accepted {job} e = go (first_of (vox_tests places s)) refl e
     where
       go : (c : Checked) → first_of (vox_tests places s) ≡ c → given s c ≡ file job → Accepts job
-      go (Refused r) h k = let z : ◌≡◌ {A = ℕ} 0 1 = cc in absurd (omega arith)
-      go Accepted h k = record { passed = passed-has places s (sym h); is = let z : vox_job s ≡ job = cc in z }
+      go (Err r) h k = let z : ◌≡◌ {A = ℕ} 0 1 = cc in absurd (omega arith)
+      go (Ok tt) h k = record { passed = passed-has places s (sym h); is = let z : vox_job s ≡ job = cc in z }

@@ -7,8 +7,8 @@ use lib.ListN.{length}
 use borrow.Author.Tests.{ltb-false}
 use Rattle.buffer.specs.Wrote.{in_front}
 use Rattle.refusals.specs.declared.Refusal.{Refusal}
-use Rattle.refusals.specs.declared.Checked.{Checked}
-use Rattle.refusals.specs.declared.Checked.TheVariants.{Accepted, Refused}
+use Rattle.refusals.specs.Refusals.{Checked}
+use Rattle.std.specs.Prelude.{Ok, Err}
 use Rattle.job.specs.Job.{shot_count, place_of}
 use Rattle.refusals.specs.Tests.{first_of, if_accepted}
 use Rattle.ground.proofs.Bools.{or-false}
@@ -16,7 +16,6 @@ use Rattle.job.proofs.Tests.{within}
 use Rattle.refusals.proofs.FirstOf.{passes, first-passed, first-stopped}
 use Rattle.shotfile_reader.specs.Files.{File, file, refused}
 use Rattle.shotfile_reader.specs.Calls.{read_answer, read_numbers, read_values, read_coords}
-use Rattle.shotfile_reader.specs.declared.ReadAnswer.TheVariants.{Read, Refused as Unread}
 use Rattle.shotfile_reader.proofs.Coords.{count_none, count-more, places-more}
 use Rattle.vox_chunks.proofs.ChunkLaws.{matched-whole}
 use Rattle.vox_voxels.specs.Voxels.{side_on, wrong_side, largest_side, voxel_at, first_wrong}
@@ -24,14 +23,14 @@ use Rattle.vox.specs.Vox.{voxel_count, voxel_fields, voxels, opening_tests, voxe
 
 -- ---- the two parts of the checks
 module _ (places : ℕ) (s : List ℕ) where
-  pub opening-refused : {r : Refusal} → Refused r ≡ first_of (opening_tests s) → Refused r ≡ first_of (vox_tests places s)
+  pub opening-refused : {r : Refusal} → Err r ≡ first_of (opening_tests s) → Err r ≡ first_of (vox_tests places s)
   opening-refused e = sym (first-stopped (voxel_tests places s) (opening_tests s) (sym e))
 
-  pub opening-passed : {c : Checked} → Accepted ≡ first_of (opening_tests s) → c ≡ first_of (voxel_tests places s) → c ≡ first_of (vox_tests places s)
+  pub opening-passed : {c : Checked} → Ok tt ≡ first_of (opening_tests s) → c ≡ first_of (voxel_tests places s) → c ≡ first_of (vox_tests places s)
   opening-passed e k = k ∙ sym (first-passed (voxel_tests places s) (opening_tests s) (sym e))
 
   -- SIZE is whole
-  pub size-whole : Accepted ≡ first_of (opening_tests s) → 44 ≤ length s
+  pub size-whole : Ok tt ≡ first_of (opening_tests s) → 44 ≤ length s
   unfolding opening_tests
   size-whole e = matched-whole s 20 12 ((passes (opening_tests s)).0 (sym e)).1.1.1.1.0
 
@@ -45,7 +44,7 @@ pub record Passed (places : ℕ) (s : List ℕ) : Type 0 where
   pub room : voxel_count s ≤ places
   pub none-wrong : voxel_count s ≤ first_wrong s 0 (voxel_count s)
 
-pub passed-has : (places : ℕ) (s : List ℕ) → Accepted ≡ first_of (vox_tests places s) → Passed places s
+pub passed-has : (places : ℕ) (s : List ℕ) → Ok tt ≡ first_of (vox_tests places s) → Passed places s
 unfolding opening_tests voxel_tests
 passed-has places s e =
     let p = ((passes (vox_tests places s)).0 (sym e)).1.1.1.1.1 in
@@ -86,7 +85,7 @@ module _ (s before : List ℕ) where
   unfolding vox_in
   vox-is e = ap (given s) e
 
-  pub vox-refused : {r : Refusal} → Refused r ≡ first_of (vox_tests (shot_count before) s) → VoxCall s before (Unread r) before
+  pub vox-refused : {r : Refusal} → Err r ≡ first_of (vox_tests (shot_count before) s) → VoxCall s before (Err r) before
   unfolding read_numbers read_values
   vox-refused e =
       let k = vox-is e in
@@ -96,8 +95,8 @@ module _ (s before : List ℕ) where
         coordinates = ap (λ (f : File). read_coords f before) k;
       }
 
-  pub vox-read : Accepted ≡ first_of (vox_tests (shot_count before) s) → {count field : ℕ} {after : List ℕ} → count ≡ voxel_count s → field ≡ largest_side s
-      → after ≡ in_front (voxels s 0 count) before → VoxCall s before (Read field 1 1 count) after
+  pub vox-read : Ok tt ≡ first_of (vox_tests (shot_count before) s) → {count field : ℕ} {after : List ℕ} → count ≡ voxel_count s → field ≡ largest_side s
+      → after ≡ in_front (voxels s 0 count) before → VoxCall s before (Ok (record { field = field; edge = 1; grid = 1; shots = count })) after
   unfolding read_numbers read_values
   vox-read e {count} {field} n f a =
       let k = vox-is e in

@@ -16,7 +16,8 @@ use Rattle.ground.proofs.Tests.{leb-says, ltb-says, and-says}
 use Rattle.job.proofs.Shots.{shots-at, stay_all, any_at, at-any}
 use Rattle.grid.proofs.NeedLaws.{one-cell-need}
 use Rattle.shotfile_reader.specs.Files.{file}
-use Rattle.shotfile_reader.specs.declared.ReadAnswer.TheVariants.{Read}
+use Rattle.std.specs.Prelude.{Ok}
+use Rattle.job.specs.declared.Stored.{Stored}
 use Rattle.shotfile_reader.proofs.Coords.{shots-more}
 use Rattle.shotfile_reader.proofs.Accepted.{stored-list}
 use Rattle.vox_voxels.specs.Voxels.{side_on, largest_side, byte_of, beyond, wrong_voxel}
@@ -120,7 +121,7 @@ vox-list places s e =
     })
 
 -- ---- the call: the list that it stores
-pub vox-stored : {s before after : List ℕ} {F E G n : ℕ} → VoxCall s before (Read F E G n) after → VoxList s (job_of F E G (first_shots n after))
+pub vox-stored : {s before after : List ℕ} {list : Stored} → VoxCall s before (Ok list) after → VoxList s (job_of list.field list.edge list.grid (first_shots list.shots after))
 vox-stored {s} {before} call =
     let k = stored-list (vox_in (shot_count before) s) (record { answer = call.answer; coordinates = call.coordinates; fits = vox-fits (shot_count before) s }) refl in
     vox-list (shot_count before) s k.is

@@ -7,8 +7,7 @@ use Rattle.refusals.specs.Tests.{Test, first_of, if_accepted}
 use Rattle.shotfile_records.specs.declared.Fields.{Fields}
 use Rattle.shotfile_reader.specs.Files.{File, file, refused}
 use Rattle.shotfile_records.specs.Numbers.{shot_numbers}
-use Rattle.shotfile_reader.specs.Calls.{read_answer, read_numbers, read_values, read_coords}
-use Rattle.shotfile_reader.specs.declared.ReadAnswer.{ReadAnswer}
+use Rattle.shotfile_reader.specs.Calls.{ReadAnswer, read_answer, read_numbers, read_values, read_coords}
 use Rattle.text_parts.specs.Text.{text}
 use Rattle.vox_chunks.specs.Chunks.{number_at, stands, content_at, after_chunk, missing, overruns, mismatched}
 use Rattle.vox_voxels.specs.Voxels.{wrong_side, largest_side, voxel_at, byte_of, first_wrong}

@@ -14,8 +14,8 @@ ghost use Rattle.vox_chunks.specs.Chunks.{mismatched};
 ghost use Rattle.vox_voxels.specs.Voxels.{voxel_at};
 ghost use Rattle.vox.specs.Vox.{unmarked, unfilled, voxel_count, voxels, overrun_from, opening_tests, voxel_tests, vox_tests, VoxCall};
 
-use refusals::{Checked, Refusal};
-use shotfile_reader::ReadAnswer;
+use job::Stored;
+use refusals::Refusal;
 use vox_chunks::{after_chunk, is_mismatched, is_missing, is_overrun, is_there, number};
 use vox_voxels::{first_wrong, has_wrong_side, largest_side};
 
@@ -46,62 +46,50 @@ const VOXELS_AT: usize = 60;
 fn is_unmarked(bytes: &[u8]) -> bool
     ensures { result ≡ unmarked bytes.now }
 {
-    if bytes.len() < 8 {
-        return true;
-    }
-    if is_there(bytes, 0, &MARK) {
-        return number(bytes, 4) != VERSION;
-    }
-    true
+    bytes.len() < 8 || !is_there(bytes, 0, &MARK) || number(bytes, 4) != VERSION
 }
 
 // Whether MAIN, at 8, has content, or children that do not fill the file.
 fn is_unfilled(bytes: &[u8]) -> bool
     ensures { result ≡ unfilled bytes.now }
 {
-    if bytes.len() < SIZE_AT {
-        return true;
-    }
-    if number(bytes, MAIN_AT + 4) != 0 {
-        return true;
-    }
-    after_chunk(bytes, MAIN_AT) != bytes.len()
+    bytes.len() < SIZE_AT
+        || number(bytes, MAIN_AT + 4) != 0
+        || after_chunk(bytes, MAIN_AT) != bytes.len()
 }
 
 // Checks the mark, MAIN and SIZE.
-fn check_opening(bytes: &[u8]) -> Checked
+fn check_opening(bytes: &[u8]) -> Result<(), Refusal>
     ensures { result ≡ first_of (opening_tests bytes.now) }
 {
     if is_unmarked(bytes) {
-        return Checked::Refused(Refusal::NotVox { at: 0 });
+        return Err(Refusal::NotVox { at: 0 });
     }
     if is_missing(bytes, MAIN_AT, &MAIN) {
-        return Checked::Refused(Refusal::NotVox { at: MAIN_AT });
+        return Err(Refusal::NotVox { at: MAIN_AT });
     }
     if is_unfilled(bytes) {
-        return Checked::Refused(Refusal::BrokenChunk { at: MAIN_AT });
+        return Err(Refusal::BrokenChunk { at: MAIN_AT });
     }
     if is_missing(bytes, SIZE_AT, &SIZE) {
-        return Checked::Refused(Refusal::NotVox { at: SIZE_AT });
+        return Err(Refusal::NotVox { at: SIZE_AT });
     }
     if is_mismatched(bytes, SIZE_AT, 12) {
-        return Checked::Refused(Refusal::BrokenChunk { at: SIZE_AT });
+        return Err(Refusal::BrokenChunk { at: SIZE_AT });
     }
     if has_wrong_side(bytes) {
-        return Checked::Refused(Refusal::VoxelRange { at: SIZE_AT });
+        return Err(Refusal::VoxelRange { at: SIZE_AT });
     }
-    Checked::Accepted
+    Ok(())
 }
 
 // The first chunk from a place on that the file ends in, or where the last one ends.
+// Kept so: each step is as long as the chunk that stands there, so that no range or part of a slice has these places.
 fn first_overrun(bytes: &[u8], start: usize) -> usize
     ensures { result ≡ overrun_from bytes.now start }
 {
     let mut at = start;
-    while at < bytes.len() {
-        if is_overrun(bytes, at) {
-            return at;
-        }
+    while at < bytes.len() && !is_overrun(bytes, at) {
         at = after_chunk(bytes, at);
     }
     at
@@ -112,52 +100,47 @@ fn is_miscounted(bytes: &[u8]) -> bool
     requires { 44 ≤ length bytes.now }
     ensures { result ≡ mismatched bytes.now 44 (4 + 4 * voxel_count bytes.now) }
 {
-    if bytes.len() < VOXELS_AT {
-        return true;
-    }
-    let count = number(bytes, COUNT_AT);
-    is_mismatched(bytes, XYZI_AT, 4 + 4 * (count as usize))
+    bytes.len() < VOXELS_AT
+        || is_mismatched(bytes, XYZI_AT, 4 + 4 * number(bytes, COUNT_AT) as usize)
 }
 
 // Checks XYZI, where so many shots have a place, and the chunks after it.
-fn check_voxels(bytes: &[u8], places: usize) -> Checked
+fn check_voxels(bytes: &[u8], places: usize) -> Result<(), Refusal>
     requires { 44 ≤ length bytes.now }
     ensures { result ≡ first_of (voxel_tests places bytes.now) }
 {
     if is_missing(bytes, XYZI_AT, &XYZI) {
-        return Checked::Refused(Refusal::NotVox { at: XYZI_AT });
+        return Err(Refusal::NotVox { at: XYZI_AT });
     }
     if is_miscounted(bytes) {
-        return Checked::Refused(Refusal::BrokenChunk { at: XYZI_AT });
+        return Err(Refusal::BrokenChunk { at: XYZI_AT });
     }
     let count = number(bytes, COUNT_AT) as usize;
     if 4096 < count {
-        return Checked::Refused(Refusal::TooManyShots { at: XYZI_AT });
+        return Err(Refusal::TooManyShots { at: XYZI_AT });
     }
     if places < count {
-        return Checked::Refused(Refusal::NoPlace { at: XYZI_AT });
+        return Err(Refusal::NoPlace { at: XYZI_AT });
     }
     let n = first_wrong(bytes, count);
     if n < count {
-        return Checked::Refused(Refusal::VoxelRange {
+        return Err(Refusal::VoxelRange {
             at: VOXELS_AT + 4 * n,
         });
     }
     let at = first_overrun(bytes, VOXELS_AT + 4 * count);
     if at < bytes.len() {
-        return Checked::Refused(Refusal::BrokenChunk { at: at });
+        return Err(Refusal::BrokenChunk { at });
     }
-    Checked::Accepted
+    Ok(())
 }
 
 // Checks a whole file.
-fn check_file(bytes: &[u8], places: usize) -> Checked
+fn check_file(bytes: &[u8], places: usize) -> Result<(), Refusal>
     ensures { result ≡ first_of (vox_tests places bytes.now) }
 {
-    match check_opening(bytes) {
-        Checked::Refused(refusal) => Checked::Refused(refusal),
-        Checked::Accepted => check_voxels(bytes, places),
-    }
+    check_opening(bytes)?;
+    check_voxels(bytes, places)
 }
 
 // Stores a voxel as shot n.
@@ -165,7 +148,7 @@ fn put_voxel(coords: &mut [u16], n: usize, x: u8, y: u8, z: u8)
     requires { n < shot_count coords.old }
     ensures { Wrote coords.old coords.new (place_of n) (place_of (n + 1)) (numbers_of x y z) }
 {
-    job::shot::put(coords, n, x as u16, y as u16, z as u16);
+    job::shot::put(coords, n, u16::from(x), u16::from(y), u16::from(z));
 }
 
 // Stores so many voxels as shots.
@@ -174,29 +157,23 @@ fn store_voxels(bytes: &[u8], coords: &mut [u16], count: usize)
     requires count_bound { count ≤ shot_count coords.old }
     ensures { coords.new ≡ in_front (voxels bytes.now 0 count) coords.old }
 {
-    let mut n = 0;
-    while n < count {
+    for n in 0..count {
         let at = VOXELS_AT + 4 * n;
         put_voxel(coords, n, bytes[at], bytes[at + 1], bytes[at + 2]);
-        n += 1;
     }
 }
 
 // Reads a VOX file into the coordinate slice, or says why not.
-pub fn read_vox(bytes: &[u8], coords: &mut [u16]) -> ReadAnswer
+pub fn read_vox(bytes: &[u8], coords: &mut [u16]) -> Result<Stored, Refusal>
     ensures { VoxCall bytes.now coords.old result coords.new }
 {
-    match check_file(bytes, job::shot::count(coords)) {
-        Checked::Refused(refusal) => ReadAnswer::Refused(refusal),
-        Checked::Accepted => {
-            let count = number(bytes, COUNT_AT) as usize;
-            store_voxels(bytes, coords, count);
-            ReadAnswer::Read {
-                field: largest_side(bytes),
-                edge: 1,
-                grid: 1,
-                shots: count,
-            }
-        }
-    }
+    check_file(bytes, job::shot::count(coords))?;
+    let shots = number(bytes, COUNT_AT) as usize;
+    store_voxels(bytes, coords, shots);
+    Ok(Stored {
+        field: largest_side(bytes),
+        edge: 1,
+        grid: 1,
+        shots,
+    })
 }

@@ -1,1 +1,1 @@
-pub mod ChunkLaws  -- the tests of a chunk, and what a chunk has that passes
+pub mod ChunkLaws  -- a name that stands, and what a chunk has that passes the tests

@@ -5,21 +5,12 @@
 ghost use Rattle.std.specs.Prelude.{◌≡◌, ◌+◌, ◌*◌, ◌≤◌, length};
 ghost use Rattle.vox_chunks.specs.Chunks.{number_at, stands, after_chunk, missing, overruns, mismatched};
 
-use text_same::same_bytes;
-
-// The number of four bytes, the least first.
-fn joined(first: u8, second: u8, third: u8, fourth: u8) -> u32
-    ensures { result ≡ first + 256 * second + 65536 * third + 16777216 * fourth }
-{
-    (first as u32) + 256 * (second as u32) + 65536 * (third as u32) + 16777216 * (fourth as u32)
-}
-
 // The 32-bit number at a place.
 pub fn number(bytes: &[u8], at: usize) -> u32
     requires { at + 4 ≤ length bytes.now }
     ensures { result ≡ number_at bytes.now at }
 {
-    joined(bytes[at], bytes[at + 1], bytes[at + 2], bytes[at + 3])
+    u32::from_le_bytes([bytes[at], bytes[at + 1], bytes[at + 2], bytes[at + 3]])
 }
 
 // Whether these four bytes stand at a place.
@@ -28,23 +19,14 @@ pub fn is_there(bytes: &[u8], at: usize, name: &[u8]) -> bool
     ensures { result ≡ stands bytes.now at name.now }
 {
     let end = at + 4;
-    same_bytes(&bytes[at..end], name)
+    &bytes[at..end] == name
 }
 
 // Whether a required chunk is missing at a place, for 13.
 pub fn is_missing(bytes: &[u8], at: usize, name: &[u8]) -> bool
     ensures { result ≡ missing bytes.now at name.now }
 {
-    if bytes.len() <= at {
-        return true;
-    }
-    if bytes.len() - at < 4 {
-        return false;
-    }
-    if is_there(bytes, at, name) {
-        return false;
-    }
-    true
+    bytes.len() <= at || (4 <= bytes.len() - at && !is_there(bytes, at, name))
 }
 
 // The place after a chunk with its content and its children.
@@ -52,9 +34,9 @@ pub fn after_chunk(bytes: &[u8], at: usize) -> usize
     requires { at + 12 ≤ length bytes.now }
     ensures { result ≡ after_chunk bytes.now at }
 {
-    let content = number(bytes, at + 4);
-    let children = number(bytes, at + 8);
-    at + 12 + (content as usize) + (children as usize)
+    let content = number(bytes, at + 4) as usize;
+    let children = number(bytes, at + 8) as usize;
+    at + 12 + content + children
 }
 
 // Whether the file ends before the chunk at a place does, for 14.
@@ -62,10 +44,7 @@ pub fn is_overrun(bytes: &[u8], at: usize) -> bool
     requires { at ≤ length bytes.now }
     ensures { result ≡ overruns bytes.now at }
 {
-    if bytes.len() - at < 12 {
-        return true;
-    }
-    bytes.len() < after_chunk(bytes, at)
+    bytes.len() - at < 12 || bytes.len() < after_chunk(bytes, at)
 }
 
 // Whether the chunk at a place is not whole, has children or has content of another size, for 14.
@@ -73,11 +52,5 @@ pub fn is_mismatched(bytes: &[u8], at: usize, content: usize) -> bool
     requires { at ≤ length bytes.now }
     ensures { result ≡ mismatched bytes.now at content }
 {
-    if is_overrun(bytes, at) {
-        return true;
-    }
-    if number(bytes, at + 8) != 0 {
-        return true;
-    }
-    (number(bytes, at + 4) as usize) != content
+    is_overrun(bytes, at) || number(bytes, at + 8) != 0 || number(bytes, at + 4) as usize != content
 }

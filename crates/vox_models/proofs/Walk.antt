@@ -8,7 +8,7 @@ use lib.ListN.{length}
 use borrow.Author.Tests.{lt-ltb}
 use Rattle.text_parts.specs.Text.{text}
 use Rattle.vox_chunks.specs.Chunks.{stands, after_chunk, overruns}
-use Rattle.vox_models.specs.Models.{model_within, model_from, further_model}
+use Rattle.vox_models.specs.Models.{model_within, model_from}
 
 module _ (s : List ℕ) where
   -- past the end no chunk is whole
@@ -56,13 +56,3 @@ module _ (s : List ℕ) where
           enough (length s) (length s - 1) (after_chunk s at) (omega arith) (omega arith)
           ∙ next (length s - 1) e
           ∙ ap (λ m. model_within m s at) one_byte
-
-  -- after the first XYZI
-  pub further-none : overruns s 44 ≡ true → false ≡ further_model s
-  further-none e = rw e
-
-  pub further-short : length s < 44 → false ≡ further_model s
-  further-short h = further-none (past_end 44 (omega arith))
-
-  pub further-walk : overruns s 44 ≡ false → model_from s (after_chunk s 44) ≡ further_model s
-  further-walk e = rw e

@@ -13,14 +13,12 @@ const XYZI: [u8; 4] = *b"XYZI";
 const XYZI_AT: usize = 44;
 
 // Whether some chunk from a place on is XYZI.
+// Kept so: each step is as long as the chunk that stands there, so that no range or part of a slice has these places.
 fn has_model(bytes: &[u8], start: usize) -> bool
     ensures { result ≡ model_from bytes.now start }
 {
     let mut at = start;
-    while at < bytes.len() {
-        if is_overrun(bytes, at) {
-            return false;
-        }
+    while at < bytes.len() && !is_overrun(bytes, at) {
         if is_there(bytes, at, &XYZI) {
             return true;
         }
@@ -33,11 +31,7 @@ fn has_model(bytes: &[u8], start: usize) -> bool
 pub fn has_further(bytes: &[u8]) -> bool
     ensures { result ≡ further_model bytes.now }
 {
-    if bytes.len() < XYZI_AT {
-        return false;
-    }
-    if is_overrun(bytes, XYZI_AT) {
-        return false;
-    }
-    has_model(bytes, after_chunk(bytes, XYZI_AT))
+    XYZI_AT <= bytes.len()
+        && !is_overrun(bytes, XYZI_AT)
+        && has_model(bytes, after_chunk(bytes, XYZI_AT))
 }

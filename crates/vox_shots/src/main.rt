@@ -3,61 +3,37 @@
 // `drawn_file::write_drawing`; here are only the sizes.
 #![tactic(auto)]
 
-use input::Filled;
-use shotfile_writer::WriteAnswer;
+use output::Program;
 use std::process::ExitCode;
-use std::rt::{Env, Stderr, Stdin, Stdout};
+use std::rt::Env;
 
-// Notes where a drawing has further models.
-fn note(stderr: Stderr, bytes: &[u8]) {
-    if vox_models::has_further(bytes) {
-        output::note_first_model(stderr, b"vox_shots");
-    }
-}
-
-// Writes the shot file of a drawing; the coordinates have places for 4,096 shots, and 28,679 bytes are the longest file.
-fn write_file(stdout: Stdout, stderr: Stderr, bytes: &[u8]) -> ExitCode {
+// Writes the shot file of a drawing, and notes where it has further models; the coordinates have places for 4,096 shots, and 28,679 bytes are
+// the longest file.
+fn write_file(program: Program, bytes: &[u8]) -> ExitCode {
     let mut coords = [0u16; 12288];
     let mut file = [0u8; 28679];
-    let answer = drawn_file::write_drawing(bytes, &mut coords, &mut file);
-    match answer {
-        WriteAnswer::Written { bytes: n } => {
-            let status = output::write_text(stdout, stderr, b"vox_shots", &file[..n]);
-            if status == ExitCode::SUCCESS {
-                note(stderr, bytes);
+    match drawn_file::write_drawing(bytes, &mut coords, &mut file) {
+        Ok(n) => {
+            let status = program.write_text(&file[..n]);
+            if status == ExitCode::SUCCESS && vox_models::has_further(bytes) {
+                program.note_first_model();
             }
             status
         }
-        WriteAnswer::Refused(refusal) => {
-            output::say_refusal(stderr, b"vox_shots", refusal);
-            ExitCode::SUCCESS
-        }
+        Err(refusal) => program.end_refused(refusal),
     }
 }
 
 // Fills the buffer from standard input. A full one may lack bytes of the file, so it is not written.
-fn write_input(
-    env: &impl Env,
-    stdin: Stdin,
-    stdout: Stdout,
-    stderr: Stderr,
-    buffer: &mut [u8],
-) -> ExitCode {
-    let filled = input::take_whole(
-        env,
-        stdin,
-        stderr,
-        b"vox_shots",
-        buffer,
-        b": the input has more than 1,048,575 bytes\n",
-    );
-    match filled {
-        Filled::Bytes(n) => write_file(stdout, stderr, &buffer[..n]),
-        Filled::Failed => ExitCode::SUCCESS,
+fn write_input(env: &impl Env, program: Program, buffer: &mut [u8]) -> ExitCode {
+    let too_long = b": the input has more than 1,048,575 bytes\n";
+    match input::take_whole(env, program, buffer, too_long) {
+        Some(n) => write_file(program, &buffer[..n]),
+        None => ExitCode::SUCCESS,
     }
 }
 
 fn main(rt: HostRuntime) -> ExitCode {
     let mut buffer = [0u8; 1048576];
-    write_input(&rt, rt.stdin(), rt.stdout(), rt.stderr(), &mut buffer)
+    write_input(&rt, Program::new(b"vox_shots", &rt), &mut buffer)
 }

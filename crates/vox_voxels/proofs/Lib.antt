@@ -1,1 +1,1 @@
-pub mod VoxelLaws  -- the tests of sides and voxels, and the first wrong voxel
+pub mod VoxelLaws  -- the first wrong voxel

@@ -3,8 +3,9 @@
 // `job`.
 #![tactic(auto)]
 
-ghost use Rattle.std.specs.Prelude.{◌≡◌, ◌||◌, ◌+◌, ◌≤◌, ◌<◌, max, leb, length};
-ghost use Rattle.vox_voxels.specs.Voxels.{side_on, wrong_side, largest_side, voxel_at, beyond, wrong_voxel, first_wrong};
+ghost use Rattle.std.specs.Prelude.{◌≡◌, ◌||◌, ◌+◌, ◌≤◌, leb, length};
+ghost use Rattle.job.specs.Checking.{outside};
+ghost use Rattle.vox_voxels.specs.Voxels.{side_on, wrong_side, largest_side, voxel_at, wrong_voxel, first_wrong};
 
 use vox_chunks::number;
 
@@ -13,22 +14,33 @@ const SIDES_AT: usize = 32;
 
 const VOXELS_AT: usize = 60;
 
-// The side of SIZE, at 20, on an axis.
-fn side(bytes: &[u8], axis: usize) -> u32
-    requires in_bounds { 44 ≤ length bytes.now }
-    requires axis_bound { axis < 3 }
-    ensures { result ≡ side_on bytes.now axis }
-{
-    number(bytes, SIDES_AT + 4 * axis)
+// The three sides of SIZE.
+#[derive(Clone, Copy)]
+struct Sides {
+    x: u32,
+    y: u32,
+    z: u32,
 }
 
-fn is_wrong_side(bytes: &[u8], axis: usize) -> bool
-    requires in_bounds { 44 ≤ length bytes.now }
-    requires axis_bound { axis < 3 }
-    ensures { result ≡ wrong_side bytes.now axis }
+// The sides of SIZE, at 20.
+fn sides_of(bytes: &[u8]) -> Sides
+    requires { 44 ≤ length bytes.now }
+    ensures x { result.x ≡ side_on bytes.now 0 }
+    ensures y { result.y ≡ side_on bytes.now 1 }
+    ensures z { result.z ≡ side_on bytes.now 2 }
 {
-    let a = side(bytes, axis);
-    a < 1 || 256 < a
+    Sides {
+        x: number(bytes, SIDES_AT),
+        y: number(bytes, SIDES_AT + 4),
+        z: number(bytes, SIDES_AT + 8),
+    }
+}
+
+// Whether a side is not 1 to 256.
+fn is_wrong_side(side: u32) -> bool
+    ensures { result ≡ outside 1 256 side }
+{
+    side < 1 || 256 < side
 }
 
 // Whether some side of SIZE is not 1 to 256.
@@ -36,22 +48,8 @@ pub fn has_wrong_side(bytes: &[u8]) -> bool
     requires { 44 ≤ length bytes.now }
     ensures { result ≡ wrong_side bytes.now 0 || (wrong_side bytes.now 1 || wrong_side bytes.now 2) }
 {
-    if is_wrong_side(bytes, 0) {
-        return true;
-    }
-    if is_wrong_side(bytes, 1) {
-        return true;
-    }
-    is_wrong_side(bytes, 2)
-}
-
-fn larger(a: u32, b: u32) -> u32
-    ensures { result ≡ max a b }
-{
-    if a <= b {
-        return b;
-    }
-    a
+    let sides = sides_of(bytes);
+    is_wrong_side(sides.x) || is_wrong_side(sides.y) || is_wrong_side(sides.z)
 }
 
 // The largest side of SIZE.
@@ -60,42 +58,29 @@ pub fn largest_side(bytes: &[u8]) -> u16
     requires bytes_bound { largest_side bytes.now ≤ 256 }
     ensures { result ≡ largest_side bytes.now }
 {
-    let widest = larger(side(bytes, 0), side(bytes, 1));
-    larger(widest, side(bytes, 2)) as u16
+    let sides = sides_of(bytes);
+    sides.x.max(sides.y).max(sides.z) as u16
 }
 
 // Whether a coordinate is not below a side.
-fn is_not_below(a: u8, side: u32) -> bool
-    ensures { result ≡ leb side a }
+fn is_beyond(side: u32, coordinate: u8) -> bool
+    ensures { result ≡ leb side coordinate }
 {
-    side <= (a as u32)
-}
-
-// Whether voxel n is outside SIZE on an axis.
-fn is_beyond(bytes: &[u8], n: usize, axis: usize) -> bool
-    requires n_in_bounds { voxel_at n + 4 ≤ length bytes.now }
-    requires axis_bound { axis < 3 }
-    ensures { result ≡ beyond bytes.now n axis }
-{
-    let side = side(bytes, axis);
-    is_not_below(bytes[VOXELS_AT + 4 * n + axis], side)
+    side <= u32::from(coordinate)
 }
 
 // Whether voxel n is outside SIZE or has colour 0.
+#[tactic(auto, unfolding(crate::specs::Voxels::wrong_voxel))]
 fn is_wrong_voxel(bytes: &[u8], n: usize) -> bool
     requires { voxel_at n + 4 ≤ length bytes.now }
     ensures { result ≡ wrong_voxel bytes.now n }
 {
-    if is_beyond(bytes, n, 0) {
-        return true;
-    }
-    if is_beyond(bytes, n, 1) {
-        return true;
-    }
-    if is_beyond(bytes, n, 2) {
-        return true;
-    }
-    bytes[VOXELS_AT + 4 * n + 3] == 0
+    let sides = sides_of(bytes);
+    let at = VOXELS_AT + 4 * n;
+    is_beyond(sides.x, bytes[at])
+        || is_beyond(sides.y, bytes[at + 1])
+        || is_beyond(sides.z, bytes[at + 2])
+        || bytes[at + 3] == 0
 }
 
 // The first such voxel of so many, or their number.
@@ -103,12 +88,10 @@ pub fn first_wrong(bytes: &[u8], count: usize) -> usize
     requires { voxel_at count ≤ length bytes.now }
     ensures { result ≡ first_wrong bytes.now 0 count }
 {
-    let mut n = 0;
-    while n < count {
+    for n in 0..count {
         if is_wrong_voxel(bytes, n) {
             return n;
         }
-        n += 1;
     }
-    n
+    count
 }

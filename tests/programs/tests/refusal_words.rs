@@ -19,9 +19,9 @@ fn between<'a>(text: &'a str, mark: &str, end: &str) -> Option<&'a str> {
 fn numbers() -> BTreeMap<u64, String> {
     let code = fs::read_to_string(repository().join("crates/refusals/src/lib.rt")).expect("the refusals are there");
     let mut numbers = BTreeMap::new();
-    for arm in code.split("Refusal::").filter(|arm| arm.contains("=> Notice {")) {
+    for arm in code.split("Refusal::").filter(|arm| arm.contains("=> (")) {
         let name = arm.split(|letter: char| !letter.is_alphanumeric()).next().expect("a name");
-        let number = between(arm, "number: ", ",").expect("a number").parse().expect("a number");
+        let number = between(arm, "=> (", ",").expect("a number").parse().expect("a number");
         numbers.insert(number, name.to_string());
     }
     numbers
@@ -30,7 +30,7 @@ fn numbers() -> BTreeMap<u64, String> {
 /// The sentence of a refusal, as `text_wording` has it.
 fn sentence(name: &str) -> String {
     let code = fs::read_to_string(repository().join("crates/text_wording/src/lib.rt")).expect("the words are there");
-    let arm = code.split("Refusal::").find(|arm| arm.starts_with(name) && arm.contains("put_word"));
+    let arm = code.split("Refusal::").find(|arm| arm.starts_with(name) && arm.contains("b\""));
     between(arm.expect("an arm"), "b\"", "\"").expect("a sentence").to_string()
 }
 

@@ -14,4 +14,4 @@ pub bounds-answer-3 : goal.bounds-answer-3
 bounds-answer-3 c = simp length-set (omega arith)
 
 pub returns : goal.returns
-returns c = five-stored c.args.answer.now c.args.number c.args.detail c.args.c.volume c.args.c.area c.args.c.edge c.requires
+returns c = rw (c.from.ensures) (five-stored c.args.answer.now c.args.number c.args.detail c.args.c.volume c.args.c.area c.args.c.edge c.requires)

@@ -7,11 +7,11 @@ use Rattle.capi_answers.specs.Places.{index_places}
 use Rattle.capi_answers.proofs.StoreLaws.{put_as}
 use Rattle.capi_answers.proofs.put_checked.Goals as goal
 
-pub returns-in-Accepted : goal.returns-in-Accepted
+pub returns-in-Ok : goal.returns-in-Ok
 unfolding checked_numbers
-returns-in-Accepted c = put_as (λ m. index_places (checked_numbers m)) c.args.answer.now c.put_index.ensures c.in-Accepted.is
+returns-in-Ok c = put_as (λ m. index_places (checked_numbers m)) c.args.answer.now c.put_index.ensures c.in-Ok.is
 
-pub returns-in-Refused : goal.returns-in-Refused
+pub returns-in-Err : goal.returns-in-Err
 unfolding checked_numbers
-returns-in-Refused c = let told = c.notice_of-told.ensures in
-    put_as (λ m. index_places (checked_numbers m)) c.args.answer.now (c.put_index-in-Refused.ensures ∙ ap₂ (λ a b. in_front (a ∷ b ∷ []) c.args.answer.now) told.number told.detail) c.in-Refused.is
+returns-in-Err c = let told = c.notice_of-told.ensures in
+    put_as (λ m. index_places (checked_numbers m)) c.args.answer.now (c.put_index-in-Err.ensures ∙ ap₂ (λ a b. in_front (a ∷ b ∷ []) c.args.answer.now) told.number told.detail) c.in-Err.is

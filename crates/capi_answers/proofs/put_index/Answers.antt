@@ -8,4 +8,4 @@ pub bounds-answer-1 : goal.bounds-answer-1
 bounds-answer-1 c = simp length-set (omega arith)
 
 pub returns : goal.returns
-returns c = two-stored c.args.answer.now c.args.number c.args.detail c.requires
+returns c = rw (c.from.ensures) (two-stored c.args.answer.now c.args.number c.args.detail c.requires)

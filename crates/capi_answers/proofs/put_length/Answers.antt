@@ -11,4 +11,4 @@ pub bounds-answer-2 : goal.bounds-answer-2
 bounds-answer-2 c = simp length-set (omega arith)
 
 pub returns : goal.returns
-returns c = three-stored c.args.answer.now c.args.number c.args.detail c.args.bytes c.requires
+returns c = rw (c.from.ensures) (three-stored c.args.answer.now c.args.number c.args.detail c.args.bytes c.requires)

@@ -17,4 +17,4 @@ pub bounds-answer-4 : goal.bounds-answer-4
 bounds-answer-4 c = simp length-set (omega arith)
 
 pub returns : goal.returns
-returns c = six-stored c.args.answer.now c.args.number c.args.detail c.args.field c.args.edge c.args.grid c.args.shots c.requires
+returns c = rw (c.from.ensures, c.from-2.ensures, c.from-3.ensures, c.from-4.ensures) (six-stored c.args.answer.now c.args.number c.args.detail c.args.list.field c.args.list.edge c.args.list.grid c.args.list.shots c.requires)

@@ -7,11 +7,11 @@ use Rattle.capi_answers.specs.Places.{measure_places}
 use Rattle.capi_answers.proofs.StoreLaws.{put_as}
 use Rattle.capi_answers.proofs.put_measured.Goals as goal
 
-pub returns-in-Quote : goal.returns-in-Quote
+pub returns-in-Ok : goal.returns-in-Ok
 unfolding measured_numbers
-returns-in-Quote c = put_as (λ m. measure_places (measured_numbers m)) c.args.answer.now c.put_totals.ensures c.in-Quote.is
+returns-in-Ok c = put_as (λ m. measure_places (measured_numbers m)) c.args.answer.now c.put_totals.ensures c.in-Ok.is
 
-pub returns-in-Refused : goal.returns-in-Refused
+pub returns-in-Err : goal.returns-in-Err
 unfolding measured_numbers
-returns-in-Refused c = let told = c.notice_of-told.ensures in
-    put_as (λ m. measure_places (measured_numbers m)) c.args.answer.now (c.put_totals-in-Refused.ensures ∙ ap₂ (λ a b. in_front (a ∷ b ∷ 0 ∷ 0 ∷ 0 ∷ 0 ∷ 0 ∷ []) c.args.answer.now) told.number told.detail) c.in-Refused.is
+returns-in-Err c = let told = c.notice_of-told.ensures in
+    put_as (λ m. measure_places (measured_numbers m)) c.args.answer.now (c.put_totals-in-Err.ensures ∙ ap₂ (λ a b. in_front (a ∷ b ∷ 0 ∷ 0 ∷ 0 ∷ 0 ∷ 0 ∷ []) c.args.answer.now) told.number told.detail) c.in-Err.is

@@ -7,11 +7,11 @@ use Rattle.capi_answers.specs.Places.{price_places}
 use Rattle.capi_answers.proofs.StoreLaws.{put_as}
 use Rattle.capi_answers.proofs.put_priced.Goals as goal
 
-pub returns-in-Charged : goal.returns-in-Charged
+pub returns-in-Ok : goal.returns-in-Ok
 unfolding priced_numbers
-returns-in-Charged c = put_as (λ m. price_places (priced_numbers m)) c.args.answer.now c.put_charges.ensures c.in-Charged.is
+returns-in-Ok c = put_as (λ m. price_places (priced_numbers m)) c.args.answer.now c.put_charges.ensures c.in-Ok.is
 
-pub returns-in-Refused : goal.returns-in-Refused
+pub returns-in-Err : goal.returns-in-Err
 unfolding priced_numbers
-returns-in-Refused c = let told = c.notice_of-told.ensures in
-    put_as (λ m. price_places (priced_numbers m)) c.args.answer.now (c.put_charges-in-Refused.ensures ∙ ap₂ (λ a b. in_front (a ∷ b ∷ 0 ∷ 0 ∷ 0 ∷ []) c.args.answer.now) told.number told.detail) c.in-Refused.is
+returns-in-Err c = let told = c.notice_of-told.ensures in
+    put_as (λ m. price_places (priced_numbers m)) c.args.answer.now (c.put_charges-in-Err.ensures ∙ ap₂ (λ a b. in_front (a ∷ b ∷ 0 ∷ 0 ∷ 0 ∷ []) c.args.answer.now) told.number told.detail) c.in-Err.is

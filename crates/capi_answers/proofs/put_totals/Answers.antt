@@ -20,4 +20,4 @@ pub bounds-answer-5 : goal.bounds-answer-5
 bounds-answer-5 c = simp length-set (omega arith)
 
 pub returns : goal.returns
-returns c = seven-stored c.args.answer.now c.args.number c.args.detail c.args.t.volume c.args.t.area c.args.t.edge c.args.t.inner c.args.t.corners c.requires
+returns c = rw (c.from.ensures) (seven-stored c.args.answer.now c.args.number c.args.detail c.args.t.volume c.args.t.area c.args.t.edge c.args.t.inner c.args.t.corners c.requires)

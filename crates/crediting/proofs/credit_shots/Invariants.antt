@@ -2,13 +2,14 @@
 use mathlib.Core.Path.{◌≡◌}
 use Prim.Native.Nat.{◌≤◌, ◌-◌}
 use lib.ListN.{replicate}
-use Rattle.job.specs.Job.{job_of, shot_count}
+use Rattle.job.specs.Job.{shot_count}
+use Rattle.job.specs.Seen.{seen}
 use Rattle.crediting_carving.specs.Blocks.{added}
 use Rattle.crediting.proofs.FieldLaws.{credits_to}
 use Rattle.crediting.proofs.credit_shots.Given as goal
 
 abbrev pub invariant-loop-cell : goal.invariant-loop-cell
-invariant-loop-cell l = (l.cell ≤ l.cell-end) × (l.credits ≡ added (replicate (shot_count l.coords) 0) (credits_to (job_of l.field l.edge l.grid l.coords) l.cell))
+invariant-loop-cell l = (l.cell ≤ l.cell-end) × (l.credits ≡ added (replicate (shot_count l.list.job.coords.now) 0) (credits_to (seen l.list.job) l.cell))
 
 abbrev pub decreases-loop-cell : goal.decreases-loop-cell
 decreases-loop-cell l = l.cell-end - l.cell

@@ -1,7 +1,7 @@
 -- The cells of the block that the shot covers are counted and credited to it.
 use native.Mathlib.Omega.{arith}
 use Rattle.crediting_carving.proofs.MeetLaws.{met-shot}
-use Rattle.crediting_carving.proofs.CarveLaws.{core-counted, core-room, core-credited}
+use Rattle.crediting_carving.proofs.CarveLaws.{core-counted, core-room}
 use Rattle.crediting_carving.proofs.credit_shared.Goals as goal
 
 pub shared-core-requires : goal.shared-core-requires
@@ -14,6 +14,3 @@ size-requires c =
 
 pub add-requires : goal.add-requires
 add-requires c = record { shot_in_bounds = omega (arith, met-shot c.args.edge c.args.coords.now c.args.shot c.args.block c.requires.meets, c.requires.coords_in_bounds); room_for = core-room c.args.edge c.args.coords.now c.args.shot c.args.block c.shared-core.ensures c.requires.meets c.size.ensures c.requires.room_for }
-
-pub returns : goal.returns
-returns c = record { value = c.shared-core.ensures; credits_after = core-credited c.args.edge c.args.coords.now c.args.shot c.args.block c.shared-core.ensures c.size.ensures c.args.credits.now c.add.ensures }

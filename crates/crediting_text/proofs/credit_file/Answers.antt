@@ -3,12 +3,11 @@ use Rattle.quoting_text.proofs.TextLaws.{list-there}
 use Rattle.crediting_text.proofs.TextLaws.{file-uncredited, file-credited}
 use Rattle.crediting_text.proofs.credit_file.Goals as goal
 
-pub first-list-requires : goal.first-list-requires
-first-list-requires c = list-there c.read-read.ensures c.in-Read.is
+pub job-requires : goal.job-requires
+job-requires c = list-there c.read-read.ensures c.in-Ok.is
 
-pub returns-in-Read : goal.returns-in-Read
-returns-in-Read c = file-credited c.read-read.ensures c.in-Read.field c.in-Read.edge c.in-Read.grid
-    c.in-Read.shots c.in-Read.is c.first-list.ensures c.credit_list.ensures
+pub returns-in-Ok : goal.returns-in-Ok
+returns-in-Ok c = file-credited c.read-read.ensures c.in-Ok.is c.job.ensures c.credit_list.ensures
 
-pub returns-in-Refused : goal.returns-in-Refused
-returns-in-Refused c = file-uncredited c.read-read.ensures c.in-Refused.refusal c.in-Refused.is c.refuse.ensures
+pub returns-in-Err : goal.returns-in-Err
+returns-in-Err c = file-uncredited c.read-read.ensures c.in-Err.refusal c.in-Err.is c.refuse.ensures

@@ -1,12 +1,9 @@
 -- The slabs so far are in.
-use Prim.Native.Nat.{◌*◌, ◌-◌, ◌≤◌}
-use Rattle.job.specs.Job.{job_of}
+use Rattle.std.proofs.Common.{◌*◌}
+use Rattle.job.specs.Seen.{seen}
 use Rattle.grid.specs.Grid.{run_of}
 use Rattle.grid_filling.specs.Filling.{Grew}
 use Rattle.grid_filling.proofs.fill_slabs.Given as goal
 
 abbrev pub invariant-loop-gx : goal.invariant-loop-gx
-invariant-loop-gx l = (l.gx ≤ l.grid) × Grew (run_of (job_of l.field l.edge l.grid l.coords)) (l.grid * l.grid * l.grid) 0 (l.gx * l.grid * l.grid) l.initial.work l.work l.next
-
-abbrev pub decreases-loop-gx : goal.decreases-loop-gx
-decreases-loop-gx l = l.grid - l.gx
+invariant-loop-gx l = Grew (run_of (seen l.list.job)) (l.list.job.grid * l.list.job.grid * l.list.job.grid) 0 (l.gx * l.list.job.grid * l.list.job.grid) l.initial.work l.work l.next

@@ -1,12 +1,11 @@
--- Where the pattern does not change across x or y it is no corner; else z decides.
-use Rattle.lattice_edges.proofs.EdgeLaws.{steady-on-x, steady-on-y, z-decides}
+-- The pattern changes across every axis.
+use native.Mathlib.Omega.{arith}
+use Rattle.std.proofs.lemmas.Bool.Decides.{nat_tests}
+use Rattle.lattice_edges.proofs.EdgeLaws.{each-axis}
 use Rattle.lattice_edges.proofs.is_corner.Goals as goal
 
-pub returns-then-p : goal.returns-then-p
-returns-then-p c = steady-on-x c.args.p c.ranges.p.fits c.if-p.true
+pub returns-then-p-ne0 : goal.returns-then-p-ne0
+returns-then-p-ne0 c = let e = each-axis c.args.p c.ranges.p.fits in grind (arith, nat_tests)
 
-pub returns-then-p-eq0 : goal.returns-then-p-eq0
-returns-then-p-eq0 c = steady-on-y c.args.p c.ranges.p.fits c.if-p.false c.if-p-eq0.true
-
-pub returns : goal.returns
-returns c = z-decides c.args.p c.ranges.p.fits c.if-p.false c.if-p-eq0.false
+pub returns-else-p-ne0 : goal.returns-else-p-ne0
+returns-else-p-ne0 c = let e = each-axis c.args.p c.ranges.p.fits in grind (arith, nat_tests)

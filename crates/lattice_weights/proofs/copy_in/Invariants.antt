@@ -1,10 +1,7 @@
--- Pattern after pattern, the entry of the table goes to place j of its sixteen.
-use Prim.Native.Nat.{◌≤◌, ◌-◌}
+-- Pattern after pattern, the entry of the table goes to the weight's place of its sixteen.
+use Rattle.lattice_weights.specs.Packed.{place}
 use Rattle.lattice_weights.proofs.PackedLaws.{PackedTo}
 use Rattle.lattice_weights.proofs.copy_in.Given as goal
 
 abbrev pub invariant-loop-q : goal.invariant-loop-q
-invariant-loop-q l = (l.q ≤ 256) × PackedTo l.j l.q l.t
-
-abbrev pub decreases-loop-q : goal.decreases-loop-q
-decreases-loop-q l = 256 - l.q
+invariant-loop-q l = PackedTo (place l.which) l.q l.t

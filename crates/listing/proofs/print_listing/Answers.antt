@@ -5,14 +5,14 @@ use Rattle.listing_file.proofs.ListingLaws.{listed-fits}
 use Rattle.listing.proofs.print_listing.Goals as goal
 
 pub overflow_mul-n : goal.overflow_mul-n
-overflow_mul-n c = omega (arith, listed-fits c.list_file-measured.ensures c.in-Quote.is)
+overflow_mul-n c = omega (arith, listed-fits c.list_file.ensures c.in-Ok.is)
 
-pub slice_bounds-write_text-end-in-Quote : goal.slice_bounds-write_text-end-in-Quote
-slice_bounds-write_text-end-in-Quote c =
-    omega (arith, listed-fits c.list_file-measured.ensures c.in-Quote.is, c.list_file-measured.auto.buffer)
+pub slice_bounds-write_text-end : goal.slice_bounds-write_text-end
+slice_bounds-write_text-end c =
+    omega (arith, listed-fits c.list_file.ensures c.in-Ok.is, c.list_file.auto.buffer)
 
-pub slice_bounds-write_text-end-in-Quote-2 : goal.slice_bounds-write_text-end-in-Quote-2
-slice_bounds-write_text-end-in-Quote-2 c =
+pub slice_bounds-write_text-end-in-Ok : goal.slice_bounds-write_text-end-in-Ok
+slice_bounds-write_text-end-in-Ok c =
     sym
     (length-take-le _ _
-    (omega (arith, listed-fits c.list_file-measured.ensures c.in-Quote.is, c.list_file-measured.auto.buffer)))
+    (omega (arith, listed-fits c.list_file.ensures c.in-Ok.is, c.list_file.auto.buffer)))

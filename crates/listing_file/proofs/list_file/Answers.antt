@@ -1,14 +1,16 @@
 -- The file is read, and the list that it holds is listed.
+use mathlib.Core.Path.{refl}
+use Rattle.std.proofs.lemmas.Result.{err_from_is_err_and}
 use Rattle.quoting_text.proofs.TextLaws.{list-there}
 use Rattle.listing_file.proofs.ListingLaws.{file-unlisted, file-listed}
 use Rattle.listing_file.proofs.list_file.Goals as goal
 
-pub first-list-requires : goal.first-list-requires
-first-list-requires c = list-there c.read-read.ensures c.in-Read.is
+pub returns-in_err-stored : goal.returns-in_err-stored
+returns-in_err-stored c = let p = err_from_is_err_and c.from_residual.result c.from_residual.ensures.1 in
+    rw (p.1, p.2) (file-unlisted c.in_err-stored.ensures _ refl)
 
-pub returns-in-Read : goal.returns-in-Read
-returns-in-Read c = file-listed c.read-read.ensures c.in-Read.field c.in-Read.edge c.in-Read.grid c.in-Read.shots
-    c.in-Read.is c.first-list.ensures c.list.ensures
+pub job-requires : goal.job-requires
+job-requires c = list-there c.in_ok-stored.ensures refl
 
-pub returns-in-Refused : goal.returns-in-Refused
-returns-in-Refused c = file-unlisted c.read-read.ensures c.in-Refused.refusal c.in-Refused.is
+pub returns : goal.returns
+returns c = file-listed c.in_ok-stored.ensures refl c.job.ensures c.list.ensures

@@ -1,13 +1,16 @@
 -- A refusal of the checks is the answer; otherwise the corners are counted and listed.
+use mathlib.Core.Path.{refl}
+use Rattle.std.proofs.lemmas.Result.{err_from_is_err_and}
 use Rattle.measure_intake.proofs.IntakeLaws as intake
 use Rattle.measure.proofs.AnswerLaws.{refused-list, accepted-list}
 use Rattle.measure.proofs.list.Goals as goal
 
-pub list_corners-requires : goal.list_corners-requires
-list_corners-requires c = let i = c.indexed-checked.ensures in let e = c.in-Accepted.is in intake.accepted-holds i e
+pub returns-in_err-indexed : goal.returns-in_err-indexed
+returns-in_err-indexed c = let p = err_from_is_err_and c.from_residual.result c.from_residual.ensures.1 in
+    rw (p.1, p.2) (refused-list c.in_err-indexed.ensures c.args.buffer.now _ refl)
 
-pub returns-in-Refused : goal.returns-in-Refused
-returns-in-Refused c = refused-list c.indexed-checked.ensures c.args.buffer.now c.in-Refused.refusal c.in-Refused.is
+pub invariant_of-list_corners : goal.invariant_of-list_corners
+invariant_of-list_corners c = record { holds = intake.accepted-holds c.in_ok-indexed.ensures refl }
 
-pub returns-in-Accepted : goal.returns-in-Accepted
-returns-in-Accepted c = accepted-list c.indexed-checked.ensures c.args.buffer.now c.in-Accepted.is c.list_corners.ensures
+pub returns : goal.returns
+returns c = accepted-list c.in_ok-indexed.ensures c.args.buffer.now refl c.list_corners.ensures

@@ -1,12 +1,15 @@
 -- A refusal of the checks is the answer; otherwise the field is counted.
+use mathlib.Core.Path.{refl}
+use Rattle.std.proofs.lemmas.Result.{err_from_is_err_and}
 use Rattle.measure_intake.proofs.IntakeLaws.{accepted-holds, refused-measure, accepted-measure}
 use Rattle.measure_cells.proofs.recount.Goals as goal
 
-pub count_field-requires : goal.count_field-requires
-count_field-requires c = let i = c.indexed-checked.ensures in let e = c.in-Accepted.is in accepted-holds i e
+pub returns-in_err-indexed : goal.returns-in_err-indexed
+returns-in_err-indexed c = let p = err_from_is_err_and c.from_residual.result c.from_residual.ensures.1 in
+    rw (p.1, p.2) (refused-measure c.in_err-indexed.ensures _ refl)
 
-pub returns-in-Refused : goal.returns-in-Refused
-returns-in-Refused c = refused-measure c.indexed-checked.ensures c.in-Refused.refusal c.in-Refused.is
+pub invariant_of-count_field : goal.invariant_of-count_field
+invariant_of-count_field c = record { holds = accepted-holds c.in_ok-indexed.ensures refl }
 
-pub returns-in-Accepted : goal.returns-in-Accepted
-returns-in-Accepted c = accepted-measure c.indexed-checked.ensures c.in-Accepted.is c.count_field.ensures
+pub returns : goal.returns
+returns c = accepted-measure c.in_ok-indexed.ensures refl c.count_field.ensures

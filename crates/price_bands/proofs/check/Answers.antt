@@ -1,16 +1,21 @@
--- `check` answers what the state says after the last band. Assumes nothing.
-use mathlib.Core.Path.{◌≡◌, ap, ◌∙◌}
-use mathlib.Core.List.{List}
-use Rattle.price_bands.specs.declared.Band.{Band}
-use Rattle.price_bands.specs.declared.State.{State}
-use Rattle.price_bands.specs.declared.Verdict.{Verdict}
-use Rattle.price_bands.specs.Bands.{verdict_of}
-use Rattle.price_bands.specs.Survey.{start_at, surveyed, verdict_in}
-use Rattle.price_bands.proofs.SurveyLaws.{survey-verdict}
+use native.Mathlib.Omega.{arith}
+use Rattle.price_bands.proofs.CheckLaws.{none-passed, one-passed, faulty-next, top-missing, all-good, too-many}
 use Rattle.price_bands.proofs.check.Goals as goal
 
-in-turn : (bands : List Band) (start s : State) (r : Verdict) → start ≡ start_at 0 → s ≡ surveyed start bands → r ≡ verdict_in s → r ≡ verdict_of bands
-in-turn bands start s r e f h = h ∙ ap verdict_in (f ∙ ap (λ (t : State). surveyed t bands) e) ∙ survey-verdict 0 bands
+pub returns-then-bands-gt-MOST_BANDS : goal.returns-then-bands-gt-MOST_BANDS
+returns-then-bands-gt-MOST_BANDS c = too-many _ c.if-bands-gt-MOST_BANDS.true
+
+pub loop-i-init : goal.loop-i-init
+loop-i-init c = none-passed _
+
+pub returns-then-not-is_good : goal.returns-then-not-is_good
+returns-then-not-is_good c = faulty-next _ c.loop-i.invariant c.if-bands-gt-MOST_BANDS.false c.loop-i-test.true c.if-not-is_good.ensures
+
+pub loop-i-preserved : goal.loop-i-preserved
+loop-i-preserved c = one-passed _ c.loop-i.invariant c.loop-i-test.true c.if-not-is_good.ensures
+
+pub returns-then-due-ne-PAST_TOP : goal.returns-then-due-ne-PAST_TOP
+returns-then-due-ne-PAST_TOP c = top-missing _ c.loop-i.invariant c.if-bands-gt-MOST_BANDS.false (omega arith) c.if-due-ne-PAST_TOP.true
 
 pub returns : goal.returns
-returns c = in-turn _ _ _ _ c.opening-start.ensures c.survey-s.ensures c.conclude.ensures
+returns c = all-good _ c.loop-i.invariant c.if-bands-gt-MOST_BANDS.false (omega arith) c.if-due-ne-PAST_TOP.false

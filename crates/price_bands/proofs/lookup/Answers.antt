@@ -1,16 +1,16 @@
--- `lookup` answers the rate in the state after the last band. Assumes nothing.
-use mathlib.Core.Path.{◌≡◌, ap, ◌∙◌}
-use Prim.Native.Nat.{ℕ}
-use mathlib.Core.List.{List}
-use Rattle.price_bands.specs.declared.Band.{Band}
-use Rattle.price_bands.specs.declared.State.{State}
-use Rattle.price_bands.specs.Bands.{rate_of}
-use Rattle.price_bands.specs.Survey.{start_at, surveyed}
-use Rattle.price_bands.proofs.SurveyLaws.{survey-rate}
+use mathlib.Core.Path.{refl}
+use native.Mathlib.Omega.{arith}
+use Rattle.price_bands.proofs.CheckLaws.{held-here, not-held, none-holds}
 use Rattle.price_bands.proofs.lookup.Goals as goal
 
-in-turn : (amount : ℕ) (bands : List Band) (start s : State) (r : ℕ) → start ≡ start_at amount → s ≡ surveyed start bands → r ≡ s.rate → r ≡ rate_of amount bands
-in-turn amount bands start s r e f h = h ∙ ap (λ (t : State). t.rate) (f ∙ ap (λ (t : State). surveyed t bands) e) ∙ survey-rate amount bands
+pub loop-band-init : goal.loop-band-init
+loop-band-init c = refl
+
+pub returns-then-holds : goal.returns-then-holds
+returns-then-holds c = held-here _ _ c.loop-band-test.true c.loop-band.invariant c.if-holds.ensures
+
+pub loop-band-preserved : goal.loop-band-preserved
+loop-band-preserved c = not-held _ _ c.loop-band-test.true c.loop-band.invariant c.if-holds.ensures
 
 pub returns : goal.returns
-returns c = in-turn _ _ _ _ _ c.opening-start.ensures c.survey-s.ensures c.rate_found.ensures
+returns c = none-holds _ _ (omega arith) c.loop-band.invariant

@@ -4,10 +4,10 @@ use Rattle.buffer.proofs.WroteLaws.{wrote_as}
 use Rattle.quoting_text.specs.Quoting.{answer_text}
 use Rattle.quoting_text.proofs.put_answer.Goals as goal
 
-pub returns-in-Quote : goal.returns-in-Quote
+pub returns-in-Ok : goal.returns-in-Ok
 unfolding answer_text
-returns-in-Quote c = wrote_as (ap answer_text (sym c.in-Quote.is)) c.quote_lines.ensures
+returns-in-Ok c = wrote_as (ap answer_text (sym c.in-Ok.is)) c.quote_lines.ensures
 
-pub returns-in-Refused : goal.returns-in-Refused
+pub returns-in-Err : goal.returns-in-Err
 unfolding answer_text
-returns-in-Refused c = wrote_as (ap answer_text (sym c.in-Refused.is)) c.refuse.ensures
+returns-in-Err c = wrote_as (ap answer_text (sym c.in-Err.is)) c.refuse.ensures

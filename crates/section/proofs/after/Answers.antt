@@ -1,17 +1,14 @@
--- `after` stays where no whole record is left. Assumes nothing.
+-- `after` stays where no whole record is left.
 use mathlib.Core.Path.{sym, ◌∙◌}
-use Prim.Native.Nat.{◌+◌}
 use native.Mathlib.Omega.{arith}
-use lib.ListN.{length}
-use borrow.Author.Tests.{ltb-true, ltb-false}
-use Rattle.section.proofs.StepLaws.{after_at-done, after_at-found}
+use Rattle.section.proofs.StepLaws.{step_from-whole, step_from-moves, step_from-stays}
 use Rattle.section.proofs.after.Goals as goal
 
-pub returns-then-is_done : goal.returns-then-is_done
-returns-then-is_done c = after_at-done _ _ (ltb-true _ _ (sym c.is_done.ensures ∙ c.if-is_done.true))
-
 pub overflow_add-result : goal.overflow_add-result
-overflow_add-result c = record { fits = omega (arith, ltb-false (length c.args.listing.now) (c.args.at + 7) (sym c.is_done.ensures ∙ c.if-is_done.false)) }
+overflow_add-result c = let h = c.record_at.ensures in record { fits = omega (arith, step_from-whole _ _ (sym c.in-Some.is ∙ h)) }
 
-pub returns : goal.returns
-returns c = after_at-found _ _ (ltb-false _ _ (sym c.is_done.ensures ∙ c.if-is_done.false))
+pub returns-in-Some : goal.returns-in-Some
+returns-in-Some c = step_from-moves _ _ (sym c.in-Some.is ∙ c.record_at.ensures)
+
+pub returns-in-None : goal.returns-in-None
+returns-in-None c = step_from-stays _ _ (sym c.in-None.is ∙ c.record_at.ensures)

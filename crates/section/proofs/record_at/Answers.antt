@@ -1,14 +1,15 @@
--- `record_at` is done where no whole record is left. Assumes nothing.
-use mathlib.Core.Path.{sym, ◌∙◌}
-use borrow.Author.Tests.{ltb-true, ltb-false}
-use Rattle.section.proofs.StepLaws.{step_from-done}
+-- `record_at` is none where no whole record is left.
+use mathlib.Core.Path.{◌∙◌}
+use mathlib.Core.Logic.{⊎_elim}
+use native.Mathlib.Omega.{arith}
+use Rattle.section.proofs.StepLaws.{step_from-done, step_from-read}
 use Rattle.section.proofs.record_at.Goals as goal
 
-pub returns-then-is_done : goal.returns-then-is_done
-returns-then-is_done c = step_from-done _ _ (ltb-true _ _ (sym c.is_done.ensures ∙ c.if-is_done.true))
+pub returns-in_err-get : goal.returns-in_err-get
+returns-in_err-get c = c.from_residual.ensures ∙ step_from-done _ _ (⊎_elim (λ h. omega arith) (λ h. omega arith) c.in_err-get.ensures.lookup.0)
 
-pub whole_at-requires : goal.whole_at-requires
-whole_at-requires c = ltb-false _ _ (sym c.is_done.ensures ∙ c.if-is_done.false)
+pub returns-in_default : goal.returns-in_default
+returns-in_default c = step_from-done _ _ (omega (arith, c.in_ok-get.ensures.lookup.0))
 
 pub returns : goal.returns
-returns c = c.whole_at.ensures
+returns c = step_from-read _ _ c.in_ok-get.ensures.lookup.0.2 c.in-len7-up.len_at_least c.from_le_bytes.ensures c.from_le_bytes-2.ensures c.from_le_bytes-3.ensures

@@ -1,17 +1,21 @@
-use mathlib.Core.Path.{refl, ◌∙◌}
+-- The lines of the records go in one after another, as the reader gives them.
+use mathlib.Core.Path.{ap, ◌∙◌}
 use native.Mathlib.Omega.{arith}
-use Rattle.buffer.proofs.WroteLaws.{wrote-length}
-use Rattle.section_text.proofs.TextLaws.{lined-none, lined-more, lined-all}
+use Rattle.section.specs.declared.Corners.{Corners}
+use Rattle.section.proofs.RecordLaws.{length-read_back}
+use Rattle.section_text.proofs.TextLaws.{lined-none, lined-room, lined-more, lined-all}
 use Rattle.section_text.proofs.put_corners.Goals as goal
 
-pub loop-i-init : goal.loop-i-init
-loop-i-init c = (omega arith, refl, lined-none _ _)
+pub loop-corner-init : goal.loop-corner-init
+loop-corner-init c = let opened = c.open-corner-items.ensures in
+    let same = c.into_iter-corner-iterator.ensures.into_iter_gives in
+    lined-none (ap (λ (r : Corners). r.listing.now) same ∙ ap (λ b. b.now) opened.0) (ap (λ (r : Corners). r.at) same ∙ opened.1)
 
-pub put_step-next-requires : goal.put_step-next-requires
-put_step-next-requires c = omega (arith, c.loop-i.invariant.2.few, c.requires)
+pub put_corner-next-requires : goal.put_corner-next-requires
+put_corner-next-requires c = omega (arith, lined-room c.loop-corner.invariant c.in-Some.ensures.steps, length-read_back c.args.listing.now, c.requires, c.loop-corner.auto.out)
 
-pub loop-i-preserved : goal.loop-i-preserved
-loop-i-preserved c = (omega arith, wrote-length c.put_step-next.ensures ∙ c.loop-i.invariant.1, lined-more _ _ c.loop-i.invariant.2 c.step_from-step.ensures c.put_step-next.ensures c.next_from-at.ensures)
+pub loop-corner-preserved : goal.loop-corner-preserved
+loop-corner-preserved c = lined-more c.loop-corner.invariant c.in-Some.ensures.steps c.put_corner-next.ensures
 
 pub returns : goal.returns
-returns c = lined-all _ _ (omega arith) c.loop-i.invariant.2
+returns c = lined-all c.loop-corner.invariant c.in-None.ensures.steps

@@ -6,7 +6,7 @@ use Rattle.section_text.specs.CornerLines.{digits_then}
 use Rattle.section_text.proofs.put_number.Goals as goal
 
 pub put_byte-requires : goal.put_byte-requires
-put_byte-requires c = omega (arith, c.put_digits-ended.ensures.next, c.put_digits-ended.auto.out, digits-length c.args.n c.args.a, c.requires)
+put_byte-requires c = omega (arith, digits-length)
 
 pub returns : goal.returns
 unfolding digits_then

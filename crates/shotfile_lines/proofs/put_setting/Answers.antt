@@ -1,16 +1,11 @@
 -- The name with its value, the note and the end of the line follow one another.
-use native.Mathlib.Omega.{arith}
-use Rattle.buffer.proofs.WroteLaws.{wrote_then}
-use Rattle.shotfile_lines.specs.Lines.{setting_line}
-use Rattle.shotfile_lines.proofs.LineLaws.{labelled-length, note-length}
+use mathlib.Core.Path.{ap}
+use Rattle.buffer.proofs.WroteLaws.{wrote_then, wrote_as}
+use Rattle.shotfile_lines.specs.Lines.{labelled, setting_line}
+use Rattle.shotfile_lines.proofs.LineLaws.{note-told}
 use Rattle.shotfile_lines.proofs.put_setting.Goals as goal
 
-pub put_note-noted-requires : goal.put_note-noted-requires
-put_note-noted-requires c = omega (arith, c.requires, c.put_labelled-valued.ensures.next, c.put_labelled-valued.auto.out, labelled-length c.args.name.now c.args.value)
-
-pub put_byte-requires : goal.put_byte-requires
-put_byte-requires c = omega (arith, c.requires, c.put_labelled-valued.ensures.next, c.put_labelled-valued.auto.out, labelled-length c.args.name.now c.args.value, c.put_note-noted.ensures.next, c.put_note-noted.auto.out, note-length c.args.bit)
-
-pub returns : goal.returns
+pub returns-clause-wrote : goal.returns-clause-wrote
 unfolding setting_line
-returns c = wrote_then c.put_labelled-valued.ensures (wrote_then c.put_note-noted.ensures c.put_byte.ensures)
+returns-clause-wrote c = wrote_then (wrote_as (ap (labelled c.args.name.now) c.from.ensures) c.put_labelled-valued.ensures.wrote)
+    (wrote_then (wrote_as (note-told c.args.bit) c.put_note-noted.ensures.wrote) c.put_byte.ensures)

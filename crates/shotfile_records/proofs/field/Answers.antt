@@ -1,10 +1,15 @@
 -- A field is the number at its place or what its absence means. Assumes nothing.
-use mathlib.Core.Path.{◌∙◌}
+use mathlib.Core.Path.{◌≡◌, ap, ◌∙◌}
+use native.Mathlib.Omega.{arith}
+use Rattle.std.specs.Int.{from_bool}
+use Rattle.shotfile_records.specs.Records.{field_number}
 use Rattle.shotfile_records.proofs.Taking.{field-absent, field-there}
 use Rattle.shotfile_records.proofs.field.Goals as goal
 
-pub returns-then-bit-eq0 : goal.returns-then-bit-eq0
-returns-then-bit-eq0 c = field-absent _ _ _ _ c.if-bit-eq0.true
+pub returns-then-not-stands : goal.returns-then-not-stands
+returns-then-not-stands c = field-absent _ _ _ _ (ap from_bool c.if-not-stands.true)
 
 pub returns : goal.returns
-returns c = c.word.ensures ∙ field-there _ _ _ _ c.if-bit-eq0.false
+returns c =
+    let read : c.from_le_bytes.result ≡ field_number c.args.bytes.now c.args.at = omega (arith, c.from_le_bytes.ensures) in
+    read ∙ field-there _ _ _ _ (λ z. omega (arith, z, ap from_bool c.if-not-stands.false))

@@ -10,10 +10,10 @@ pub returns-then-map-ge8 : goal.returns-then-map-ge8
 returns-then-map-ge8 c = unknown_bit _ _ _ c.if-bytes-at.false c.if-map-ge8.true
 
 pub returns-then-bytes-end : goal.returns-then-bytes-end
-returns-then-bytes-end c = cut_short c.args.bytes.now _ c.args.absent c.if-bytes-at.false c.if-map-ge8.false c.wide-b1.ensures c.wide-b2.ensures c.wide-b3.ensures c.if-bytes-end.true
+returns-then-bytes-end c = cut_short c.args.bytes.now _ c.args.absent c.if-bytes-at.false c.if-map-ge8.false c.from.ensures c.from-2.ensures c.from-3.ensures c.if-bytes-end.true
 
 pub returns-then-map-map_of : goal.returns-then-map-map_of
-returns-then-map-map_of c = needless_field c.args.bytes.now _ c.args.absent c.if-bytes-at.false c.if-map-ge8.false c.wide-b1.ensures c.wide-b2.ensures c.wide-b3.ensures c.if-bytes-end.false c.field.ensures c.field-2.ensures c.field-3.ensures (λ e. c.if-map-map_of.true (e ∙ sym c.map_of.ensures))
+returns-then-map-map_of c = needless_field c.args.bytes.now _ c.args.absent c.if-bytes-at.false c.if-map-ge8.false c.from.ensures c.from-2.ensures c.from-3.ensures c.if-bytes-end.false c.field.ensures c.field-2.ensures c.field-3.ensures (λ e. c.if-map-map_of.true (e ∙ sym c.map_of.ensures))
 
 pub returns : goal.returns
-returns c = taken-whole c.args.bytes.now _ c.args.absent c.if-bytes-at.false c.if-map-ge8.false c.wide-b1.ensures c.wide-b2.ensures c.wide-b3.ensures c.if-bytes-end.false c.field.ensures c.field-2.ensures c.field-3.ensures (c.if-map-map_of.false ∙ c.map_of.ensures)
+returns c = taken-whole c.args.bytes.now _ c.args.absent c.if-bytes-at.false c.if-map-ge8.false c.from.ensures c.from-2.ensures c.from-3.ensures c.if-bytes-end.false c.field.ensures c.field-2.ensures c.field-3.ensures (c.if-map-map_of.false ∙ c.map_of.ensures)

@@ -5,8 +5,8 @@ use Rattle.shotfile_verdict.specs.Verdicts.{list_verdict}
 use Rattle.shotfile_verdict.proofs.VerdictLaws.{accepted-verdict}
 use Rattle.shotfile_verdict.proofs.put_list_verdict.Goals as goal
 
-pub returns-in-Accepted : goal.returns-in-Accepted
-returns-in-Accepted c = accepted-verdict c.args.out.now c.args.at (sym c.in-Accepted.is ∙ c.check.ensures.answer) c.requires
+pub returns-in-Ok : goal.returns-in-Ok
+returns-in-Ok c = accepted-verdict c.args.out.now c.args.at (sym c.in-Ok.is ∙ c.check.ensures.answer) c.requires
 
-pub returns-in-Refused : goal.returns-in-Refused
-returns-in-Refused c = wrote_as (ap list_verdict (sym c.in-Refused.is ∙ c.check.ensures.answer)) c.put_refused.ensures
+pub returns-in-Err : goal.returns-in-Err
+returns-in-Err c = wrote_as (ap list_verdict (sym c.in-Err.is ∙ c.check.ensures.answer)) c.put_refused.ensures

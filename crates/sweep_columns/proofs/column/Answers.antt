@@ -4,4 +4,4 @@ use Rattle.sweep_columns.proofs.column.Goals as goal
 
 pub returns : goal.returns
 unfolding column_at
-returns c = c.points.ensures
+returns c = rw c.from-j.ensures at c.points.ensures

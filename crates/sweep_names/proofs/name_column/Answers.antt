@@ -8,4 +8,4 @@ returns c = let given = c.args in
     let inside = c.requires.rect_in.0 in
     let column = c.bit in
     column-tells given.r given.k given.l.now given.u.now column.result column.ensures inside
-    (omega (arith, inside.z_in)) c.name_rows.ensures c.requires.lent_but.tells
+    (omega (arith, inside.z_in)) (rw (c.from-a.ensures, c.from-b.ensures) at c.name_rows.ensures) c.requires.lent_but.tells

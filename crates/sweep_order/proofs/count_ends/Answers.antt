@@ -1,19 +1,27 @@
-use mathlib.Core.Path.{◌≡◌, refl}
-use native.Mathlib.Omega.{arith}
-use Rattle.sweep_order.proofs.OrderLaws.{ends_asked, ends_more}
-use borrow.Author.Rules.{rules}
+use mathlib.Core.Path.{sym, ◌∙◌}
+use Rattle.std.proofs.lemmas.List.{length_push}
+use Rattle.sweep_order.proofs.OrderLaws.{ends_asked, ends_more, six_end, six-in, six-rest}
 use Rattle.sweep_order.proofs.count_ends.Goals as goal
 
-pub loop-i-init : goal.loop-i-init
-loop-i-init c = (omega arith, c.requires.1, refl)
-
 pub count_one-requires : goal.count_one-requires
-count_one-requires c = ends_asked _ _ _ c.requires.0 _ _ c.loop-i-test.true c.loop-i.invariant.1
+count_one-requires c =
+    let given = c.requires.0 in
+    let kept = c.loop-ends.invariant in
+    let cut = c.in-Some.ensures.steps.1 in
+    let e = sym kept.rest ∙ cut.0 in
+    let six = cut.1 ∙ kept.six in
+    rw (six_end _ _ given.there _ _ _ e six) (ends_asked _ _ _ given _ _ (six-in _ _ given.there _ _ _ e six) kept.counted)
 
-pub loop-i-preserved : goal.loop-i-preserved
-loop-i-preserved c = let given = c.requires.0 in
-    let more = ends_more _ _ _ given _ _ _ c.loop-i-test.true c.loop-i.invariant.1 c.count_one.ensures in
-    (omega arith, more, search rules)
-
-pub returns : goal.returns
-returns c = let m : c.loop-i.i ≡ c.args.count = omega arith in rw m at c.loop-i.invariant.1
+pub loop-ends-preserved : goal.loop-ends-preserved
+loop-ends-preserved c =
+    let given = c.requires.0 in
+    let kept = c.loop-ends.invariant in
+    let cut = c.in-Some.ensures.steps.1 in
+    let e = sym kept.rest ∙ cut.0 in
+    let six = cut.1 ∙ kept.six in
+    let set = rw (six_end _ _ given.there _ _ _ e six) at c.count_one.ensures in
+    rw (length_push c.loop-ends.yielded c.in-Some.ends) (record {
+      six = c.in-Some.ensures.steps.0 ∙ kept.six;
+      rest = six-rest _ _ given.there _ _ _ e six;
+      counted = ends_more _ _ _ given _ _ _ (six-in _ _ given.there _ _ _ e six) kept.counted set;
+    })

@@ -1,17 +1,15 @@
-use mathlib.Core.Path.{refl}
-use native.Mathlib.Omega.{arith}
-use borrow.Author.Tests.{le-ltb, lt-ltb}
-use Rattle.ground.proofs.SearchLaws.{search-none, search-more, search-all, search-found}
+-- The range is searched.
+use mathlib.Core.Path.{◌≡◌}
+use mathlib.Core.Bool.{true, false}
+use borrow.Author.Rules.{rules}
+use Rattle.std.proofs.Common.{tests}
+use Rattle.std.proofs.lemmas.Iterator.{first_from_Range}
+use Rattle.sweep_order.specs.Order.{begins_past}
+use Rattle.sweep_order.proofs.OrderLaws.{place_found}
 use Rattle.sweep_order.proofs.first_past.Goals as goal
 
-pub loop-i-init : goal.loop-i-init
-loop-i-init c = search-none c.requires.1
-
-pub loop-i-preserved : goal.loop-i-preserved
-loop-i-preserved c = search-more c.loop-i.invariant (omega arith) refl (le-ltb _ _ c.if-x-boxes.false)
-
-pub returns-then-i-count : goal.returns-then-i-count
-returns-then-i-count c = search-all c.loop-i.invariant (omega arith)
-
-pub returns-then-x-boxes : goal.returns-then-x-boxes
-returns-then-x-boxes c = search-found c.loop-i.invariant refl (lt-ltb _ _ c.if-x-boxes.true)
+pub returns : goal.returns
+returns c =
+    let passes = begins_past c.args.boxes.now c.args.x in
+    rw c.unwrap_or.ensures (place_found passes _ _ c.find.result c.requires.1
+    (first_from_Range _ _ _ _ (λ i. passes i ≡ true) (λ i. passes i ≡ false) c.find.ensures.ran (λ i q k. search (rules, tests)) (λ i q k. search (rules, tests))))

@@ -1,19 +1,15 @@
-use mathlib.Core.Path.{refl}
-use native.Mathlib.Omega.{arith}
-use borrow.Author.Tests.{lt-leb, le-leb}
-use Rattle.ground.proofs.SearchLaws.{search-none, search-more, search-all, search-found}
-use Rattle.lattice.specs.Boxes.{box_at}
+-- The range is searched.
+use mathlib.Core.Path.{◌≡◌}
+use mathlib.Core.Bool.{true, false}
+use borrow.Author.Rules.{rules}
+use Rattle.std.proofs.Common.{tests}
+use Rattle.std.proofs.lemmas.Iterator.{first_from_Range}
+use Rattle.sweep_order.specs.Order.{lasts_to}
+use Rattle.sweep_order.proofs.OrderLaws.{place_found}
 use Rattle.sweep_order.proofs.pass.Goals as goal
 
-pub loop-i-init : goal.loop-i-init
-loop-i-init c = search-none c.requires.1
-
-pub loop-i-preserved : goal.loop-i-preserved
-loop-i-preserved c = let given = c.args in
-    search-more c.loop-i.invariant (omega arith) refl (lt-leb given.x (box_at given.boxes.now c.loop-i.i).x_end (omega arith))
-
-pub returns-then-i-old : goal.returns-then-i-old
-returns-then-i-old c = search-all c.loop-i.invariant (omega arith)
-
-pub returns-then-x-boxes : goal.returns-then-x-boxes
-returns-then-x-boxes c = search-found c.loop-i.invariant refl (le-leb _ _ c.if-x-boxes.true)
+pub returns : goal.returns
+returns c =
+    let passes = lasts_to c.args.boxes.now c.args.x in
+    rw c.unwrap_or.ensures (place_found passes _ _ c.find.result c.requires.1
+    (first_from_Range _ _ _ _ (λ i. passes i ≡ true) (λ i. passes i ≡ false) c.find.ensures.ran (λ i q k. search (rules, tests)) (λ i q k. search (rules, tests))))

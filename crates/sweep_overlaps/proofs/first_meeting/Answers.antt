@@ -1,19 +1,15 @@
-use native.Mathlib.Omega.{arith}
-use Rattle.ground.proofs.SearchLaws.{search-none, search-more, search-all, search-found}
-use Rattle.sweep_overlaps.proofs.PartLaws.{boxes-less}
+-- The range is searched.
+use mathlib.Core.Path.{◌≡◌}
+use mathlib.Core.Bool.{true, false}
+use borrow.Author.Rules.{rules}
+use Rattle.std.proofs.Common.{tests}
+use Rattle.std.proofs.lemmas.Iterator.{first_from_Range}
+use Rattle.sweep_overlaps.specs.Overlaps.{meets_at}
+use Rattle.sweep_overlaps.proofs.ShadeLaws.{place_found}
 use Rattle.sweep_overlaps.proofs.first_meeting.Goals as goal
 
-pub loop-n-init : goal.loop-n-init
-loop-n-init c = search-none c.requires.from_le_to
-
-pub meets-requires : goal.meets-requires
-meets-requires c = record { first_boxes = boxes-less _ (omega arith) c.requires.first_boxes; rect_in = c.requires.rect_in }
-
-pub loop-n-preserved : goal.loop-n-preserved
-loop-n-preserved c = search-more c.loop-n.invariant (omega arith) c.meets.ensures c.if-meets.false
-
-pub returns-then-n-to : goal.returns-then-n-to
-returns-then-n-to c = search-all c.loop-n.invariant (omega arith)
-
-pub returns-then-meets : goal.returns-then-meets
-returns-then-meets c = search-found c.loop-n.invariant c.meets.ensures c.if-meets.true
+pub returns : goal.returns
+returns c =
+    let passes = meets_at c.args.boxes.now c.args.x c.args.r in
+    rw c.unwrap_or.ensures (place_found passes _ _ c.find.result c.requires.from_le_to
+    (first_from_Range _ _ _ _ (λ i. passes i ≡ true) (λ i. passes i ≡ false) c.find.ensures.ran (λ i q k. search (rules, tests)) (λ i q k. search (rules, tests))))

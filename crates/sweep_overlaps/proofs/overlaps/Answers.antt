@@ -1,16 +1,8 @@
 -- The sums of sixteen bits tell the four tests of the definition.
 use native.Mathlib.Omega.{arith}
 use Rattle.lattice.specs.Boxes.{box_at}
-use Rattle.sweep_overlaps.proofs.FourLaws.{four-fits, four-tests}
+use Rattle.sweep_overlaps.proofs.FourLaws.{four-tests}
 use Rattle.sweep_overlaps.proofs.overlaps.Goals as goal
-
-pub overflow_add-result : goal.overflow_add-result
-overflow_add-result c = let given = c.args in
-    let box = box_at given.boxes.now given.i in
-    let inside = c.requires.first_boxes.inside given.i (omega arith) in
-    let ends = c.four-ends in
-    let bounds = c.four-bounds in
-    record { fits = four-fits box given.r inside ends.result bounds.result ends.ensures bounds.ensures }
 
 pub returns : goal.returns
 returns c = let given = c.args in
@@ -18,4 +10,5 @@ returns c = let given = c.args in
     let inside = c.requires.first_boxes.inside given.i (omega arith) in
     let ends = c.four-ends in
     let bounds = c.four-bounds in
-    four-tests box given.r inside c.requires.rect_in ends.result bounds.result ends.ensures bounds.ensures
+    let ends_of_box = rw c.rect-t.ensures at ends.ensures in
+    four-tests box given.r inside c.requires.rect_in ends.result bounds.result ends_of_box bounds.ensures

@@ -5,30 +5,27 @@ use Rattle.sweep_painting.proofs.PaintingLaws.{painted-whole, painted-none, pain
 use Rattle.sweep_painting.proofs.+paint_parts.Goals as goal
 
 pub returns-then-fuel-eq0-clause-painted : goal.returns-then-fuel-eq0-clause-painted
-returns-then-fuel-eq0-clause-painted t c = painted-whole _ _ _ _ _ _ _ c.paint.ensures.turned
+returns-then-fuel-eq0-clause-painted t c = painted-whole _ _ _ _ _ _ _ c.fill_and_name.ensures.turned
 
 pub returns-then-end-from-clause-painted : goal.returns-then-end-from-clause-painted
-returns-then-end-from-clause-painted t c = painted-whole _ _ _ _ _ _ _ c.paint-then-end-from.ensures.turned
+returns-then-end-from-clause-painted t c = painted-whole _ _ _ _ _ _ _ c.fill_and_name-then-end-from.ensures.turned
 
-pub loop-around-init : goal.loop-around-init
-loop-around-init t c = (omega arith, (painted-none _ _ _ _ _ _ _, c.requires.lent.tells))
+pub loop-side-init : goal.loop-side-init
+loop-side-init t c = (painted-none _ _ _ _ _ _ _, c.requires.lent.tells)
 
-pub loop-around-preserved : goal.loop-around-preserved
-loop-around-preserved t c =
+pub loop-side-preserved : goal.loop-side-preserved
+loop-side-preserved t c =
     let at = c.last_meeting-end.ensures in
     let more : c.args.from < c.last_meeting-end.result = omega (arith, at.onward, c.if-end-from.false) in
     let turn = c.paint_parts-left.ensures in (
-      omega arith,
-      (
-        painted-more _ _ _ _ _ _ (omega (arith, more, at.within)) _ c.loop-around.around _ _ _ c.loop-around.invariant.1.0
-            (rw c.part.ensures at turn.painted),
-        turn.tells,
-      ),
+      painted-more _ _ _ _ _ _ (omega (arith, more, at.within)) _ c.loop-side.side-index _ _ _ c.loop-side.invariant.0
+          (rw c.part.ensures at turn.painted),
+      turn.tells,
     )
 
 pub returns-clause-painted : goal.returns-clause-painted
 returns-clause-painted t c =
-    let four : c.loop-around.around ≡ 4 = omega arith in
+    let four : c.loop-side.side-index ≡ 4 = omega arith in
     let at = c.last_meeting-end.ensures in
     let more : c.args.from < c.last_meeting-end.result = omega (arith, at.onward, c.if-end-from.false) in
-    painted-all _ _ _ _ _ _ (omega (arith, more, at.within)) _ (at.found more) c.common-core.ensures _ _ (rw four at c.loop-around.invariant.1.0)
+    painted-all _ _ _ _ _ _ (omega (arith, more, at.within)) _ (at.found more) c.common-core.ensures _ _ (rw four at c.loop-side.invariant.0)

@@ -3,13 +3,9 @@ use Rattle.sweep_names.proofs.NameLaws.{lent_still}
 use Rattle.sweep_plane.proofs.PlaneLaws.{shown-about, plane-found, settled-both}
 use Rattle.sweep_plane.proofs.turn.Goals as goal
 
-pub lines-s-requires : goal.lines-s-requires
-lines-s-requires c = let asked = c.requires in
-    let shown = shown-about _ _ _ asked.about.0 asked.both.0 c.renew.ensures.becomes in
-    record { field_bound = (asked.both.0.lent.small, asked.about.2, asked.both.1, asked.both.2); layers = (record { solid = _; shown = shown }, c.renew.ensures.tells) }
-
-pub settle-requires : goal.settle-requires
-settle-requires c = lent_still c.requires.both.0.lent c.renew.ensures.becomes.same_size c.renew.ensures.tells
+pub lines-s-requires-clause-layers : goal.lines-s-requires-clause-layers
+lines-s-requires-clause-layers c = let asked = c.requires in
+    (record { solid = _; shown = shown-about _ _ _ asked.about.0 asked.both.0 c.renew.ensures.becomes }, c.renew.ensures.tells)
 
 pub returns : goal.returns
 returns c = let asked = c.requires in

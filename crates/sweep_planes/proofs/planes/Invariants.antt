@@ -1,7 +1,6 @@
 -- Plane after plane.
 use mathlib.Core.Path.{◌≡◌}
-use Prim.Native.Nat.{◌+◌, ◌-◌, ◌*◌, ◌≤◌}
-use lib.ListN.{length}
+use Prim.Native.Nat.{◌*◌}
 use Rattle.lattice.specs.Cells.{plane_points}
 use Rattle.lattice.specs.Boxes.{box_cells}
 use Rattle.lattice_sums.specs.CornerSums.{Room}
@@ -12,12 +11,9 @@ use Rattle.sweep_planes.specs.Planes.{Before, corners_below}
 use Rattle.sweep_planes.proofs.planes.Given as goal
 
 abbrev pub invariant-loop-x : goal.invariant-loop-x
-invariant-loop-x l = (l.x ≤ l.field + 1)
-    × Before l.boxes l.count l.x l.from l.old
-    × Both l.field (touching l.boxes l.x l.old) l.l l.u l.names
-    × (state l.t l.buf ≡ found (state l.initial.t l.initial.buf) (corners_below l.field l.x (box_cells l.boxes l.count)))
-    × Room l.t (l.x * plane_points 1024)
-    × (length l.l ≡ length l.initial.l) × (length l.u ≡ length l.initial.u) × (length l.names ≡ length l.initial.names) × (length l.buf ≡ length l.initial.buf)
-
-abbrev pub decreases-loop-x : goal.decreases-loop-x
-decreases-loop-x l = l.field + 1 - l.x
+invariant-loop-x l = record {
+  before : Before l.boxes l.count l.x l.from l.old;
+  images : Both l.field (touching l.boxes l.x l.old) l.l l.u l.names;
+  found : state l.t l.buf ≡ found (state l.initial.t l.initial.buf) (corners_below l.field l.x (box_cells l.boxes l.count));
+  room : Room l.t (l.x * plane_points 1024);
+}

@@ -1,28 +1,23 @@
-use mathlib.Core.Path.{◌≡◌, refl}
+use mathlib.Core.Path.{◌≡◌}
 use Prim.Native.Nat.{◌+◌}
 use native.Mathlib.Omega.{arith}
 use Rattle.sweep_points.proofs.LineLaws.{lines_none, lines-past, lines_more}
 use Rattle.sweep_points.proofs.Turns.{line-room, plane-found}
-use borrow.Author.Rules.{rules}
 use Rattle.sweep_points.proofs.lines.Goals as goal
 
 pub loop-y-init : goal.loop-y-init
 loop-y-init c = let given = c.requires in
     let next = c.next_named-y.ensures in
-    (next.2, lines-past _ _ given.layers.1 0 _ _ (omega arith) (omega arith) next.0 (lines_none _ _), refl)
+    (next.2, lines-past _ _ given.layers.1 0 _ _ (omega arith) (omega arith) next.0 (lines_none _ _))
 
-pub line-s-requires : goal.line-s-requires
-line-s-requires c = let given = c.requires in
-    record {
-      field_bound = (
-        given.field_bound.0,
-        omega (arith, given.field_bound),
-        omega arith,
-        given.field_bound.2,
-        line-room _ _ given.field_bound.0 given.field_bound.1 given.layers.0 _ c.loop-y.y (omega arith) given.field_bound.3 c.loop-y.invariant.1,
-      );
-      layers = given.layers;
-    }
+pub line-s-requires-clause-field_bound : goal.line-s-requires-clause-field_bound
+line-s-requires-clause-field_bound c = let given = c.requires in (
+  given.field_bound.0,
+  omega (arith, given.field_bound),
+  omega arith,
+  given.field_bound.2,
+  line-room _ _ given.field_bound.0 given.field_bound.1 given.layers.0 _ c.loop-y.y (omega arith) given.field_bound.3 c.loop-y.invariant.1,
+)
 
 pub loop-y-preserved : goal.loop-y-preserved
 loop-y-preserved c = let given = c.requires in
@@ -30,7 +25,6 @@ loop-y-preserved c = let given = c.requires in
       next.2,
       lines-past _ _ given.layers.1 _ _ _ next.1 (omega (arith, next, given.field_bound)) next.0
           (lines_more _ _ _ c.loop-y.invariant.1 c.line-s.ensures),
-      search rules,
     )
 
 pub returns : goal.returns

@@ -1,15 +1,15 @@
-use native.Mathlib.Omega.{arith}
+-- Where eight words have no bit together, each is 0.
+use Rattle.std.proofs.Common.{rules, arith, ◌≡◌, ◌+◌, ◌-◌, fold, bit_or, sym, ap, ◌∙◌, get_or}
+use Rattle.std.specs.List.{between}
+use Rattle.std.proofs.lemmas.List.Edits.{get_or-between}
 use borrow.Author.Tests.{eqb-true}
-use Rattle.sweep_settling.proofs.SettlingLaws.{blank-more}
+use Rattle.sweep_settling.proofs.SettlingLaws.{fold-or-none}
 use Rattle.sweep_settling.proofs.blank.Goals as goal
 
-pub loop-i-init : goal.loop-i-init
-loop-i-init c = (omega arith, λ e j h k. absurd (omega arith))
-
-pub loop-i-preserved : goal.loop-i-preserved
-loop-i-preserved c = let at = c.loop-i in
-    let given = c.args in
-    (omega arith, blank-more given.names.now given.y at.i at.w at.invariant.1)
-
 pub returns : goal.returns
-returns c e j h k = c.loop-i.invariant.1 (eqb-true c.loop-i.w 0 e) j h (omega arith)
+returns c e i h k =
+    let names = c.args.names.now in
+    let y = c.args.y in
+    let folded : c.fold.result ≡ fold bit_or 0 (between y (y + 8) names) = search rules in
+    let each = (fold-or-none (between y (y + 8) names) 0 (sym folded ∙ eqb-true c.fold.result 0 e)).1 in
+    ap (λ n. get_or names n 0) (omega arith) ∙ sym (get_or-between names y (y + 8) (i - y) 0 (omega arith)) ∙ each (i - y)

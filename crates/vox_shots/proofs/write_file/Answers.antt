@@ -5,8 +5,8 @@ use Rattle.drawn_file.proofs.DrawnLaws.{drawn-within}
 use Rattle.vox_shots.proofs.write_file.Goals as goal
 
 pub slice_bounds-file-end : goal.slice_bounds-file-end
-slice_bounds-file-end c = drawn-within c.write_drawing-answer.ensures c.in-Written.is
+slice_bounds-file-end c = drawn-within c.write_drawing.ensures c.in-Ok.is
 
-pub slice_bounds-write_text-end-in-Written : goal.slice_bounds-write_text-end-in-Written
-slice_bounds-write_text-end-in-Written c =
-    sym (length-take-le _ _ (drawn-within c.write_drawing-answer.ensures c.in-Written.is))
+pub slice_bounds-write_text-end : goal.slice_bounds-write_text-end
+slice_bounds-write_text-end c =
+    sym (length-take-le _ _ (drawn-within c.write_drawing.ensures c.in-Ok.is))

@@ -1,3 +1,4 @@
+use mathlib.Core.Path.{◌≡◌, ◌∙◌}
 use native.Mathlib.Omega.{arith}
 use Rattle.ground.proofs.SearchLaws.{search-none, search-more, search-all, search-found}
 use Rattle.vox_voxels.proofs.VoxelLaws.{wrong-found}
@@ -13,4 +14,6 @@ pub loop-n-preserved : goal.loop-n-preserved
 loop-n-preserved c = search-more c.loop-n.invariant (omega arith) c.is_wrong_voxel.ensures c.if-is_wrong_voxel.false
 
 pub returns : goal.returns
-returns c = wrong-found _ (search-all c.loop-n.invariant (omega arith))
+returns c =
+    let all : c.args.count ≡ c.loop-n.n = omega arith in
+    all ∙ wrong-found _ (search-all c.loop-n.invariant (omega arith))

@@ -1,12 +1,9 @@
-use native.Mathlib.Omega.{arith}
-use Rattle.section.proofs.StepLaws.{stepped-none, stepped-more, stepped-met}
+-- `meet` takes the record of that number from a reader.
+use mathlib.Core.Path.{ap}
+use Rattle.std.proofs.lemmas.Iterator.Consumers.{nth_from_yields_List}
+use Rattle.lattice.specs.Listing.{read_back}
+use Rattle.section.proofs.ReaderLaws.{reader-gives, given-nth}
 use Rattle.acceptance.proofs.sections.meet.Goals as goal
 
-pub loop-i-init : goal.loop-i-init
-loop-i-init c = (omega arith, stepped-none _)
-
-pub loop-i-preserved : goal.loop-i-preserved
-loop-i-preserved c = (omega arith, stepped-more _ _ c.loop-i.invariant.1 c.next_from-at.ensures)
-
 pub returns : goal.returns
-returns c = stepped-met _ c.loop-i.i c.args.steps c.loop-i.invariant.1 (omega arith) c.step_from.ensures
+returns c = given-nth (read_back c.args.listing.now) c.args.steps (nth_from_yields_List _ _ _ c.nth.ensures.ran (reader-gives c.args.listing.now 0 (ap (λ b. b.now) c.open.ensures.0) c.open.ensures.1))

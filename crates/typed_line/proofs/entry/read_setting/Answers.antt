@@ -1,16 +1,21 @@
 -- One word, and no second.
-use mathlib.Core.Path.{ap, ◌∙◌}
-use Rattle.typed_line.specs.declared.entry.Number.{Number}
-use Rattle.typed_line.specs.Entries.{on_number}
-use Rattle.typed_line.specs.declared.entry.Entry.TheVariants.{Setting as Settled}
-use Rattle.typed_line.proofs.Saying.{setting-none, setting-one, setting-more}
+use Rattle.std.proofs.Common.{arith}
+use Rattle.std.proofs.lemmas.Result.{err_from_is_err_and}
+use Rattle.typed_line.specs.Words.{words_of}
+use Rattle.typed_line.proofs.Saying.{setting-wrong, setting-one}
 use Rattle.typed_line.proofs.entry.read_setting.Goals as goal
 
-pub returns-then-n : goal.returns-then-n
-returns-then-n c = setting-none c.args.which (c.next_word-n.ensures.none c.if-n.true)
+pub returns-in_err-only_word : goal.returns-in_err-only_word
+returns-in_err-only_word c =
+    let p = err_from_is_err_and c.from_residual.result c.from_residual.ensures.1 in
+    let h = setting-wrong c.args.which (words_of c.args.words.now) c.in_err-only_word.ensures in
+    grind arith
 
-pub returns-then-more : goal.returns-then-more
-returns-then-more c = setting-more c.args.which (c.next_word-n.ensures.some c.if-n.false) (c.next_word-more.ensures.some c.if-more.true)
+pub returns-in_err-number : goal.returns-in_err-number
+returns-in_err-number c =
+    let p = err_from_is_err_and c.from_residual-in_err-number.result c.from_residual-in_err-number.ensures.1 in
+    let h = setting-one c.args.which (words_of c.args.words.now) c.in_ok-only_word.ensures in
+    grind arith
 
 pub returns : goal.returns
-returns c = c.with_number.ensures ∙ (ap (λ (k : Number). on_number k (Settled c.args.which)) c.number_at.ensures ∙ setting-one c.args.which (c.next_word-n.ensures.some c.if-n.false) (c.next_word-more.ensures.none c.if-more.false))
+returns c = let h = setting-one c.args.which (words_of c.args.words.now) c.in_ok-only_word.ensures in grind arith

@@ -1,19 +1,44 @@
 -- Three words, and no fourth.
-use mathlib.Core.Path.{◌∙◌}
-use Rattle.typed_line.proofs.Saying.{shot-none, shot-one, shot-two, shot-three, shot-more}
+use Rattle.std.proofs.Common.{arith}
+use Rattle.std.proofs.lemmas.Result.{err_from_is_err_and}
+use Rattle.typed_line.proofs.Saying.{shot-none, shot-one, shot-wrong, shot-three}
 use Rattle.typed_line.proofs.entry.read_shot.Goals as goal
 
-pub returns-then-x : goal.returns-then-x
-returns-then-x c = shot-none (c.next_word-x.ensures.none c.if-x.true)
+pub returns-in_err-x : goal.returns-in_err-x
+returns-in_err-x c =
+    let p = err_from_is_err_and c.from_residual.result c.from_residual.ensures.1 in
+    let h = shot-none c.in_err-x.ensures.0 in
+    grind arith
 
-pub returns-then-y : goal.returns-then-y
-returns-then-y c = shot-one (c.next_word-x.ensures.some c.if-x.false) (c.next_word-y.ensures.none c.if-y.true)
+pub returns-in_err-y : goal.returns-in_err-y
+returns-in_err-y c =
+    let p = err_from_is_err_and c.from_residual-in_err-y.result c.from_residual-in_err-y.ensures.1 in
+    let h = shot-one c.in_ok-x.ensures c.in_err-y.ensures.0 in
+    grind arith
 
-pub returns-then-z : goal.returns-then-z
-returns-then-z c = shot-two (c.next_word-x.ensures.some c.if-x.false) (c.next_word-y.ensures.some c.if-y.false) (c.next_word-z.ensures.none c.if-z.true)
+pub returns-in_err-z : goal.returns-in_err-z
+returns-in_err-z c =
+    let p = err_from_is_err_and c.from_residual-in_err-z.result c.from_residual-in_err-z.ensures.1 in
+    let h = shot-wrong c.in_ok-x.ensures c.in_ok-y.ensures c.in_err-z.ensures in
+    grind arith
 
-pub returns-then-more : goal.returns-then-more
-returns-then-more c = shot-more (c.next_word-x.ensures.some c.if-x.false) (c.next_word-y.ensures.some c.if-y.false) (c.next_word-z.ensures.some c.if-z.false) (c.next_word-more.ensures.some c.if-more.true)
+pub returns-in_err-x-2 : goal.returns-in_err-x-2
+returns-in_err-x-2 c =
+    let p = err_from_is_err_and c.from_residual-in_err-x-2.result c.from_residual-in_err-x-2.ensures.1 in
+    let h = shot-three c.in_ok-x.ensures c.in_ok-y.ensures c.in_ok-z.ensures in
+    grind arith
+
+pub returns-in_err-y-2 : goal.returns-in_err-y-2
+returns-in_err-y-2 c =
+    let p = err_from_is_err_and c.from_residual-in_err-y-2.result c.from_residual-in_err-y-2.ensures.1 in
+    let h = shot-three c.in_ok-x.ensures c.in_ok-y.ensures c.in_ok-z.ensures in
+    grind arith
+
+pub returns-in_err-z-2 : goal.returns-in_err-z-2
+returns-in_err-z-2 c =
+    let p = err_from_is_err_and c.from_residual-in_err-z-2.result c.from_residual-in_err-z-2.ensures.1 in
+    let h = shot-three c.in_ok-x.ensures c.in_ok-y.ensures c.in_ok-z.ensures in
+    grind arith
 
 pub returns : goal.returns
-returns c = c.with_numbers.ensures ∙ shot-three (c.next_word-x.ensures.some c.if-x.false) (c.next_word-y.ensures.some c.if-y.false) (c.next_word-z.ensures.some c.if-z.false) c.number_at.ensures c.number_at-2.ensures c.number_at-3.ensures (c.next_word-more.ensures.none c.if-more.false)
+returns c = let h = shot-three c.in_ok-x.ensures c.in_ok-y.ensures c.in_ok-z.ensures in grind arith

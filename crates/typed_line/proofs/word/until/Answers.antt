@@ -1,14 +1,21 @@
-use mathlib.Core.Path.{sym, ◌∙◌}
-use native.Mathlib.Omega.{arith}
-use Rattle.typed_line.specs.Cursors.{is_end}
-use Rattle.typed_line.proofs.Cutting.{before-stop, before_on, before-end}
+-- What stands before the place that is found, or the whole.
+use Rattle.std.proofs.Common.{rules, ap, ◌∙◌, take, drop, tests}
+use Rattle.std.proofs.lemmas.Iterator.{YieldsList-from_slice}
+use Rattle.std.proofs.lemmas.Iterator.Search.{position_from_yields_List}
+use Rattle.typed_line.proofs.Cutting.{before-take, before-found}
 use Rattle.typed_line.proofs.word.until.Goals as goal
 
-pub returns-then-is_end : goal.returns-then-is_end
-returns-then-is_end c = omega (arith, before-stop (is_end c.args.what) c.args.s.now c.loop-i.i c.loop-i-test.true (sym c.is_end.ensures ∙ c.if-is_end.true), c.loop-i.invariant.2)
+pub returns-clause-before : goal.returns-clause-before
+returns-clause-before g c = λ p h.
+    c.split_at.ensures.front
+    ∙ (ap (λ k. take k c.args.s.now) (before-found p c.args.s.now
+    (position_from_yields_List p _ _ c.position.result c.position.ensures.ran (YieldsList-from_slice c.args.s.now c.iter.ensures.rest) (λ x b q k. search (rules, tests, h)))
+    c.unwrap_or-end.ensures)
+    ∙ before-take p c.args.s.now)
 
-pub loop-i-preserved : goal.loop-i-preserved
-loop-i-preserved c = (omega arith, omega arith, omega (arith, before_on (is_end c.args.what) c.args.s.now c.loop-i.i c.loop-i-test.true (sym c.is_end.ensures ∙ c.if-is_end.false), c.loop-i.invariant.2))
-
-pub returns : goal.returns
-returns c = omega (arith, before-end (is_end c.args.what) c.args.s.now c.loop-i.i c.loop-i-test.false, c.loop-i.invariant.2)
+pub returns-clause-rest : goal.returns-clause-rest
+returns-clause-rest g c = λ p h.
+    c.split_at.ensures.back
+    ∙ ap (λ k. drop k c.args.s.now) (before-found p c.args.s.now
+    (position_from_yields_List p _ _ c.position.result c.position.ensures.ran (YieldsList-from_slice c.args.s.now c.iter.ensures.rest) (λ x b q k. search (rules, tests, h)))
+    c.unwrap_or-end.ensures)

@@ -1,1 +1,0 @@
-pub mod FilledLaws  -- the bytes that are there fit the slice

@@ -1,8 +1,0 @@
--- The table is that of the weight at all 256 patterns, which is computed.
-use Rattle.lattice.specs.Pattern.{ez, of_byte}
-use Rattle.lattice_tables.proofs.TableLaws.{table-weighs}
-use Rattle.lattice_tables.proofs.table_ez.Goals as goal
-
-pub returns : goal.returns
-unfolding ez of_byte
-returns c = table-weighs ez

@@ -1,6 +1,0 @@
--- One store.
-use Rattle.buffer.proofs.WroteLaws.{wrote_one}
-use Rattle.text_parts.proofs.put_byte.Goals as goal
-
-pub returns : goal.returns
-returns c = wrote_one c.args.out.now c.args.at c.args.b c.requires
