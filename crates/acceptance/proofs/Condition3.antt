@@ -18,8 +18,8 @@ use Rattle.measure.specs.Answers.{ListCall, ListAccepts, ListRefuses}
 use Rattle.measure.specs.Agreement.{SameCells}
 use Rattle.measure.proofs.Condition3.{measure-agrees, list-agrees, list-lists, same_bytes}
 use Rattle.measure.proofs.Refused.{listing-fits, list-accepts, list-refuses}
-use Rattle.acceptance.specs.Condition3.{TotalsAgree, CornersListed, CellsCompared}
-use Rattle.acceptance.specs.Comparing.{Fits, Compared, comparison}
+use Rattle.acceptance.specs.Condition3.{TotalsAgree, CornersListed, Compared, CellsCompared}
+use Rattle.acceptance.specs.Comparing.{Fits, comparison}
 use Rattle.std.specs.Prelude.{Ok, Err}
 
 -- ---- one list

@@ -2,14 +2,13 @@
 -- corner sums, and the corner count is the number of corner points; the listing has each corner once, with its pattern, rising, and nothing
 -- else, and the corner sums from its bytes alone are the same figures; two listings are the same bytes exactly when the two lists cure the
 -- same cells. docs/SCOPE.md, 'Corner points'.
-use Rattle.std.specs.Prelude.{◌≡◌, List, ◌↔◌, ◌⊎◌, ℕ, ◌*◌, true, take, Ok, Err}
+use Rattle.std.specs.Prelude.{◌≡◌, Bool, List, ◌↔◌, ◌⊎◌, ℕ, ◌*◌, true, take, Result, Ok, Err}
 use Rattle.refusals.specs.declared.Refusal.{Refusal}
 use Rattle.job.specs.Job.{Job}
 use Rattle.lattice_sums.specs.declared.sums.Totals.{Totals}
 use Rattle.measure_intake.specs.Intake.{solid, Measured}
 use Rattle.measure.specs.Answers.{ListAccepts, ListRefuses}
 use Rattle.measure.specs.Agreement.{Agrees, Lists, SameCells}
-use Rattle.acceptance.specs.Comparing.{Compared}
 
 -- of a measured list
 abbrev pub TotalsAgree : Job → Measured → Type 0
@@ -22,6 +21,10 @@ pub record ListingAgrees (job : Job) (t : Totals) (buffer' : List ℕ) : Type 0 
 
 abbrev pub CornersListed : Job → Measured → List ℕ → Type 0
 CornersListed job r buffer' = (t : Totals) → r ≡ Ok t → ListingAgrees job t buffer'
+
+-- what comparing two lists gives: the first refusal, or whether the listing bytes are the same
+abbrev pub Compared : Type 0
+Compared = Result Bool Refusal
 
 -- of two lists, of any fields, edges, grids and orders, whose listings are compared byte by byte: the same exactly if they cure the same
 -- cells; where a list is refused, by the first refusal

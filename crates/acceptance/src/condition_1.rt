@@ -1,6 +1,6 @@
 // Condition 1: handed any numbers, bytes and slices, a call accepts or names its refusal from the published list, exactly where that
 // refusal's condition is the first to hold, and leaves each lent buffer in the stated state. That of pricing is `price` of prices.
-ghost use Rattle.job.specs.Seen.{seen};
+ghost use Rattle.job.specs.Job.{seen};
 ghost use Rattle.acceptance.specs.Condition1.{CheckAnswered, IndexAnswered, MeasureAnswered, ListAnswered, CreditAnswered, WriteAnswered, ReadAnswered, VoxAnswered};
 
 use job::{Job, Stored};

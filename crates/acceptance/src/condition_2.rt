@@ -1,7 +1,7 @@
 // Condition 2: the totals are the published cell counts; writing a valid list to a shot file and reading it gives that list with its
 // settings; reading a valid list's shortest file and writing it gives its bytes: by request (vii) it is the only file that is read, and every
 // file that is read is rewritten to its own bytes.
-ghost use Rattle.job.specs.Seen.{seen};
+ghost use Rattle.job.specs.Job.{seen};
 ghost use Rattle.acceptance.specs.Condition2.{TotalsCounted, WrittenAndRead, ReadAndWritten};
 
 use crate::parts::front;

@@ -2,7 +2,7 @@
 // count is the number of corner points, the listing has each corner once, with its pattern, rising, and nothing else, and the corner sums
 // from its bytes alone are the same figures; two listings are the same bytes exactly when the two lists cure the same cells.
 ghost use Rattle.std.specs.Prelude.{◌*◌, ◌≤◌, ◌≡◌, length, take};
-ghost use Rattle.job.specs.Seen.{seen};
+ghost use Rattle.job.specs.Job.{seen};
 ghost use Rattle.acceptance.specs.Condition3.{TotalsAgree, CornersListed, CellsCompared};
 ghost use Rattle.text_same.specs.Same.{same};
 ghost use Rattle.acceptance.specs.Comparing.{Fits, comparison};

@@ -1,7 +1,7 @@
 // Requests (iii) and (iv), of the cover test: it names the first covering shot of the run that it is given, in that of an index the lowest of
 // the list, or says none.
 ghost use Rattle.std.specs.Prelude.{◌||◌, ◌+◌, ◌*◌, ◌/◌, ◌≤◌, leb, ◌≡◌, length};
-ghost use Rattle.job.specs.Seen.{seen};
+ghost use Rattle.job.specs.Job.{seen};
 ghost use Rattle.grid.specs.Grid.{holding};
 ghost use Rattle.grid_cover.specs.Cover.{lowest_covering};
 ghost use Rattle.acceptance.specs.CoverTest.{FirstNamed, InField, Covered};

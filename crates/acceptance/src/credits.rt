@@ -1,7 +1,6 @@
 // Request (iv), of the crediting call: each shot has the cells of which it is the lowest covering shot; the credits sum to the volume; a
 // repeat of an earlier shot has none; another order never moves the sum; shots without credit can be left out.
-ghost use Rattle.job.specs.Job.{job_of};
-ghost use Rattle.job.specs.Seen.{seen};
+ghost use Rattle.job.specs.Job.{job_of, seen};
 ghost use Rattle.acceptance.specs.Credits.{Credited, SumsAlike, LeftOut};
 
 use job::Job;

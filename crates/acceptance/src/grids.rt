@@ -1,6 +1,6 @@
 // Request (ii): an absent grid field means 16, and the writer leaves out 16; the totals and the listing of a list are the same in another
 // grid.
-ghost use Rattle.job.specs.Seen.{seen};
+ghost use Rattle.job.specs.Job.{seen};
 ghost use Rattle.acceptance.specs.Grids.{GridRead, GridWritten, ListedAlike};
 
 use job::{Job, Stored};

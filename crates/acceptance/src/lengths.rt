@@ -1,6 +1,6 @@
 // Request (v): edge length counts the outer edges only, and inner length those with three covered cells; cell counts and corner sums agree on
 // both.
-ghost use Rattle.job.specs.Seen.{seen};
+ghost use Rattle.job.specs.Job.{seen};
 ghost use Rattle.acceptance.specs.Lengths.{BothLengths};
 
 use job::Job;

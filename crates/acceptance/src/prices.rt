@@ -2,7 +2,7 @@
 // above 10,000 cents; the check says what is wrong with any other, the lookup finds the one band that holds an amount, and the price call
 // charges volume, area and outer edges, each the whole amount at the rate of that band. Check and lookup are shown for the band list, once.
 // What condition 1 asks of the price call is here too.
-ghost use Rattle.job.specs.Seen.{seen};
+ghost use Rattle.job.specs.Job.{seen};
 ghost use Rattle.acceptance.specs.Prices.{TableChecked, LookedUp, ListPriced};
 
 use job::Job;

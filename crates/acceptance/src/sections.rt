@@ -2,7 +2,7 @@
 // reader steps through its records, each once in order, and says done where no whole record is left. Where x values fall somewhere, the part
 // is the first unbroken run; for a listing that the software made, that run is all such corners.
 ghost use Rattle.std.specs.Prelude.{◌≤◌, length};
-ghost use Rattle.job.specs.Seen.{seen};
+ghost use Rattle.job.specs.Job.{seen};
 ghost use Rattle.acceptance.specs.Sections.{PartAt, PlacesAt, MetAfter, MetNext, MetAt, MetListed, PutPart, PartsPut};
 
 use job::Job;
@@ -27,6 +27,17 @@ pub fn meet(listing: &[u8], steps: usize) -> Option<Corner>
     ensures { MetAfter listing.now steps result }
 {
     section::open(listing, 0).nth(steps)
+}
+
+// The same by the calls that go from place to place: the place after so many records, and the record there.
+pub fn meet_by_places(listing: &[u8], steps: usize) -> Option<Corner>
+    ensures { MetAfter listing.now steps result }
+{
+    let mut at = 0;
+    for _ in 0..steps {
+        at = section::next_from(listing, at);
+    }
+    section::step_from(listing, at)
 }
 
 // What a reader that is opened at any place meets one step on.

@@ -6,8 +6,7 @@
 #![tactic(auto)]
 
 ghost use Rattle.std.specs.Prelude.{◌≡◌, ◌+◌, ◌*◌, ◌/◌, ◌≤◌, ◌<◌, length};
-ghost use Rattle.job.specs.Job.{shot_count};
-ghost use Rattle.job.specs.Seen.{seen};
+ghost use Rattle.job.specs.Job.{shot_count, seen};
 ghost use Rattle.crediting_carving.specs.Blocks.{added, size_of, RoomFor};
 ghost use Rattle.crediting.specs.Credits.{credits_of, CreditCall};
 ghost use Rattle.crediting.specs.GridBlocks.{interval_of, block_of, cell_credits};

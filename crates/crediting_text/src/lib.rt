@@ -4,7 +4,7 @@
 #![tactic(auto)]
 
 ghost use Rattle.std.specs.Prelude.{◌+◌, ◌*◌, ◌≤◌, length};
-ghost use Rattle.job.specs.Seen.{seen};
+ghost use Rattle.job.specs.Job.{seen};
 ghost use Rattle.buffer.specs.Wrote.{Wrote};
 ghost use Rattle.crediting_text.specs.Credited.{credit_line, credit_lines, ListCredited, FileCredited};
 

@@ -1,6 +1,6 @@
 -- The uniform grid index as a function of a list: docs/SCOPE.md, 'The grid index'.
 -- An axis of side F is cut into G intervals of width F / G; the grid cell (gx, gy, gz) has the number (gx * G + gy) * G + gz.
-use Rattle.std.specs.Prelude.{◌≡◌, ℕ, ◌+◌, ◌-◌, ◌*◌, ◌/◌, ◌%◌, ◌≤◌, Bool, ◌&&◌, List, [], ◌∷◌, ◌++◌, length, take, drop, nat_le, slice_index, slice_index_or}
+use Rattle.std.specs.Prelude.{◌≡◌, ℕ, ◌+◌, ◌-◌, ◌*◌, ◌/◌, ◌%◌, ◌≤◌, Bool, ◌&&◌, cond, List, [], ◌∷◌, ◌++◌, length, take, drop, nat_le, eqb, slice_index, slice_index_or}
 use Rattle.ground.specs.Sums.{total, join}
 use Rattle.ground.specs.Numbers.{bit, up_to, those}
 use Rattle.lattice.specs.Shots.{Shot}
@@ -23,6 +23,10 @@ touches_cell F G cell t = touches (F / G) (cell / G / G) (cell / G % G) (cell % 
 -- the shots that pass a test, by their numbers, rising
 abbrev pub shots_that : (Shot → Bool) → Job → List ℕ
 shots_that f job = those (λ i. f (shot job i)) (up_to (shot_count job.coords))
+
+-- the axis of a number: 0 is x, 1 is y, and any other is z
+abbrev pub axis_of : ℕ → Axis
+axis_of n = cond (eqb n 0) X (cond (eqb n 1) Y Z)
 
 -- the coordinate of shot number i on an axis
 abbrev pub on_axis : Axis → List ℕ → ℕ → ℕ

@@ -1,5 +1,5 @@
 // A list with its index.
-ghost use Rattle.job.specs.Seen.{seen};
+ghost use Rattle.job.specs.Job.{seen};
 ghost use Rattle.grid.specs.Grid.{Holds};
 ghost use Rattle.grid.specs.HoldsOnce.{Holds-prop};
 

@@ -2,7 +2,7 @@
 ghost use Rattle.std.specs.Prelude.{◌≡◌, ◌+◌, ◌-◌, ◌*◌, ◌/◌, ◌<◌, ◌≤◌, length};
 ghost use Rattle.job.specs.Job.{shot_count};
 ghost use Rattle.grid.specs.Quotients.{Quotients};
-ghost use Rattle.grid.specs.Grid.{meets, on_axis, meets_on, span_of};
+ghost use Rattle.grid.specs.Grid.{meets, axis_of, on_axis, meets_on, span_of};
 
 use job::shot;
 
@@ -12,6 +12,19 @@ pub enum Axis {
     X,
     Y,
     Z,
+}
+
+// The axis of a number: 0 is x, 1 is y, and any other is z.
+impl From<u16> for Axis {
+    ghost from_gives = { λ number axis. axis ≡ axis_of number };
+
+    fn from(number: u16) -> Axis {
+        match number {
+            0 => Axis::X,
+            1 => Axis::Y,
+            _ => Axis::Z,
+        }
+    }
 }
 
 // The number of grid cells.
@@ -45,21 +58,31 @@ fn interval_meets(width: u16, interval: u16, at: u16, edge: u16) -> bool
     end.wrapping_sub(low) <= u32::from(width) + u32::from(edge)
 }
 
-// Whether a shot meets an interval of an axis.
+impl Axis {
+    // Whether a shot meets an interval of the axis.
+    pub fn is_met(self, coords: &[u16], edge: u16, width: u16, interval: u16, shot: u32) -> bool
+        requires { shot < shot_count coords.now }
+        ensures { result ≡ meets_on self width interval edge coords.now shot }
+    {
+        let number = shot as usize;
+        let at = on_axis(coords, self, number);
+        interval_meets(width, interval, at, shot::edge_of(edge, coords, number))
+    }
+}
+
+// Whether a shot meets an interval of an axis, which is named by its number.
 pub fn shot_meets(
     coords: &[u16],
     edge: u16,
-    axis: Axis,
+    axis: u16,
     width: u16,
     interval: u16,
     shot: u32,
 ) -> bool
     requires { shot < shot_count coords.now }
-    ensures { result ≡ meets_on axis width interval edge coords.now shot }
+    ensures { result ≡ meets_on (axis_of axis) width interval edge coords.now shot }
 {
-    let number = shot as usize;
-    let at = on_axis(coords, axis, number);
-    interval_meets(width, interval, at, shot::edge_of(edge, coords, number))
+    Axis::from(axis).is_met(coords, edge, width, interval, shot)
 }
 
 // The quotient of a number by a width, given those of the numbers below it.

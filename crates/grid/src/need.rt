@@ -1,7 +1,6 @@
 // How many entries the index of a list needs, before anything is stored. docs/SCOPE.md, 'The grid index'.
 ghost use Rattle.std.specs.Prelude.{◌≡◌, ◌+◌, ◌*◌, ◌/◌, ◌<◌, ◌≤◌};
-ghost use Rattle.job.specs.Job.{shot_count};
-ghost use Rattle.job.specs.Seen.{seen};
+ghost use Rattle.job.specs.Job.{shot_count, seen};
 ghost use Rattle.grid.specs.Quotients.{Quotients};
 ghost use Rattle.grid.specs.Grid.{pairs_of, pairs, need};
 

@@ -7,14 +7,13 @@
 
 ghost use Rattle.std.specs.Prelude.{◌≡◌, ◌+◌, ◌-◌, ◌*◌, ◌≤◌, ◌<◌, length, set};
 ghost use Rattle.ground.specs.Numbers.{up_to, AllBelow};
-ghost use Rattle.job.specs.Job.{shot_count};
-ghost use Rattle.job.specs.Seen.{seen};
+ghost use Rattle.job.specs.Job.{shot_count, seen};
 ghost use Rattle.buffer.specs.Wrote.{Wrote, in_front};
 ghost use Rattle.grid.specs.declared.intervals.Axis.TheVariants.{Z};
 ghost use Rattle.grid.specs.Grid.{grid_cells, run_of, row_of, slab_of, need, index_of};
 ghost use Rattle.grid_filling.specs.Filling.{Front, narrowed, Ready, Grew};
 
-use grid::intervals::{Axis, cells_of, shot_meets};
+use grid::intervals::{Axis, cells_of};
 use job::valid::ValidJob;
 
 // Of the shots in `from`, puts those that meet an interval of an axis to the front of `to`, in their order, and gives how many. Every shot
@@ -35,18 +34,20 @@ fn narrow(
     let mut kept = 0;
     for &shot in from {
         to[kept] = shot;
-        kept += usize::from(shot_meets(coords, edge, axis, width, interval, shot));
+        kept += usize::from(axis.is_met(coords, edge, width, interval, shot));
     }
     kept
 }
 
-// Puts a run from a place on, and gives the place after it.
+// Puts a run from a place on, and gives the place after it. In a fine grid most runs are empty, and cost no call of a copy.
 fn put_run(run: &[u32], work: &mut [u32], at: usize) -> usize
     requires { at + length run.now ≤ length work.old }
     ensures { Wrote work.old work.new at result run.now }
 {
     let end = at + run.len();
-    work[at..end].copy_from_slice(run);
+    if at < end {
+        work[at..end].copy_from_slice(run);
+    }
     end
 }
 

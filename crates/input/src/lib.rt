@@ -1,5 +1,5 @@
 // Standard input into a lent slice, until the slice is full or the input ends. A pipe may deliver in pieces.
-// The only crate of a program that reads; it stands on `output`, whose programs they are and by which it says what is in the way.
+// The only crate of a program that reads; it stands on `output`, by which it says what is in the way.
 #![tactic(auto)]
 
 ghost use Rattle.std.specs.Prelude.{length, ◌-◌, ◌≤◌};
@@ -42,10 +42,10 @@ pub fn has_word(env: &impl Env, place: usize) -> bool {
 }
 
 // Standard input; where a read failed, that is said.
-fn read(program: Program, buffer: &mut [u8]) -> Option<usize>
+fn read(stdin: Stdin, program: Program, buffer: &mut [u8]) -> Option<usize>
     ensures { Between 0 (length buffer.old) result }
 {
-    let filled = fill(program.stdin, buffer);
+    let filled = fill(stdin, buffer);
     if filled.is_none() {
         program.tell_unreadable();
     }
@@ -71,33 +71,39 @@ fn unless_full(
 }
 
 // What a program works on, which is standard input alone. Where it is given arguments, or a read failed, it has said so and works on nothing.
-pub fn take(env: &impl Env, program: Program, buffer: &mut [u8]) -> Option<usize>
+pub fn take(env: &impl Env, stdin: Stdin, program: Program, buffer: &mut [u8]) -> Option<usize>
     ensures { Between 0 (length buffer.old) result }
 {
     if has_word(env, 1) {
         program.tell_takes_none();
         return None;
     }
-    read(program, buffer)
+    read(stdin, program, buffer)
 }
 
 // The same where a full slice may lack bytes of the input: these words are said of it then.
 pub fn take_whole(
     env: &impl Env,
+    stdin: Stdin,
     program: Program,
     buffer: &mut [u8],
     too_long: &[u8],
 ) -> Option<usize>
     ensures { Between 0 (length buffer.old - 1) result }
 {
-    let filled = take(env, program, buffer);
+    let filled = take(env, stdin, program, buffer);
     unless_full(program, filled, buffer.len(), too_long)
 }
 
 // The same for a program that has arguments, which are not looked at here.
-pub fn read_whole(program: Program, buffer: &mut [u8], too_long: &[u8]) -> Option<usize>
+pub fn read_whole(
+    stdin: Stdin,
+    program: Program,
+    buffer: &mut [u8],
+    too_long: &[u8],
+) -> Option<usize>
     ensures { Between 0 (length buffer.old - 1) result }
 {
-    let filled = read(program, buffer);
+    let filled = read(stdin, program, buffer);
     unless_full(program, filled, buffer.len(), too_long)
 }

@@ -1,6 +1,7 @@
 -- A job: a list with its settings, and the door to its shots. docs/SCOPE.md, 'The job'.
 use Rattle.std.specs.Prelude.{◌≡◌, List, [], ◌∷◌, ℕ, ◌+◌, ◌*◌, ◌/◌, ◌%◌, ◌≤◌, length, get_or, take}
 use Rattle.lattice.specs.Shots.{Shot, AllInField}
+use Rattle.job.specs.declared.Job.{Job as Lent}
 
 -- a list with its settings: field side F, shot edge E, grid size G, and the coordinates, three numbers a shot
 pub record Job : Type 0 where
@@ -11,6 +12,10 @@ pub record Job : Type 0 where
 
 abbrev pub job_of : ℕ → ℕ → ℕ → List ℕ → Job
 job_of F E G coords = record { field = F; edge = E; grid = G; coords = coords }
+
+-- the job that a list is as code has it, with its coordinates lent
+abbrev pub seen : Lent → Job
+seen j = record { field = j.field; edge = j.edge; grid = j.grid; coords = j.coords.now }
 
 -- the same list in another grid
 abbrev pub with_grid : ℕ → Job → Job

@@ -1,5 +1,4 @@
 pub mod Job
 pub mod Checking
 pub mod Conditions
-pub mod Seen
 pub mod ValidOnce

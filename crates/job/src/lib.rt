@@ -6,8 +6,7 @@
 #![tactic(auto)]
 
 ghost use Rattle.std.specs.Prelude.{◌≡◌, ◌≤◌, ◌<◌, MatchResult, Ok, Err};
-ghost use Rattle.job.specs.Job.{job_of, first_shots, shots, shot_count, x_at, y_at, z_at, edge_at};
-ghost use Rattle.job.specs.Seen.{seen};
+ghost use Rattle.job.specs.Job.{job_of, first_shots, shots, shot_count, x_at, y_at, z_at, edge_at, seen};
 ghost use Rattle.job.specs.Checking.{outside, past, leaves, first_leaving, setting_tests, shot_tests, tests, checked};
 ghost use Rattle.refusals.specs.Tests.{Checks};
 

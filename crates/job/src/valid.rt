@@ -1,6 +1,5 @@
 // A job that the checks accept.
-ghost use Rattle.job.specs.Job.{Valid};
-ghost use Rattle.job.specs.Seen.{seen};
+ghost use Rattle.job.specs.Job.{Valid, seen};
 ghost use Rattle.job.specs.ValidOnce.{Valid-prop};
 
 use crate::Job;

@@ -62,14 +62,24 @@ impl UnitEdge {
 pub fn edge_of_four(q: u8) -> u8
     ensures { result ≡ edge (λ b c. of_byte q false b c) }
 {
-    // Kept so: an arm for each number; tried: slower with `1 | 2 | 4 | 8`, which becomes tests one after the other.
+    // Kept so: an arm for each of the sixteen ways, as docs/SCOPE.md asks, 'The shape each place takes'; tried: slower with `1 | 2 | 4 | 8`,
+    // which becomes tests one after the other.
     match q % 16 {
+        0 => 0,
         1 => 1,
         2 => 1,
+        3 => 0,
         4 => 1,
+        5 => 0,
         6 => 2,
+        7 => 0,
         8 => 1,
         9 => 2,
+        10 => 0,
+        11 => 0,
+        12 => 0,
+        13 => 0,
+        14 => 0,
         _ => 0,
     }
 }
@@ -90,7 +100,10 @@ pub fn unit_edge(p: u8, e: UnitEdge) -> u8
 pub fn unit_inner(p: u8, e: UnitEdge) -> u8
     ensures { result ≡ inner_edge (four_about e (of_byte p)) }
 {
-    u8::from(e.covered(p) == 3)
+    match e.covered(p) {
+        3 => 1,
+        _ => 0,
+    }
 }
 
 // Whether a point of pattern p is a corner point: the pattern changes across every axis.

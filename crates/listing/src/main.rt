@@ -5,31 +5,32 @@
 
 use output::Program;
 use std::process::ExitCode;
+use std::rt::Stdout;
 
 // Writes the listing of a file, which is made in the buffer.
-fn print_listing(program: Program, bytes: &[u8], buffer: &mut [u8]) -> ExitCode {
+fn print_listing(stdout: Stdout, program: Program, bytes: &[u8], buffer: &mut [u8]) -> ExitCode {
     let mut coords = [0u16; 12288];
     let mut work = [0u32; 16384];
     match listing_file::list_file(bytes, &mut coords, &mut work, buffer) {
         Ok(totals) => {
             let n = 7 * totals.corners;
-            program.write_text(&buffer[..n])
+            program.write_text(stdout, &buffer[..n])
         }
         Err(refusal) => program.end_refused(refusal),
     }
 }
 
 // The same, with room for 131,072 corners.
-fn print_with_room(program: Program, bytes: &[u8]) -> ExitCode {
+fn print_with_room(stdout: Stdout, program: Program, bytes: &[u8]) -> ExitCode {
     let mut buffer = [0u8; 917504];
-    print_listing(program, bytes, &mut buffer)
+    print_listing(stdout, program, bytes, &mut buffer)
 }
 
 fn main(rt: HostRuntime) -> ExitCode {
-    let program = Program::new(b"listing", &rt);
+    let program = Program::new(b"listing", rt.stderr());
     let mut bytes = [0u8; 28680];
-    match input::take(&rt, program, &mut bytes) {
-        Some(n) => print_with_room(program, &bytes[..n]),
+    match input::take(&rt, rt.stdin(), program, &mut bytes) {
+        Some(n) => print_with_room(rt.stdout(), program, &bytes[..n]),
         None => ExitCode::SUCCESS,
     }
 }

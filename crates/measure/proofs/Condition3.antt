@@ -1,6 +1,6 @@
 -- Condition 3: what the totals, the corner points and the listing of an accepted list have to do with each other.
 -- The statements speak of the calls: `measure` promises a `MeasureCall` and `list` a `ListCall`, of the answer and of the lent slices at
--- exit. A call accepts a list if its answer is a `Quote`. In the order of docs/SCOPE.md:
+-- exit. A call accepts a list if its answer is an `Ok`. In the order of docs/SCOPE.md:
 -- for every list that either call accepts, the totals are the cell counts and the corner sums, the corner count is the number of
 -- lattice points with a nonzero weight, and the work slice holds the index; for every list that `list` accepts, the first 7 bytes for each
 -- corner hold each corner point once, with its pattern, in rising order, and nothing else, and the corner sums from these bytes alone are

@@ -9,7 +9,7 @@
 ghost use Rattle.std.specs.Prelude.{◌≡◌, ◌*◌, ◌≤◌, length};
 ghost use Rattle.lattice.specs.Listing.{listing, corner_count};
 ghost use Rattle.lattice_sums.specs.CornerSums.{totals_of};
-ghost use Rattle.job.specs.Seen.{seen};
+ghost use Rattle.job.specs.Job.{seen};
 ghost use Rattle.measure_intake.specs.Intake.{solid, MeasureCall};
 ghost use Rattle.measure.specs.Answers.{CornersListed, ListCall};
 ghost use Rattle.buffer.specs.Wrote.{in_front};

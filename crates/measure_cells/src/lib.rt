@@ -6,7 +6,7 @@
 
 pub mod points;
 
-ghost use Rattle.job.specs.Seen.{seen};
+ghost use Rattle.job.specs.Job.{seen};
 ghost use Rattle.measure_intake.specs.Intake.{MeasureCall};
 
 use crate::points::count_field;

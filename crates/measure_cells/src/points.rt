@@ -4,7 +4,7 @@
 ghost use Rattle.std.specs.Prelude.{◌≡◌, ◌+◌, ◌*◌, ◌/◌, ◌≤◌, length};
 ghost use Rattle.lattice.specs.Cells.{below};
 ghost use Rattle.lattice_sums.specs.CornerSums.{totals_of};
-ghost use Rattle.job.specs.Seen.{seen};
+ghost use Rattle.job.specs.Job.{seen};
 ghost use Rattle.grid_cover.specs.Cover.{run_covers};
 ghost use Rattle.measure_intake.specs.Intake.{solid};
 ghost use Rattle.measure_tallies.specs.Tallies.{plus, AtMost};

@@ -4,7 +4,7 @@
 // list covers, or the first refusal of 1, 2, 6, 7, 8, 9, 10. Stands on `job`, `grid` and `grid_filling`.
 #![tactic(auto)]
 
-ghost use Rattle.job.specs.Seen.{seen};
+ghost use Rattle.job.specs.Job.{seen};
 ghost use Rattle.measure_intake.specs.Intake.{IndexCall};
 
 use job::Job;

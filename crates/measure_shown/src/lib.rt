@@ -5,7 +5,7 @@
 
 ghost use Rattle.std.specs.Prelude.{◌≡◌, ◌+◌, ◌≤◌, ◌<◌};
 ghost use Rattle.lattice_sums.specs.CornerSums.{totals_of};
-ghost use Rattle.job.specs.Seen.{seen};
+ghost use Rattle.job.specs.Job.{seen};
 ghost use Rattle.measure_intake.specs.Intake.{solid, MeasureCall};
 
 use grid::indexed::Indexed;

@@ -4,28 +4,22 @@
 #![tactic(auto)]
 
 use refusals::Refusal;
+use std::fmt::Display;
 use std::io::{Error, ErrorKind, Print};
 use std::process::ExitCode;
-use std::rt::{Stderr, Stdin, Stdout};
+use std::rt::{Stderr, Stdout};
 
-// A program: its name, and what it reads and writes.
+// A program's name, and where it says what is in the way.
 #[derive(Clone, Copy)]
 pub struct Program<'a> {
     pub name: &'a [u8],
-    pub stdin: Stdin,
-    pub stdout: Stdout,
     pub stderr: Stderr,
 }
 
 impl<'a> Program<'a> {
-    // The program of this name that a runtime runs.
-    pub fn new(name: &'a [u8], rt: &HostRuntime) -> Program<'a> {
-        Program {
-            name,
-            stdin: rt.stdin(),
-            stdout: rt.stdout(),
-            stderr: rt.stderr(),
-        }
+    // The program of this name.
+    pub fn new(name: &'a [u8], stderr: Stderr) -> Program<'a> {
+        Program { name, stderr }
     }
 
     // Says words on standard error. Where that cannot be written, there is nowhere to say so.
@@ -42,6 +36,12 @@ impl<'a> Program<'a> {
     pub fn tell(self, words: &[u8]) {
         self.say(self.name);
         self.say(words);
+    }
+
+    // Says behind the program's name what is wrong, in the words that it has for itself, and ends the line.
+    pub fn tell_of<T: Display + Drop>(self, what: T) {
+        self.say(self.name);
+        let _ = println!(self.stderr; ": {what}");
     }
 
     // Says that standard input cannot be read.
@@ -65,8 +65,8 @@ impl<'a> Program<'a> {
     }
 
     // Writes its text, or says that it cannot be written, or not all of it; and how it ends.
-    pub fn write_text(self, text: &[u8]) -> ExitCode {
-        match self.stdout.write_all(text) {
+    pub fn write_text(self, stdout: Stdout, text: &[u8]) -> ExitCode {
+        match stdout.write_all(text) {
             Ok(()) => ExitCode::SUCCESS,
             Err(error) => self.end_unwritten(error),
         }

@@ -1,6 +1,6 @@
 -- How the answer of the price call follows from what is measured and from the tables. Assumes nothing.
-use mathlib.Core.Path.{◌≡◌, sym, ap, subst, ◌∙◌}
-use mathlib.Core.List.{List}
+use mathlib.Core.Path.{◌≡◌, refl, sym, ap, subst, ◌∙◌}
+use mathlib.Core.List.{List, []}
 use Prim.Native.Nat.{ℕ, ◌*◌, ◌≤◌}
 use lib.ListN.{length}
 use Rattle.std.specs.Prelude.{Ok, Err}
@@ -10,19 +10,16 @@ use Rattle.lattice_sums.specs.declared.sums.Totals.{Totals}
 use Rattle.refusals.specs.Tests.{first_of}
 use Rattle.refusals.specs.Refusals.{Checked}
 use Rattle.refusals.specs.declared.Refusal.{Refusal}
-use Rattle.refusals.proofs.FirstOf.{first-passed, first-stopped}
+use Rattle.refusals.proofs.FirstOf.{first-none, first-passed, first-stopped}
 use Rattle.measure_intake.specs.Intake.{solid, measure_tests, measure_checked, measure_answer, answer_of, MeasureCall, Measured}
 use Rattle.measure_intake.proofs.Refused.{answer-refused, answer-accepted, measure-decides}
-use Rattle.price_bands.specs.Bands.{top, rate_of}
-use Rattle.price_charging.specs.Charging.{Tables, table_tests, ValidTables, priced_by, priced_numbers, Priced}
+use Rattle.price_bands.specs.Bands.{Verdict, top, verdict_of, rate_of}
+use Rattle.price_charging.specs.Charging.{Tables, table_tests, charges_of, charged_of, Chargeable, priced_by, priced_numbers, Priced}
 use Rattle.price_charging.specs.declared.Charges.{Charges}
-use Rattle.price_charging.proofs.ChargeLaws.{priced-numbers}
-use Rattle.price_charging.proofs.TableLaws.{tables-decide}
+use Rattle.price_charging.specs.declared.Taken.{Taken}
+use Rattle.price_charging.proofs.ChargeLaws.{priced-numbers, chargeable, charged-is}
 use Rattle.price.specs.Price.{price_tests, price_checked, solid_charges, price_answer, price_numbers, PriceCall}
 use Rattle.price.proofs.AmountLaws.{volume-most, area-most, edge_most}
-
-pub valid-tables : {t : Tables} → Ok tt ≡ first_of (table_tests t) → ValidTables t
-valid-tables {t} e = (tables-decide t).accepted.0 (sym e)
 
 module _ {job : Job} {work work' : List ℕ} {m : Measured} (call : MeasureCall job work m work') (t : Tables) where
   open job use {field as F}
@@ -68,16 +65,21 @@ module _ {job : Job} {work work' : List ℕ} {m : Measured} (call : MeasureCall 
     unfolding price_tests
     tables-decided k = first-passed (table_tests t) (measure_tests job (length work)) accepted ∙ sym k
 
-    pub faulty-price : {r : Refusal} → Err r ≡ first_of (table_tests t) → PriceCall job work t (Err r) work'
-    faulty-price k = price-is (sym (ap (λ c. priced_by c (solid_charges t F (solid job))) (tables-decided k)))
+    -- the amounts are charged by what the check and the lookup say of each table
+    abbrev taken : Taken
+    taken = record { checked = Ok tt; volume = totals.volume; area = totals.area; edge = totals.edge }
 
-    pub charged-price : Ok tt ≡ first_of (table_tests t) → {v a l : ℕ} → v ≡ totals.volume * rate_of totals.volume t.volume
-        → a ≡ totals.area * rate_of totals.area t.area → l ≡ totals.edge * rate_of totals.edge t.edges
-        → PriceCall job work t (Ok (record { volume = v; area = a; edge = l })) work'
-    unfolding totals_of
-    charged-price k hv ha hl =
-        price-is (
-        rw (hv, ha, hl)
-        (ap (λ (n : Totals). Ok (record { volume = n.volume * rate_of n.volume t.volume; area = n.area * rate_of n.area t.area; edge = n.edge * rate_of n.edge t.edges })) (sym totals-are)
-        ∙ sym (ap (λ c. priced_by c (solid_charges t F (solid job))) (tables-decided k)))
-        )
+    module _ {v a l : Verdict} (v-is : v ≡ verdict_of t.volume) (a-is : a ≡ verdict_of t.area) (l-is : l ≡ verdict_of t.edges)
+        {v-rate a-rate l-rate : ℕ} (v-rated : v-rate ≡ rate_of totals.volume t.volume) (a-rated : a-rate ≡ rate_of totals.area t.area) (l-rated : l-rate ≡ rate_of totals.edge t.edges) where
+      pub taken-chargeable : Chargeable taken v a l v-rate a-rate l-rate
+      taken-chargeable = chargeable taken t v-is a-is l-is v-rated a-rated l-rated amounts-most.0 amounts-most.1 amounts-most.2
+
+      pub charged-price : {p : Priced} → p ≡ charged_of taken v a l v-rate a-rate l-rate → PriceCall job work t p work'
+      unfolding totals_of
+      charged-price k =
+          price-is (
+          k
+          ∙ (charged-is taken t v-is a-is l-is v-rated a-rated l-rated [] first-none
+          ∙ (ap (λ c. priced_by c (charges_of t totals.volume totals.area totals.edge)) (sym (tables-decided refl))
+          ∙ ap (λ (n : Totals). priced_by (price_checked job (length work) t) (charges_of t n.volume n.area n.edge)) (sym totals-are)))
+          )

@@ -4,13 +4,13 @@
 // each charge is the whole amount times the rate of the one band that holds it. Stands on `measure`, `price_bands` and `price_charging`.
 #![tactic(auto)]
 
-ghost use Rattle.job.specs.Seen.{seen};
+ghost use Rattle.job.specs.Job.{seen};
 ghost use Rattle.price.specs.Price.{PriceCall};
 
 use job::Job;
 use measure::measure;
-use price_bands::Band;
-use price_charging::{Charges, charge, check_tables};
+use price_bands::{Band, check, lookup};
+use price_charging::{Charges, Taken, charge};
 use refusals::Refusal;
 
 // Prices a list by its volume, its area and the length of its outer edges, and leaves its index in the work slice. Refusals as in
@@ -26,10 +26,19 @@ pub fn price(
         (record { volume = volume.now; area = area.now; edges = edges.now }) result work.new }
 {
     let totals = measure(job, work)?;
-    check_tables(volume, area, edges)?;
-    Ok(Charges {
-        volume: charge(volume, totals.volume),
-        area: charge(area, totals.area),
-        edge: charge(edges, totals.edge),
-    })
+    let taken = Taken {
+        checked: Ok(()),
+        volume: totals.volume,
+        area: totals.area,
+        edge: totals.edge,
+    };
+    charge(
+        taken,
+        check(volume),
+        check(area),
+        check(edges),
+        lookup(volume, taken.volume),
+        lookup(area, taken.area),
+        lookup(edges, taken.edge),
+    )
 }

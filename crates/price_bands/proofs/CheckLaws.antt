@@ -1,7 +1,7 @@
 -- Band after band: what the check and the lookup know after the bands so far. Assumes nothing.
 use mathlib.Core.Path.{◌≡◌, refl, sym, ap, ◌∙◌}
-use mathlib.Core.Bool.{true, false, cond}
-use mathlib.Core.List.{List}
+use mathlib.Core.Bool.{Bool, true, false, cond}
+use mathlib.Core.List.{List, [], ◌∷◌}
 use Prim.Native.Nat.{ℕ, suc, ◌+◌, ◌≤◌, ◌<◌}
 use native.Mathlib.Omega.{arith}
 use lib.ListN.{length, drop}
@@ -79,3 +79,13 @@ module _ (bands : List Band) where
     pub none-holds : {i : ℕ} → length bands ≤ i → Rest i → 0 ≡ rate_of amount bands
     unfolding rate_of
     none-holds {i} h p = sym (p ∙ ap (rate_of amount) (drop_all i bands h))
+
+-- no table has more good bands than bands
+pub first-most : (due : ℕ) (bs : List Band) → first_faulty due bs ≤ length bs
+unfolding first_faulty
+first-most due [] = omega arith
+first-most due (b ∷ bs) = go (is_good due b) (first-most (b.last + 1) bs)
+  where
+    go : (c : Bool) → first_faulty (b.last + 1) bs ≤ length bs → cond c (suc (first_faulty (b.last + 1) bs)) 0 ≤ suc (length bs)
+    go true h = omega (arith, h)
+    go false h = omega arith

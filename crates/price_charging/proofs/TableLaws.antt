@@ -1,19 +1,17 @@
--- When the tests of three tables accept and when they refuse. Assumes nothing.
-use mathlib.Core.Path.{◌≡◌, refl, sym, subst}
-use mathlib.Core.List.{[], ◌∷◌}
+-- When the tests of three tables accept and when they refuse, and what one table after the other comes to. Assumes nothing.
+use mathlib.Core.Path.{◌≡◌, refl, sym, ap, subst, ◌∙◌}
+use mathlib.Core.List.{List, [], ◌∷◌, ◌++◌}
 use mathlib.Core.Logic.{◌↔◌}
-use Rattle.refusals.specs.Tests.{first_of}
+use Rattle.refusals.specs.Tests.{Test, first_of}
 use Rattle.refusals.specs.Deciding.{Decides}
 use Rattle.refusals.specs.declared.Refusal.{Refusal}
 use Rattle.refusals.specs.declared.Refusal.TheVariants.{InvalidTable}
-use Rattle.refusals.proofs.FirstOf.{apart}
+use Rattle.refusals.proofs.FirstOf.{apart, first-passed, first-stopped}
 use Rattle.price_bands.specs.Bands.{Verdict, verdict_of}
 use Rattle.price_bands.proofs.BandTheorems.{sound-iff, fault-iff}
-use Rattle.price_charging.specs.Charging.{Tables, verdict_test, table_tests, ValidTables, TableRefuses, volume_table, area_table, edge_table}
+use Rattle.price_charging.specs.Charging.{Tables, verdict_test, table_tests, ValidTables, TableRefuses, volume_table, area_table, edge_table, checked_after, checked_after_three}
 use Rattle.refusals.specs.Refusals.{Checked}
 use Rattle.std.specs.Prelude.{Ok, Err}
-use Rattle.std.specs.Result.{result_and}
-use Rattle.price_bands.specs.declared.FaultyBand.{FaultyBand}
 
 -- ---- when they accept and refuse
 module _ (t : Tables) where
@@ -52,21 +50,26 @@ module _ (t : Tables) where
 pub tables-decide : (t : Tables) → Decides (table_tests t) (ValidTables t) (TableRefuses t)
 tables-decide t = record { accepted = accepted t; refused = refused t }
 
--- ---- one table, and one after the other
-pub table-sound : {v : Verdict} {r : Checked} → v ≡ Ok tt → r ≡ Ok tt → r ≡ first_of (verdict_test v ∷ [])
-unfolding first_of
-table-sound h e = rw h e
+-- ---- one table after the other
+pub after-accepted : (c : Checked) (v : Verdict) → checked_after c v ≡ Ok tt → (c ≡ Ok tt) × (v ≡ Ok tt)
+after-accepted (Err r) v e = apart e
+after-accepted (Ok _) (Ok _) e = (refl, refl)
+after-accepted (Ok _) (Err fault) e = apart e
 
-pub table-faulty : {v : Verdict} {f : FaultyBand} {r : Checked} → v ≡ Err f → r ≡ Err (InvalidTable f.band) → r ≡ first_of (verdict_test v ∷ [])
+pub after_first : (v a e : Verdict) → checked_after_three (Ok tt) v a e ≡ first_of (verdict_test v ∷ verdict_test a ∷ verdict_test e ∷ [])
 unfolding first_of
-table-faulty h e = rw h e
+after_first (Err fault) a e = refl
+after_first (Ok _) (Err fault) e = refl
+after_first (Ok _) (Ok _) (Err fault) = refl
+after_first (Ok _) (Ok _) (Ok _) = refl
 
-pub tables-in-turn : (t : Tables) → result_and (result_and (first_of (verdict_test (verdict_of t.volume) ∷ [])) (first_of (verdict_test (verdict_of t.area) ∷ []))) (first_of (verdict_test (verdict_of t.edges) ∷ [])) ≡ first_of (table_tests t)
-unfolding first_of
-tables-in-turn t = go (verdict_of t.volume) (verdict_of t.area) (verdict_of t.edges)
+-- behind whatever tests came before
+pub tables_after : (ts : List Test) (t : Tables) → checked_after_three (first_of ts) (verdict_of t.volume) (verdict_of t.area) (verdict_of t.edges) ≡ first_of (ts ++ table_tests t)
+tables_after ts t = go (first_of ts) refl
   where
-    go : (v a e : Verdict) → result_and (result_and (first_of (verdict_test v ∷ [])) (first_of (verdict_test a ∷ []))) (first_of (verdict_test e ∷ [])) ≡ first_of (verdict_test v ∷ verdict_test a ∷ verdict_test e ∷ [])
-    go (Err f) a e = refl
-    go (Ok _) (Err f) e = refl
-    go (Ok _) (Ok _) (Err f) = refl
-    go (Ok _) (Ok _) (Ok _) = refl
+    go : (c : Checked) → first_of ts ≡ c → checked_after_three (first_of ts) (verdict_of t.volume) (verdict_of t.area) (verdict_of t.edges) ≡ first_of (ts ++ table_tests t)
+    go (Err r) k = ap (λ c. checked_after_three c (verdict_of t.volume) (verdict_of t.area) (verdict_of t.edges)) k ∙ sym (first-stopped (table_tests t) ts k)
+    go (Ok _) k =
+        ap (λ c. checked_after_three c (verdict_of t.volume) (verdict_of t.area) (verdict_of t.edges)) k
+        ∙ (after_first (verdict_of t.volume) (verdict_of t.area) (verdict_of t.edges)
+        ∙ sym (first-passed (table_tests t) ts k))

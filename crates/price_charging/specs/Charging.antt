@@ -1,7 +1,7 @@
 -- What is charged by three tables, and the tests of the tables behind any tests: docs/SCOPE.md, 'Price bands' and 'When a job is refused', 18.
 -- The tests are a list of their own, and charging takes amounts and knows no totals: another amount, or another test in front, moves nothing
 -- here.
-use Rattle.std.specs.Prelude.{◌≡◌, Bool, true, false, List, [], ◌∷◌, ℕ, ◌*◌, Result, Ok, Err}
+use Rattle.std.specs.Prelude.{◌≡◌, Bool, true, false, List, [], ◌∷◌, ℕ, ◌*◌, ◌<◌, ◌^◌, Result, Ok, Err}
 use Rattle.refusals.specs.Refusals.{number_of, detail_of, Checked}
 use Rattle.refusals.specs.Tests.{Test, if_accepted}
 use Rattle.refusals.specs.declared.Refusal.{Refusal}
@@ -9,6 +9,7 @@ use Rattle.refusals.specs.declared.Refusal.TheVariants.{InvalidTable}
 use Rattle.price_bands.specs.Bands.{Verdict, ValidTable, Fault, RatedBy, verdict_of, rate_of}
 use Rattle.price_bands.specs.declared.Band.{Band}
 use Rattle.price_charging.specs.declared.Charges.{Charges}
+use Rattle.price_charging.specs.declared.Taken.{Taken}
 
 -- the three tables of a shop
 pub record Tables : Type 0 where
@@ -81,3 +82,25 @@ priced_numbers (Err r) = unpriced_numbers r
 
 abbrev pub priced_numbers_by : Checked → Charges → PricedNumbers
 priced_numbers_by c charges = if_accepted c unpriced_numbers (charged_numbers charges)
+
+-- ---- the words of the functions
+-- one table more
+abbrev pub checked_after : Checked → Verdict → Checked
+checked_after (Err r) v = Err r
+checked_after (Ok _) (Ok _) = Ok tt
+checked_after (Ok _) (Err fault) = Err (InvalidTable fault.band)
+
+-- three tables more
+abbrev pub checked_after_three : Checked → Verdict → Verdict → Verdict → Checked
+checked_after_three c v a e = checked_after (checked_after (checked_after c v) a) e
+
+-- no charge by a table without fault wraps
+pub record Chargeable (t : Taken) (v a e : Verdict) (v-rate a-rate e-rate : ℕ) : Type 0 where
+  pub volume_fits : v ≡ Ok tt → t.volume * v-rate < 2 ^ 64
+  pub area_fits : a ≡ Ok tt → t.area * a-rate < 2 ^ 64
+  pub edge_fits : e ≡ Ok tt → t.edge * e-rate < 2 ^ 64
+
+abbrev pub charged_of : Taken → Verdict → Verdict → Verdict → ℕ → ℕ → ℕ → Priced
+charged_of t v a e v-rate a-rate e-rate =
+    priced_by (checked_after_three t.checked v a e)
+    (record { volume = t.volume * v-rate; area = t.area * a-rate; edge = t.edge * e-rate })

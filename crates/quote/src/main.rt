@@ -4,21 +4,22 @@
 
 use output::Program;
 use std::process::ExitCode;
+use std::rt::Stdout;
 
 // Prints what is to be printed for a file.
-fn print_quote(program: Program, bytes: &[u8]) -> ExitCode {
+fn print_quote(stdout: Stdout, program: Program, bytes: &[u8]) -> ExitCode {
     let mut coords = [0u16; 12288];
     let mut work = [0u32; 16384];
     let mut out = [0u8; 256];
     let n = quoting::quote(bytes, &mut coords, &mut work, &mut out);
-    program.write_text(&out[..n])
+    program.write_text(stdout, &out[..n])
 }
 
 fn main(rt: HostRuntime) -> ExitCode {
-    let program = Program::new(b"quote", &rt);
+    let program = Program::new(b"quote", rt.stderr());
     let mut bytes = [0u8; 28680];
-    match input::take(&rt, program, &mut bytes) {
-        Some(n) => print_quote(program, &bytes[..n]),
+    match input::take(&rt, rt.stdin(), program, &mut bytes) {
+        Some(n) => print_quote(rt.stdout(), program, &bytes[..n]),
         None => ExitCode::SUCCESS,
     }
 }

@@ -5,21 +5,22 @@
 
 use output::Program;
 use std::process::ExitCode;
+use std::rt::Stdout;
 
 // Prints what is to be printed for a file.
-fn print_recount(program: Program, bytes: &[u8]) -> ExitCode {
+fn print_recount(stdout: Stdout, program: Program, bytes: &[u8]) -> ExitCode {
     let mut coords = [0u16; 12288];
     let mut work = [0u32; 16384];
     let mut out = [0u8; 256];
     let n = recounting::recount(program.stderr, bytes, &mut coords, &mut work, &mut out);
-    program.write_text(&out[..n])
+    program.write_text(stdout, &out[..n])
 }
 
 fn main(rt: HostRuntime) -> ExitCode {
-    let program = Program::new(b"recount", &rt);
+    let program = Program::new(b"recount", rt.stderr());
     let mut bytes = [0u8; 28680];
-    match input::take(&rt, program, &mut bytes) {
-        Some(n) => print_recount(program, &bytes[..n]),
+    match input::take(&rt, rt.stdin(), program, &mut bytes) {
+        Some(n) => print_recount(rt.stdout(), program, &bytes[..n]),
         None => ExitCode::SUCCESS,
     }
 }

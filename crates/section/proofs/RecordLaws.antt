@@ -1,6 +1,6 @@
 -- The whole records of any bytes: of bytes from a place on, of the first bytes, how many, and the bytes of what is read back.
 -- Assumes nothing.
-use mathlib.Core.Path.{◌≡◌, refl, ◌∙◌}
+use mathlib.Core.Path.{◌≡◌, refl, sym, ◌∙◌, ap}
 use mathlib.Core.Logic.{⊎_elim}
 use mathlib.Core.List.{List, [], ◌∷◌}
 use Prim.Native.Nat.{ℕ, zero, suc, ◌+◌, ◌*◌, ◌/◌, ◌%◌, ◌≤◌, ◌<◌}
@@ -80,6 +80,14 @@ read_back-take (suc k) (a ∷ b ∷ c ∷ d ∷ []) = rw (take_all (7 * suc k) (
 read_back-take (suc k) (a ∷ b ∷ c ∷ d ∷ e ∷ []) = rw (take_all (7 * suc k) (a ∷ b ∷ c ∷ d ∷ e ∷ []) (omega arith))
 read_back-take (suc k) (a ∷ b ∷ c ∷ d ∷ e ∷ f ∷ []) = rw (take_all (7 * suc k) (a ∷ b ∷ c ∷ d ∷ e ∷ f ∷ []) (omega arith))
 read_back-take (suc k) (a ∷ b ∷ c ∷ d ∷ e ∷ f ∷ g ∷ l) = rw (seven-more k, read_back-take k l)
+
+-- the record of a number
+pub read_back-at : (i : ℕ) (l : List ℕ) → i < length l / 7 → drop i (read_back l) ≡ read_at l (7 * i) ∷ drop (suc i) (read_back l)
+read_back-at i l h =
+    sym (read_back-drop i l) ∙ (read_back-more l (7 * i) (omega arith) ∙ ap (λ vs. read_at l (7 * i) ∷ vs) (rw seven (read_back-drop (suc i) l)))
+  where
+    seven : 7 * i + 7 ≡ 7 * suc i
+    seven = omega arith
 
 -- the records from number a up to number b are those of the bytes from 7 · a up to 7 · b
 pub read_back-slice : (a b : ℕ) (l : List ℕ) → read_back (slice (7 * a) (7 * b) l) ≡ slice a b (read_back l)

@@ -1,20 +1,21 @@
 -- The first unbroken run of one x: the search for its ends, its places, and the bytes between them. Assumes nothing.
 use mathlib.Core.Path.{◌≡◌, refl, sym, ◌∙◌, ap}
-use mathlib.Core.Bool.{Bool, true, false, cond}
+use mathlib.Core.Bool.{Bool, true, false, not, cond}
 use mathlib.Core.List.{List, [], ◌∷◌}
-use Prim.Native.Nat.{ℕ, zero, suc, ◌+◌, ◌-◌, ◌*◌, ◌/◌, ◌≤◌}
-use native.Mathlib.Nat.{sub-zero, zero-sub, suc-sub-suc}
+use Prim.Native.Nat.{ℕ, zero, suc, ◌+◌, ◌-◌, ◌*◌, ◌/◌, ◌≤◌, ◌<◌}
+use native.Mathlib.Nat.{zero-add, sub-zero, zero-sub, suc-sub-suc}
+use native.Mathlib.Numerals.{add-one}
 use native.Mathlib.Omega.{arith}
 use lib.Dec.{eqb}
-use lib.ListN.{length, take, drop, length-drop}
+use lib.ListN.{length, take, drop, length-drop, drop_of_length-le}
 use lib.Seq.{slice, slice_empty, length-slice, take-length, take-nil, drop-nil, get_or-drop}
 use borrow.Author.Tests.{eqb-true, eq-eqb, ne_eqb}
 use Rattle.ground.specs.Numbers.{Bytes}
 use Rattle.lattice.specs.Listing.{Corner, corner_record, bytes, read_back}
 use Rattle.lattice.proofs.ListingLaws.{read_back-bytes}
-use Rattle.section.specs.Section.{asks, count_before, run_start, run_end, first_run, places_between, places_of, part_with}
+use Rattle.section.specs.Section.{asked, asks, by_x, count_before, run_start, run_end, first_run, places_between, places_of, part_with}
 use Rattle.section.specs.declared.Places.{Places}
-use Rattle.section.proofs.RecordLaws.{seven-more, read_back-slice, length-read_back, bytes-read_back}
+use Rattle.section.proofs.RecordLaws.{seven-more, read_at, read_back-at, read_back-slice, length-read_back, bytes-read_back}
 
 -- ---- before the first that passes
 module _ (p : Corner → Bool) where
@@ -26,6 +27,31 @@ module _ (p : Corner → Bool) where
       go : (b : Bool) → count_before p vs ≤ length vs → cond b 0 (suc (count_before p vs)) ≤ suc (length vs)
       go true h = omega arith
       go false h = omega arith
+
+  count_before-pass : (v : Corner) (vs : List Corner) → p v ≡ true → count_before p (v ∷ vs) ≡ 0
+  unfolding count_before
+  count_before-pass v vs e = rw e
+
+  count_before-fail : (v : Corner) (vs : List Corner) → p v ≡ false → count_before p (v ∷ vs) ≡ suc (count_before p vs)
+  unfolding count_before
+  count_before-fail v vs e = rw e
+
+-- ---- the search: none from a number on up to i passes
+abbrev pub Sought : (ℕ → Bool) → List ℕ → ℕ → ℕ → Type 0
+Sought p l from i = i + count_before (by_x p) (drop i (read_back l)) ≡ from + count_before (by_x p) (drop from (read_back l))
+
+module _ (p : ℕ → Bool) (l : List ℕ) (from i : ℕ) where
+  pub sought-here : i < length l / 7 → Sought p l from i → p (read_at l (7 * i)).x ≡ true → i ≡ from + count_before (by_x p) (drop from (read_back l))
+  sought-here h s e = omega (arith, s, ap (count_before (by_x p)) (read_back-at i l h), count_before-pass (by_x p) (read_at l (7 * i)) (drop (suc i) (read_back l)) e)
+
+  pub sought-more : i < length l / 7 → Sought p l from i → p (read_at l (7 * i)).x ≡ false → Sought p l from (i + 1)
+  sought-more h s e = rw (add-one i) (omega (arith, s, ap (count_before (by_x p)) (read_back-at i l h), count_before-fail (by_x p) (read_at l (7 * i)) (drop (suc i) (read_back l)) e))
+
+  pub sought-none : {n : ℕ} → n ≡ i → length l / 7 ≤ i → Sought p l from i → n ≡ from + count_before (by_x p) (drop from (read_back l))
+  unfolding count_before
+  sought-none is h s =
+      let e : drop i (read_back l) ≡ [] = drop_of_length-le (read_back l) {i = i} (omega (arith, length-read_back l)) in
+      omega (arith, is, s, ap (count_before (by_x p)) e)
 
 -- ---- the ends of the run
 pub start-in : (x : ℕ) (l : List ℕ) → run_start x (read_back l) ≤ length l / 7
@@ -43,15 +69,30 @@ end-length x vs = omega (arith, count_before-length (asks true x) vs, count_befo
 pub end-in : (x : ℕ) (l : List ℕ) → run_end x (read_back l) ≤ length l / 7
 end-in x l = omega (arith, end-length x (read_back l), length-read_back l)
 
--- ---- its places
-module _ (x : ℕ) (l : List ℕ) {ahead run : ℕ} (a : ahead ≡ run_start x (read_back l)) (e : ahead + run ≡ run_end x (read_back l)) where
-  pub places-none : run ≡ 0 → record { first = 0; end = 0 } ≡ places_of l x
-  unfolding places_of places_between
-  places-none t = rw (← a, ← e, eq-eqb ahead (ahead + run) (omega arith))
+-- a test by which the search goes, for those with that x and for others
+abbrev pub its : ℕ → ℕ → Bool
+its x w = eqb w x
 
-  pub places-run : (run ≡ 0 → ⊥) → record { first = 7 * ahead; end = 7 * (ahead + run) } ≡ places_of l x
+abbrev pub others : ℕ → ℕ → Bool
+others x w = not (eqb w x)
+
+pub start-found : (x : ℕ) (l : List ℕ) {first : ℕ} → first ≡ 0 + count_before (by_x (its x)) (drop 0 (read_back l)) → first ≡ run_start x (read_back l)
+unfolding run_start asked
+start-found x l e = e ∙ zero-add (count_before (by_x (its x)) (read_back l))
+
+pub end-found : (x : ℕ) (l : List ℕ) {first end : ℕ} → first ≡ run_start x (read_back l) → end ≡ first + count_before (by_x (others x)) (drop first (read_back l)) → end ≡ run_end x (read_back l)
+unfolding run_end asked
+end-found x l f e = e ∙ ap (λ at. at + count_before (by_x (others x)) (drop at (read_back l))) f
+
+-- ---- its places
+module _ (x : ℕ) (l : List ℕ) {first end : ℕ} (f : first ≡ run_start x (read_back l)) (e : end ≡ run_end x (read_back l)) where
+  pub places-none : first ≡ end → record { first = 0; end = 0 } ≡ places_of l x
   unfolding places_of places_between
-  places-run t = rw (← a, ← e, ne_eqb ahead (ahead + run) (λ k. t (omega arith)))
+  places-none t = rw (← f, ← e, eq-eqb first end t)
+
+  pub places-run : (first ≡ end → ⊥) → record { first = 7 * first; end = 7 * end } ≡ places_of l x
+  unfolding places_of places_between
+  places-run t = rw (← f, ← e, ne_eqb first end t)
 
 -- ---- the part between them
 -- the bytes from a place on, so many of them, and the bytes from a place to a place

@@ -2,7 +2,7 @@
 -- Assumes nothing.
 use mathlib.Core.Path.{◌≡◌, refl, ◌∙◌, ap}
 use mathlib.Core.Logic.{⊎_elim}
-use Rattle.std.specs.Prelude.{None, Some}
+use Rattle.std.specs.Prelude.{Option, None, Some}
 use Rattle.std.specs.List.{slice_range}
 use Rattle.std.proofs.lemmas.Slice.{between_to_end}
 use mathlib.Core.List.{List}
@@ -79,3 +79,16 @@ read_back-stepped l (suc k) = read_back-after l (stepped l k) ∙ (ap (drop 1) (
 pub step_from-stepped : (l : List ℕ) (k : ℕ) → step_from l (stepped l k) ≡ first_step (drop k (read_back l))
 unfolding step_from
 step_from-stepped l k = ap first_step (read_back-stepped l k)
+
+-- the same, as a loop of steps comes to it
+module _ (l : List ℕ) where
+  pub stepped-none : 0 ≡ stepped l 0
+  unfolding stepped
+  stepped-none = refl
+
+  pub stepped-more : (i : ℕ) {at r : ℕ} → at ≡ stepped l i → r ≡ after_at l at → r ≡ stepped l (i + 1)
+  unfolding stepped
+  stepped-more i a e = rw (add-one i) (e ∙ ap (after_at l) a)
+
+  pub stepped-met : (i k : ℕ) {at : ℕ} {r : Option Found} → at ≡ stepped l i → i ≡ k → r ≡ step_from l at → r ≡ first_step (drop k (read_back l))
+  stepped-met i k a e s = s ∙ (ap (step_from l) (a ∙ ap (stepped l) e) ∙ step_from-stepped l k)

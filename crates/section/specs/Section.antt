@@ -52,6 +52,10 @@ asked false b = not b
 abbrev pub asks : Bool → ℕ → Corner → Bool
 asks same x v = asked same (eqb v.x x)
 
+-- a test of a corner's x
+abbrev pub by_x : (ℕ → Bool) → Corner → Bool
+by_x p v = p v.x
+
 -- how many corners stand before the first that passes a test; all of them where none does
 unfoldable pub count_before : (Corner → Bool) → List Corner → ℕ
 count_before p [] = 0

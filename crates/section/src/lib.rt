@@ -7,9 +7,10 @@
 // Stands on `lattice`.
 #![tactic(auto)]
 
-ghost use Rattle.std.specs.Prelude.{◌≡◌, ◌-◌, ◌/◌, length};
+ghost use Rattle.std.specs.Prelude.{Bool, ◌≡◌, ℕ, ◌+◌, ◌-◌, ◌*◌, ◌/◌, ◌<◌, ◌≤◌, length, get_or, drop};
 ghost use Rattle.std.specs.Iterator.{at_most};
-ghost use Rattle.section.specs.Section.{step_from, after_at, Steps, places_of, part_with};
+ghost use Rattle.lattice.specs.Listing.{read_back};
+ghost use Rattle.section.specs.Section.{step_from, after_at, Steps, by_x, count_before, places_of, part_with};
 
 // A record of a listing: a corner point and its pattern.
 #[derive(Clone, Copy)]
@@ -52,21 +53,43 @@ pub fn after(listing: &[u8], at: usize) -> usize
     }
 }
 
+// The x of the record of a number.
+fn x_at(listing: &[u8], number: usize) -> u16
+    requires { number < length listing.now / 7 }
+    ensures { result ≡ get_or listing.now (7 * number) 0 + get_or listing.now (7 * number + 1) 0 * 256 }
+{
+    let at = 7 * number;
+    u16::from_le_bytes([listing[at], listing[at + 1]])
+}
+
+// The number of the first record from one on whose x passes a test, or the number of records. Of each record the x alone is read.
+fn first_from<F: Fn(u16) -> bool>(listing: &[u8], from: usize, passes: F) -> usize
+    requires callable { F.IsAlwaysCallable passes }
+    requires inside { from ≤ length listing.now / 7 }
+    ensures { (p : ℕ → Bool) → ((x : ℕ) (r : Bool) → F.post passes x r → r ≡ p x) → result ≡ from + count_before (by_x p) (drop from (read_back listing.now)) }
+{
+    let records = listing.len() / 7;
+    for number in from..records {
+        if passes(x_at(listing, number)) {
+            return number;
+        }
+    }
+    records
+}
+
 // Where the first unbroken run of records with that x lies; 0 to 0 where there is none. A damaged listing is searched like any other: the
 // search neither bisects nor stops at a larger x.
 pub fn places_of(listing: &[u8], x: u16) -> Places
     ensures { result ≡ places_of listing.now x }
 {
-    let ahead = open(listing, 0).take_while(|corner| corner.x != x).count();
-    let run = open(listing, 7 * ahead)
-        .take_while(|corner| corner.x == x)
-        .count();
-    if run == 0 {
+    let first = first_from(listing, 0, |other| other == x);
+    let end = first_from(listing, first, |other| other != x);
+    if first == end {
         return Places { first: 0, end: 0 };
     }
     Places {
-        first: 7 * ahead,
-        end: 7 * (ahead + run),
+        first: 7 * first,
+        end: 7 * end,
     }
 }
 
@@ -111,7 +134,7 @@ impl<'a> Iterator for Corners<'a> {
 
     fn next(&mut self) -> Option<Corner> {
         let corner = record_at(self.listing, self.at)?;
-        self.at += 7;
+        self.at = after(self.listing, self.at);
         Some(corner)
     }
 }

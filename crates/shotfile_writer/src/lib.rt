@@ -6,8 +6,7 @@
 
 ghost use Rattle.std.specs.Prelude.{◌≡◌, ◌≤◌, ◌<◌, length};
 ghost use Rattle.buffer.specs.Wrote.{in_front};
-ghost use Rattle.job.specs.Job.{shot_count};
-ghost use Rattle.job.specs.Seen.{seen};
+ghost use Rattle.job.specs.Job.{shot_count, seen};
 ghost use Rattle.shotfile_records.specs.Numbers.{setting_fields};
 ghost use Rattle.shotfile_writer.specs.Files.{coords_at, file_of};
 ghost use Rattle.shotfile_writer.specs.Calls.{WriteCall};

@@ -9,8 +9,9 @@ use lib.ListN.{length, take, drop}
 use borrow.Author.Tests.{ltb-false}
 use Rattle.std.specs.Prelude.{Option, Some, None, unwrap_or}
 use Rattle.std.specs.List.{position_or_len, slice_split, onto_first}
+use Rattle.std.proofs.lemmas.List.{take-append-drop}
 use Rattle.std.proofs.lemmas.List.Recursion.{is_position_or_len}
-use Rattle.typed_line.specs.Words.{before, newline, blank, lines_from, lines_of, ended, words_from, words_of}
+use Rattle.typed_line.specs.Words.{before, newline, blank, inked, past_blanks, lines_from, lines_of, ended, words_from, words_of}
 
 -- ---- the bytes before the first that passes a test
 module _ (p : ℕ → Bool) where
@@ -115,17 +116,13 @@ pub words-none : words_of [] ≡ []
 unfolding words_from
 words-none = refl
 
+pub words-empty : (s : List ℕ) → length s ≡ 0 → words_of s ≡ []
+words-empty [] h = words-none
+words-empty (b ∷ s) h = absurd (omega arith)
+
 pub ended_some : (word : List ℕ) (words : List (List ℕ)) → 0 < length word → ended word words ≡ word ∷ words
 ended_some [] words h = absurd (omega arith)
 ended_some (b ∷ word) words h = refl
-
--- a byte of a word
-abbrev pub inked : ℕ → Bool
-inked b = not (blank b)
-
--- what is left of a line past the blanks in front of its first word
-abbrev pub past_blanks : List ℕ → List ℕ
-past_blanks line = drop (length (before inked line)) line
 
 past-words : (line : List ℕ) → words_of line ≡ words_of (past_blanks line)
 unfolding before
@@ -148,11 +145,7 @@ past_some (b ∷ s) h = go (blank b) refl (past_some s) h
 
 module _ (line : List ℕ) {words : List ℕ} (e : words ≡ past_blanks line) where
   pub word-none : length words ≡ 0 → words_of line ≡ []
-  word-none h = past-words line ∙ (ap words_of (sym e ∙ empty words h) ∙ words-none)
-    where
-      empty : (k : List ℕ) → length k ≡ 0 → k ≡ []
-      empty [] h = refl
-      empty (b ∷ k) h = absurd (omega arith)
+  word-none h = past-words line ∙ (ap words_of (sym e) ∙ words-empty words h)
 
   pub word-some : {word rest : List ℕ} → 0 < length words → word ≡ before blank words → rest ≡ drop (length (before blank words)) words → words_of line ≡ word ∷ words_of rest
   word-some {word} {rest} h q r =
@@ -165,3 +158,11 @@ module _ (line : List ℕ) {words : List ℕ} (e : words ≡ past_blanks line) w
     where
       some : 0 < length (before blank words)
       some = rw e (past_some line (rw (← e) h))
+
+  -- the word and what stands behind it are what is left of the line
+  pub word-place : {word rest : List ℕ} → word ≡ before blank words → rest ≡ drop (length (before blank words)) words → word ++ rest ≡ past_blanks line
+  word-place {word} {rest} q r =
+      ap (λ l. l ++ rest) (q ∙ sym (before-take blank words))
+      ∙ (ap (λ l. take (length (before blank words)) words ++ l) r
+      ∙ (take-append-drop (length (before blank words)) words
+      ∙ e))

@@ -1,14 +1,11 @@
 -- What a line says, by its words. Assumes nothing.
-use mathlib.Core.Path.{◌≡◌, sym, ap, ◌∙◌}
-use mathlib.Core.Bool.{Bool, true, false}
+use mathlib.Core.Path.{◌≡◌, ap}
+use mathlib.Core.Bool.{true, false}
 use mathlib.Core.List.{List, [], ◌∷◌}
 use Prim.Native.Nat.{ℕ}
-use lib.Dec.{eqb}
-use lib.Pointwise.{pointwise}
 use Rattle.std.specs.Prelude.{Ok, Err}
 use Rattle.text_parts.specs.Text.{text}
 use Rattle.text_same.specs.Same.{same}
-use Rattle.text_same.proofs.SameLaws.{pointwise-same}
 use Rattle.typed_line.specs.declared.entry.Setting.{Setting}
 use Rattle.typed_line.specs.declared.entry.Setting.TheVariants.{Field, Edge, Grid}
 use Rattle.typed_line.specs.declared.entry.Command.{Command}
@@ -20,10 +17,6 @@ use Rattle.typed_line.specs.Cursors.{only_word}
 use Rattle.typed_line.specs.Entries.{word_number, command_of, on_number, setting_of, shot_of, commanded, entry_of}
 
 -- ---- the first word
--- what `==` says of a word and a literal
-pub told : (w : List ℕ) {k s : List ℕ} {r b : Bool} → s ≡ k → r ≡ pointwise eqb w s → r ≡ b → same w k ≡ b
-told w {k} {s} e q h = sym (pointwise-same w k) ∙ (ap (pointwise eqb w) (sym e) ∙ (sym q ∙ h))
-
 module _ (w : List ℕ) where
   pub is_field : same w (text "field") ≡ true → Ok (Set Field) ≡ command_of w
   unfolding command_of

@@ -1,5 +1,5 @@
 -- How a text is cut: into lines, without their comments, and into words. A text is a list of bytes, ASCII codes.
-use Rattle.std.specs.Prelude.{Bool, cond, ◌||◌, List, [], ◌∷◌, ◌++◌, ℕ, ◌-◌, eqb, take, drop}
+use Rattle.std.specs.Prelude.{Bool, not, cond, ◌||◌, List, [], ◌∷◌, ◌++◌, ℕ, ◌-◌, eqb, length, take, drop}
 
 -- the bytes before the first that passes the test
 unfoldable pub before : (ℕ → Bool) → List ℕ → List ℕ
@@ -17,6 +17,14 @@ hash b = eqb b 35
 -- words are separated by spaces, tabs and carriage returns
 abbrev pub blank : ℕ → Bool
 blank b = eqb b 32 || (eqb b 9 || eqb b 13)
+
+-- a byte of a word
+abbrev pub inked : ℕ → Bool
+inked b = not (blank b)
+
+-- what is left of a line past the blanks in front of its first word
+abbrev pub past_blanks : List ℕ → List ℕ
+past_blanks line = drop (length (before inked line)) line
 
 -- the lines of a text, where `line` is what stands before it in its first line. What follows the last newline is a line too:
 -- it has no words where the text ends with that newline

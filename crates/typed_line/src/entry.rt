@@ -6,6 +6,7 @@ ghost use Rattle.typed_line.specs.Entries.{word_number, command_of, mistake_of, 
 
 use crate::word::{next_word, until};
 use std::fmt;
+use text_same::same_bytes;
 
 // The settings of a list.
 #[derive(Clone, Copy, PartialEq, Eq, Debug)]
@@ -110,13 +111,13 @@ pub fn number_of(word: &[u8]) -> Result<u16, NumberError>
 fn command_of(word: &[u8]) -> Result<Command, Mistake>
     ensures { result ≡ command_of word.now }
 {
-    if word == b"field".as_slice() {
+    if same_bytes(word, b"field") {
         Ok(Command::Set(Setting::Field))
-    } else if word == b"edge".as_slice() {
+    } else if same_bytes(word, b"edge") {
         Ok(Command::Set(Setting::Edge))
-    } else if word == b"grid".as_slice() {
+    } else if same_bytes(word, b"grid") {
         Ok(Command::Set(Setting::Grid))
-    } else if word == b"shot".as_slice() {
+    } else if same_bytes(word, b"shot") {
         Ok(Command::Shoot)
     } else {
         Err(Mistake::UnknownWord)
@@ -180,5 +181,9 @@ pub fn read_line(line: &[u8]) -> Result<Entry, Mistake>
     ensures { result ≡ line_entry line.now }
 {
     let (code, _) = until(line, |b| b == b'#');
+    // A long text may have many empty lines and comments: they are not gone into.
+    if code.is_empty() {
+        return Ok(Entry::Nothing);
+    }
     read_words(code)
 }

@@ -1,6 +1,6 @@
 // Where lines, comments and words end.
-ghost use Rattle.std.specs.Prelude.{Bool, ◌≡◌, ℕ, length, drop};
-ghost use Rattle.typed_line.specs.Words.{before, blank};
+ghost use Rattle.std.specs.Prelude.{Bool, ◌≡◌, ◌++◌, ℕ, length, drop, IfSome};
+ghost use Rattle.typed_line.specs.Words.{before, blank, past_blanks};
 ghost use Rattle.typed_line.specs.Cursors.{NextWord};
 
 fn is_blank(b: u8) -> bool
@@ -19,9 +19,10 @@ pub fn until<F: Fn(u8) -> bool>(s: &[u8], ends: F) -> (&[u8], &[u8])
     s.split_at(end)
 }
 
-// The first word of a line, and what stands behind it; none where the line has only blanks.
+// The first word of a line, and what stands behind it, to the end of the line; none where the line has only blanks.
 pub fn next_word(line: &[u8]) -> Option<(&[u8], &[u8])>
-    ensures { NextWord line.now result }
+    ensures words { NextWord line.now result }
+    ensures place { IfSome result (λ w. w.0.now ++ w.1.now ≡ past_blanks line.now) }
 {
     let (_, words) = until(line, |b| !is_blank(b));
     if words.is_empty() {

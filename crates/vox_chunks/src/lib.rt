@@ -5,6 +5,8 @@
 ghost use Rattle.std.specs.Prelude.{◌≡◌, ◌+◌, ◌*◌, ◌≤◌, length};
 ghost use Rattle.vox_chunks.specs.Chunks.{number_at, stands, after_chunk, missing, overruns, mismatched};
 
+use text_same::same_bytes;
+
 // The 32-bit number at a place.
 pub fn number(bytes: &[u8], at: usize) -> u32
     requires { at + 4 ≤ length bytes.now }
@@ -19,7 +21,7 @@ pub fn is_there(bytes: &[u8], at: usize, name: &[u8]) -> bool
     ensures { result ≡ stands bytes.now at name.now }
 {
     let end = at + 4;
-    &bytes[at..end] == name
+    same_bytes(&bytes[at..end], name)
 }
 
 // Whether a required chunk is missing at a place, for 13.

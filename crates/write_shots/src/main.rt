@@ -5,40 +5,40 @@
 
 use job::Job;
 use output::Program;
-use std::io::Print;
 use std::process::ExitCode;
+use std::rt::Stdout;
 use typed_list::MistakeAt;
 
 // Says the mistake of a text, and ends.
 fn end_mistaken(program: Program, mistake: MistakeAt) -> ExitCode {
-    let _ = println!(program.stderr; "write_shots: {mistake}");
+    program.tell_of(mistake);
     ExitCode::SUCCESS
 }
 
 // Writes the file of a list; 28,679 bytes are the longest file.
-fn write_list(program: Program, job: Job) -> ExitCode {
+fn write_list(stdout: Stdout, program: Program, job: Job) -> ExitCode {
     let mut bytes = [0u8; 28679];
     match shotfile_writer::write(job, &mut bytes) {
-        Ok(n) => program.write_text(&bytes[..n]),
+        Ok(n) => program.write_text(stdout, &bytes[..n]),
         Err(refusal) => program.end_refused(refusal),
     }
 }
 
 // Writes the file of the list that a text says; the coordinates have places for 4,096 shots.
-fn write_text(program: Program, text: &[u8]) -> ExitCode {
+fn write_text(stdout: Stdout, program: Program, text: &[u8]) -> ExitCode {
     let mut coords = [0u16; 12288];
     match typed_list::read_text(text, &mut coords) {
-        Ok(stored) => write_list(program, stored.job(&coords)),
+        Ok(stored) => write_list(stdout, program, stored.job(&coords)),
         Err(mistake) => end_mistaken(program, mistake),
     }
 }
 
 fn main(rt: HostRuntime) -> ExitCode {
-    let program = Program::new(b"write_shots", &rt);
+    let program = Program::new(b"write_shots", rt.stderr());
     let mut text = [0u8; 262144];
     let too_long = b": the text is longer than 262,143 bytes\n";
-    match input::take_whole(&rt, program, &mut text, too_long) {
-        Some(n) => write_text(program, &text[..n]),
+    match input::take_whole(&rt, rt.stdin(), program, &mut text, too_long) {
+        Some(n) => write_text(rt.stdout(), program, &text[..n]),
         None => ExitCode::SUCCESS,
     }
 }

@@ -1,7 +1,7 @@
 -- The run of the grid cell carves its block.
 use mathlib.Core.Path.{◌∙◌}
 use native.Mathlib.Omega.{arith}
-use Rattle.job.specs.Seen.{seen}
+use Rattle.job.specs.Job.{seen}
 use Rattle.grid.proofs.ShotLaws.{width-times}
 use Rattle.grid_runs.proofs.ReadLaws.{holds-starts, holds-run}
 use Rattle.crediting.proofs.FieldLaws.{block-small, cell-credited}

@@ -2,8 +2,7 @@
 use mathlib.Core.Path.{◌≡◌}
 use Prim.Native.Nat.{◌≤◌, ◌-◌}
 use lib.ListN.{replicate}
-use Rattle.job.specs.Job.{shot_count}
-use Rattle.job.specs.Seen.{seen}
+use Rattle.job.specs.Job.{shot_count, seen}
 use Rattle.crediting_carving.specs.Blocks.{added}
 use Rattle.crediting.proofs.FieldLaws.{credits_to}
 use Rattle.crediting.proofs.credit_shots.Given as goal

@@ -1,7 +1,7 @@
 -- All cells go in behind the starting places, and the last starting place makes the index whole.
 use mathlib.Core.Path.{ap, ◌∙◌}
 use native.Mathlib.Omega.{arith}
-use Rattle.job.specs.Seen.{seen}
+use Rattle.job.specs.Job.{seen}
 use Rattle.ground.specs.Numbers.{up_to}
 use Rattle.grid_filling.proofs.IndexLaws.{up_to-part, need-place, build-ready, build-fits, build-last}
 use Rattle.grid_filling.proofs.build.Goals as goal

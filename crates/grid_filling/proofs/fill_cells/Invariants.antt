@@ -1,6 +1,6 @@
 -- The cells of the row so far are in.
 use Rattle.std.proofs.Common.{◌+◌, ◌*◌}
-use Rattle.job.specs.Seen.{seen}
+use Rattle.job.specs.Job.{seen}
 use Rattle.grid.specs.Grid.{run_of}
 use Rattle.grid_filling.specs.Filling.{Grew}
 use Rattle.grid_filling.proofs.fill_cells.Given as goal

@@ -1,6 +1,6 @@
 -- A sweep that stores nothing: its sums are the totals.
 use mathlib.Core.Path.{◌≡◌}
-use Rattle.job.specs.Seen.{seen}
+use Rattle.job.specs.Job.{seen}
 use Rattle.lattice.specs.Listing.{corners}
 use Rattle.lattice_sums.specs.CornerSums.{sums_of, totals_of}
 use Rattle.job.proofs.Conditions.{valid-within}

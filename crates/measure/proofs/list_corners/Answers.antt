@@ -1,6 +1,6 @@
 -- The corners are counted before the buffer is called too short.
 use native.Mathlib.Omega.{arith}
-use Rattle.job.specs.Seen.{seen}
+use Rattle.job.specs.Job.{seen}
 use Rattle.measure_intake.specs.Intake.{solid}
 use Rattle.measure.proofs.AnswerLaws.{totals-corners, short-listing, long-listing}
 use Rattle.measure.proofs.list_corners.Goals as goal

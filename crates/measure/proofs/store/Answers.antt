@@ -1,5 +1,5 @@
 -- A sweep with room for every record.
-use Rattle.job.specs.Seen.{seen}
+use Rattle.job.specs.Job.{seen}
 use Rattle.measure_intake.specs.Intake.{solid}
 use Rattle.measure.proofs.AnswerLaws.{swept-listing}
 use Rattle.measure.proofs.store.Goals as goal

@@ -1,6 +1,6 @@
 -- No plane is counted before the first; over all points the counts are the totals.
 use Rattle.std.proofs.Common.{ℕ, ◌≡◌, ◌∙◌, ◌+◌, arith}
-use Rattle.job.specs.Seen.{seen}
+use Rattle.job.specs.Job.{seen}
 use Rattle.job.proofs.Conditions.{valid-within}
 use Rattle.measure_intake.specs.Intake.{solid}
 use Rattle.measure_cells.specs.Points.{plane_to}

@@ -1,6 +1,6 @@
 -- The planes before x are counted; over all points the counts are the totals.
 use Rattle.std.proofs.Common.{◌≡◌, ◌+◌, ◌≤◌}
-use Rattle.job.specs.Seen.{seen}
+use Rattle.job.specs.Job.{seen}
 use Rattle.measure_intake.specs.Intake.{solid}
 use Rattle.measure_cells.specs.Points.{planes_to}
 use Rattle.measure_shown.proofs.count_shown.Given as goal

@@ -1,5 +1,5 @@
 use native.Mathlib.Omega.{arith}
-use Rattle.job.specs.Seen.{seen}
+use Rattle.job.specs.Job.{seen}
 use Rattle.shotfile_writer.proofs.Writing.{file-most, measured-none, measured-more, measured-all}
 use Rattle.shotfile_writer.proofs.file_length.Goals as goal
 

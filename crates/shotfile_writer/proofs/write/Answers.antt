@@ -2,7 +2,7 @@
 use mathlib.Core.Path.{sym, ◌∙◌}
 use native.Mathlib.Omega.{arith}
 use Rattle.std.proofs.lemmas.Result.{err_from_is_err_and}
-use Rattle.job.specs.Seen.{seen}
+use Rattle.job.specs.Job.{seen}
 use Rattle.shotfile_writer.proofs.Writing.{few-shots, write-refused, write-short, write_done}
 use Rattle.shotfile_writer.proofs.write.Goals as goal
 

@@ -1,5 +1,5 @@
 use Rattle.std.proofs.Common.{◌+◌, arith}
-use Rattle.job.specs.Seen.{seen}
+use Rattle.job.specs.Job.{seen}
 use Rattle.grid.proofs.NeedLaws.{pairs-none, pairs_next, pairs-few, pairs-all}
 use Rattle.grid.proofs.need.pairs.Goals as goal
 

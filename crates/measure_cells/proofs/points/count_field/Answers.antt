@@ -2,7 +2,7 @@
 use mathlib.Core.Path.{◌∙◌}
 use Prim.Native.Nat.{ℕ, ◌+◌}
 use native.Mathlib.Omega.{arith}
-use Rattle.job.specs.Seen.{seen}
+use Rattle.job.specs.Job.{seen}
 use Rattle.job.proofs.Conditions.{valid-within}
 use Rattle.measure_intake.specs.Intake.{solid}
 use Rattle.measure_cells.specs.Points.{plane_to}

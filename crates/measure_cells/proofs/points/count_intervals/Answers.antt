@@ -1,7 +1,7 @@
 use Prim.Native.Nat.{ℕ, ◌*◌, ◌/◌}
 use native.Mathlib.Omega.{arith}
 use Rattle.lattice.specs.Pattern.{around}
-use Rattle.job.specs.Seen.{seen}
+use Rattle.job.specs.Job.{seen}
 use Rattle.measure_intake.specs.Intake.{solid}
 use Rattle.measure_cells.specs.Points.{before_points, before_line}
 use Rattle.measure_cells.proofs.SumLaws.{points-low}

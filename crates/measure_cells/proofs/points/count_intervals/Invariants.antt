@@ -1,7 +1,7 @@
 -- The points of the intervals passed are counted.
 use mathlib.Core.Path.{◌≡◌}
 use Prim.Native.Nat.{◌*◌, ◌/◌}
-use Rattle.job.specs.Seen.{seen}
+use Rattle.job.specs.Job.{seen}
 use Rattle.measure_intake.specs.Intake.{solid}
 use Rattle.measure_tallies.specs.Tallies.{plus}
 use Rattle.measure_cells.specs.Points.{line_to}

@@ -1,6 +1,6 @@
 use Prim.Native.Nat.{ℕ, ◌+◌}
 use native.Mathlib.Omega.{arith}
-use Rattle.job.specs.Seen.{seen}
+use Rattle.job.specs.Job.{seen}
 use Rattle.measure_intake.specs.Intake.{solid}
 use Rattle.measure_cells.specs.Points.{plane_to}
 use Rattle.measure_cells.proofs.SumLaws.{whole-turn, field-low}

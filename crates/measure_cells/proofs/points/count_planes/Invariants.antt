@@ -1,6 +1,6 @@
 -- The planes passed are counted.
 use mathlib.Core.Path.{◌≡◌}
-use Rattle.job.specs.Seen.{seen}
+use Rattle.job.specs.Job.{seen}
 use Rattle.measure_intake.specs.Intake.{solid}
 use Rattle.measure_cells.specs.Points.{planes_to}
 use Rattle.measure_cells.proofs.points.count_planes.Given as goal

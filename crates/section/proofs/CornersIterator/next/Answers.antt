@@ -8,12 +8,11 @@ pub returns-in_err-corner-clause-steps : goal.returns-in_err-corner-clause-steps
 returns-in_err-corner-clause-steps c = let met = sym c.in_err-corner.was ∙ c.record_at.ensures in
     (c.from_residual.ensures ∙ met, refl, step_from-stays _ _ met)
 
-pub overflow_add-self : goal.overflow_add-self
-overflow_add-self c = record { fits = omega (arith, step_from-whole _ _ (sym c.in_ok-corner.was ∙ c.record_at.ensures)) }
-
 pub returns-clause-steps : goal.returns-clause-steps
-returns-clause-steps c = let met = sym c.in_ok-corner.was ∙ c.record_at.ensures in (met, refl, step_from-moves _ _ met)
+returns-clause-steps c = (sym c.in_ok-corner.was ∙ c.record_at.ensures, refl, c.after-self.ensures)
 
 pub returns-clause-goes : goal.returns-clause-goes
-returns-clause-goes c = let whole = step_from-whole _ _ (sym c.in_ok-corner.was ∙ c.record_at.ensures) in
+returns-clause-goes c = let met = sym c.in_ok-corner.was ∙ c.record_at.ensures in
+    let whole = step_from-whole _ _ met in
+    let moved = c.after-self.ensures ∙ sym (step_from-moves _ _ met) in
     record { on = λ _. (tt, tt, omega arith); keeps = tt; rests = λ _. tt }
